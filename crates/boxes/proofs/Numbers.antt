@@ -1,0 +1,78 @@
+-- Laws of big-endian numbers, one over every width: read where they stand, and read back after writing.
+use Prim.Native.Nat.{ℕ, zero, suc, _+_, _*_, _/_, _%_, _^_, _≤_, _<_}
+use mathlib.Core.Path.{_≡_, refl, _∙_}
+use mathlib.Core.List.{List, [], _∷_, _++_, append-assoc}
+use native.Mathlib.Omega.{arith}
+use native.Mathlib.Numerals.{add-one}
+use lib.ListN.{length, getD, take, drop, length-append, List·getD-append}
+use lib.Seq.{getD-append-add, getD-at, getD-take, getD-drop}
+use Rattle.boxes.specs.Bytes.{be, toBe}
+
+-- one byte more
+pub be-more : (s : List ℕ) (p w : ℕ) → be s p (w + 1) ≡ be s p w * 256 + getD s (p + w) 0
+unfolding be
+be-more s p w = rw (add-one w)
+
+pub length-toBe : (w n : ℕ) → length (toBe w n) ≡ w
+unfolding toBe
+length-toBe zero n = refl
+length-toBe (suc w) n = length-append (toBe w (n / 256)) (n % 256 ∷ []) ∙ (let l = length-toBe w (n / 256) in omega arith)
+
+-- equal bytes, equal numbers
+pub be-same : (s t : List ℕ) (p q w : ℕ) → ((i : ℕ) → i < w → getD s (p + i) 0 ≡ getD t (q + i) 0) → be s p w ≡ be t q w
+unfolding be
+be-same s t p q zero h = refl
+be-same s t p q (suc w) h =
+    let a : be s p w ≡ be t q w = be-same s t p q w (λ i k. h i (omega arith)) in
+    let b : getD s (p + w) 0 ≡ getD t (q + w) 0 = h w (omega arith) in
+    omega arith
+
+-- a number in front of what ends the list, in the first of two lists, and in the second
+pub be-take : (s : List ℕ) (e p w : ℕ) → p + w ≤ e → be (take e s) p w ≡ be s p w
+be-take s e p w h = be-same (take e s) s p p w (λ i k. getD-take e s (p + i) 0 (omega arith))
+
+pub be-append : (s t : List ℕ) (p w : ℕ) → p + w ≤ length s → be (s ++ t) p w ≡ be s p w
+be-append s t p w h = be-same (s ++ t) s p p w (λ i k. List·getD-append s t 0 (p + i) (omega arith))
+
+pub be-behind : (s t : List ℕ) (p w : ℕ) → be (s ++ t) (length s + p) w ≡ be t p w
+be-behind s t p w =
+    be-same (s ++ t) t (length s + p) p w
+    (λ i k. let e : length s + p + i ≡ length s + (p + i) = omega arith in rw e (getD-append-add s t (p + i) 0))
+
+pub be-drop : (s : List ℕ) (d p w : ℕ) → be (drop d s) p w ≡ be s (d + p) w
+be-drop s d p w =
+    be-same (drop d s) s p (d + p) w
+    (λ i k. let e : d + p + i ≡ d + (p + i) = omega arith in rw e (getD-drop d s (p + i) 0))
+
+-- written, then read: at the front, and behind other bytes
+pub be-toBe : (w n : ℕ) (t : List ℕ) → n < 256 ^ w → be (toBe w n ++ t) 0 w ≡ n
+unfolding be toBe
+be-toBe zero n t h = omega arith
+be-toBe (suc w) n t h =
+    rw (append-assoc (toBe w (n / 256)) (n % 256 ∷ []) t)
+    (let a : be (toBe w (n / 256) ++ (n % 256 ∷ t)) 0 w ≡ n / 256 = be-toBe w (n / 256) (n % 256 ∷ t) (omega arith) in
+    let b : getD (toBe w (n / 256) ++ (n % 256 ∷ t)) (0 + w) 0 ≡ n % 256 = getD-at (toBe w (n / 256)) (n % 256) t 0 (0 + w) (let l = length-toBe w (n / 256) in omega arith) in
+    omega arith)
+
+pub be-toBe-at : (s : List ℕ) (w n : ℕ) (t : List ℕ) → n < 256 ^ w → be (s ++ (toBe w n ++ t)) (length s) w ≡ n
+be-toBe-at s w n t h =
+    let e : length s ≡ length s + 0 = omega arith in
+    rw e (be-behind s (toBe w n ++ t) 0 w ∙ be-toBe w n t h)
+
+-- w bytes make a number below 256 ^ w
+pub be-below : (s : List ℕ) (p w : ℕ) → ((i : ℕ) → getD s i 0 < 256) → be s p w < 256 ^ w
+unfolding be
+be-below s p zero b = omega arith
+be-below s p (suc w) b = let a = be-below s p w b in omega (arith, b (p + w))
+
+-- below 256 ^ w, one byte more is below 256 ^ (w + 1); up to four bytes that is below 2 ^ 32
+pub below-more : (n w b : ℕ) → n < 256 ^ w → b < 256 → n * 256 + b < 256 ^ (w + 1)
+below-more n w b h k = rw (add-one w) (omega arith)
+
+pub below-four : (n w : ℕ) → w ≤ 4 → n < 256 ^ w → n < 2 ^ 32
+below-four n zero h k = omega arith
+below-four n (suc zero) h k = omega arith
+below-four n (suc (suc zero)) h k = omega arith
+below-four n (suc (suc (suc zero))) h k = omega arith
+below-four n (suc (suc (suc (suc zero)))) h k = omega arith
+below-four n (suc (suc (suc (suc (suc w))))) h k = absurd (omega arith)

@@ -1,0 +1,52 @@
+-- Laws of `sets`, what a run of stores leaves: stores one behind the other, in another order, and from the front on.
+use Prim.Native.Nat.{ℕ, zero, suc, _+_, _-_, _/_, _%_, _≤_, _<_}
+use mathlib.Core.Path.{_≡_, refl, sym, ap, _∙_}
+use mathlib.Core.List.{List, [], _∷_, _++_, append-nil, append-assoc}
+use native.Mathlib.Omega.{arith}
+use lib.ListN.{length, set, take, drop, length-drop, drop-of-length-le}
+use lib.Seq.{sets, sets-eq, set-comm, take-all, take-length, drop-drop}
+use borrow.Rule.Slice.PartMut.{putMid}
+use Rattle.boxes.specs.Bytes.{toBe}
+use Rattle.boxes.proofs.Numbers.{length-toBe}
+
+module _ {A : Type 0} where
+  -- one run behind another is one run
+  pub sets-append : (d : List A) (i : ℕ) (xs ys : List A) → sets (sets d i xs) (i + length xs) ys ≡ sets d i (xs ++ ys)
+  sets-append d i [] ys = ap (λ (j : ℕ). sets d j ys) (omega arith)
+  sets-append d i (x ∷ xs) ys =
+      ap (λ (j : ℕ). sets (sets (set d i x) (suc i) xs) j ys) (omega arith) ∙ sets-append (set d i x) (suc i) xs ys
+
+  -- a store behind a run may come before it
+  pub set-before : (d : List A) (i j : ℕ) (a : A) (xs : List A) → i + length xs ≤ j → sets (set d j a) i xs ≡ set (sets d i xs) j a
+  set-before d i j a [] h = refl
+  set-before d i j a (x ∷ xs) h =
+      ap (λ (l : List A). sets l (suc i) xs) (set-comm d j i a x (λ e. omega arith)) ∙ set-before (set d i x) (suc i) j a xs (omega arith)
+
+  -- a run and a last element, stored last first
+  pub sets-last : (d : List A) (i : ℕ) (xs : List A) (a : A) → sets (set d (i + length xs) a) i xs ≡ sets d i (xs ++ (a ∷ []))
+  sets-last d i xs a = set-before d i (i + length xs) a xs (omega arith) ∙ sets-append d i xs (a ∷ [])
+
+  -- from the front on: the run, and what stood behind it
+  pub sets-front : (d xs : List A) → length xs ≤ length d → sets d 0 xs ≡ xs ++ drop (length xs) d
+  sets-front d xs h =
+      let e : 0 + length xs ≡ length xs = omega arith in
+      sets-eq xs d 0 (omega arith) ∙ ap (λ (k : ℕ). xs ++ drop k d) e
+
+-- what a copy to a part that runs to the end leaves
+pub sets-copied : (d u ys : List ℕ) (i : ℕ) → i + length u ≤ length d
+    → ys ≡ take (length u) u ++ drop (length u) (take (length d - i) (drop i d)) → putMid i (length d - i) d ys ≡ sets d i u
+sets-copied d u ys i h e =
+    let m : length (drop i d) ≡ length d - i = length-drop i d in
+    let t : take (length d - i) (drop i d) ≡ drop i d = take-all (length d - i) (drop i d) (omega arith) in
+    let z : drop (length d - i) (drop i d) ≡ [] = drop-of-length-le (drop i d) {i = length d - i} (omega arith) in
+    rw (e, t, z, take-length u, drop-drop (length u) i d, append-nil) (sym (append-assoc (take i d) u (drop (i + length u) d)) ∙ sym (sets-eq u d i h))
+
+-- the last byte of a number is stored first, then the others in front of it
+pub sets-toBe : (d : List ℕ) (i k n : ℕ) → 0 < k → sets (set d (i + (k - 1)) (n % 256)) i (toBe (k - 1) (n / 256)) ≡ sets d i (toBe k n)
+unfolding toBe
+sets-toBe d i zero n h = absurd (omega arith)
+sets-toBe d i (suc k) n h =
+    let e : suc k - 1 ≡ k = omega arith in
+    rw e
+    (let l : k ≡ length (toBe k (n / 256)) = sym (length-toBe k (n / 256)) in
+    ap (λ (j : ℕ). sets (set d (i + j) (n % 256)) i (toBe k (n / 256))) l ∙ sets-last d i (toBe k (n / 256)) (n % 256))

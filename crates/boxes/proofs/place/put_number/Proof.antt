@@ -1,0 +1,67 @@
+-- `place::put_number` leaves the number's bytes from the place on. The loop's invariant: the `k` bytes that are left, stored too, make the whole.
+use lib.Seq.{sets}
+use Rattle.boxes.specs.Bytes.{toBe}
+use Prim.Native.Nat.{ℕ, _+_, _-_, _%_, _≤_}
+use mathlib.Core.Path.{_≡_, ap, _∙_}
+use native.Mathlib.Omega.{arith}
+use borrow.Author.Needs.{needs}
+use lib.ListN.{length, length-set}
+use Rattle.boxes.proofs.Sets.{sets-toBe}
+use Rattle.boxes.proofs.place.put_number.Statement.{statement}
+use Rattle.boxes.proofs.place.put_number.Tie as tie
+
+abbrev Inv-loop : tie.InvT-loop
+Inv-loop out₀ at width v n₀ k₀ out n k = (k ≤ width) × (length out ≡ length out₀) × (sets out at (toBe k n) ≡ sets out₀ at (toBe width v))
+
+abbrev μ-loop : tie.MeasureT-loop
+μ-loop out₀ at width v n₀ k₀ out n k = k
+
+loop-holds : tie.Need-loop-holds Inv-loop μ-loop
+loop-holds c = search needs
+
+sub-k : tie.Need-sub-k Inv-loop μ-loop
+sub-k c = search needs
+
+cast-out : tie.Need-cast-out Inv-loop μ-loop
+cast-out c = search needs
+
+add-out : tie.Need-add-out Inv-loop μ-loop
+add-out c = search needs
+
+slice-write-out : tie.Need-slice-write-out Inv-loop μ-loop
+slice-write-out c = search needs
+
+loop-less : tie.Need-loop-less Inv-loop μ-loop
+loop-less c = search needs
+
+loop-again : tie.Need-loop-again Inv-loop μ-loop
+loop-again c =
+    let l = c .before .loop in
+    let at = c .before .before .args .at in
+    (omega arith, length-set (l .out) (at + (l .k - 1)) (l .n % 256) ∙ l .inv .1, sets-toBe (l .out) at (l .k) (l .n) (omega arith) ∙ l .inv .2)
+
+same-length : tie.Need-same-length Inv-loop μ-loop
+same-length c = search needs
+
+returns : tie.Need-returns Inv-loop μ-loop
+unfolding toBe
+returns c =
+    let l = c .before .loop in
+    let e : 0 ≡ l .k = omega arith in
+    ap (λ (k : ℕ). sets (l .out) (c .before .before .args .at) (toBe k (l .n))) e ∙ l .inv .2
+
+pub put-number-spec : {M : Type 1} → statement M
+put-number-spec =
+    tie.close
+    (tie.spec
+    Inv-loop
+    μ-loop
+    loop-holds
+    sub-k
+    cast-out
+    add-out
+    slice-write-out
+    loop-less
+    loop-again
+    same-length
+    returns)

@@ -1,0 +1,25 @@
+-- What the answers of this crate say.
+use Prim.Native.Nat.{ℕ}
+use mathlib.Core.List.{List}
+use mathlib.Core.Bool.{_||_}
+use lib.Dec.{ltb, eqb}
+use Rattle.error.specs.Logic.{if_then_else_}
+use Rattle.error.specs.Outcome.{Outcome, accept, refuse, lentInput, andThen}
+use Rattle.error.specs.Parse.{Parsed, value, refused}
+use Rattle.error.specs.Refusals.{numberOf}
+use Rattle.boxes.specs.Bytes.{uint}
+use Rattle.boxes.specs.declared.Field.{Field}
+use Rattle.boxes.specs.declared.Field.the-variants.{Value, Refused}
+
+-- a field's number and the place behind it, or a refusal
+abbrev pub fieldOf : Field → Outcome (ℕ × ℕ)
+fieldOf (Value v p) = accept (v, p)
+fieldOf (Refused e) = refuse (numberOf e)
+
+abbrev pub placed : {A : Type 0} → Parsed A → Outcome (A × ℕ)
+placed (value a p) = accept (a, p)
+placed (refused e) = refuse e
+
+-- `Reader::uint`: 23, 4 a width outside 1 to 4, 1
+unfoldable pub fieldAt : ℕ → List ℕ → ℕ → Outcome (ℕ × ℕ)
+fieldAt w s p = lentInput s (if eqb w 0 || ltb 4 w then refuse 4 else placed (uint w s p))

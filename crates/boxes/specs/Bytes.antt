@@ -1,0 +1,40 @@
+-- Big-endian numbers of whole bytes, read from a place and written.
+use Prim.Native.Nat.{ℕ, zero, suc, _+_, _*_, _/_, _%_}
+use mathlib.Core.List.{List, [], _∷_, _++_}
+use lib.Dec.{leb, ltb, eqb}
+use lib.ListN.{length, getD, take, drop}
+use Rattle.error.specs.Logic.{if_then_else_}
+use Rattle.error.specs.Parse.{Parsed, value, refused, Parser, _>>=_, _>>_, give, here}
+use Rattle.boxes.specs.declared.Span.{Span}
+
+-- the number of the w bytes from place p on, the first the highest
+unfoldable pub be : List ℕ → ℕ → ℕ → ℕ
+be s p zero = 0
+be s p (suc w) = be s p w * 256 + getD s (p + w) 0
+
+-- the w bytes of a number, the highest first
+unfoldable pub toBe : ℕ → ℕ → List ℕ
+toBe zero n = []
+toBe (suc w) n = toBe w (n / 256) ++ (n % 256 ∷ [])
+
+-- a field of w bytes: "A field that runs past the end is 1."
+unfoldable pub uint : ℕ → Parser ℕ
+uint w s p = if leb (p + w) (length s) then value (be s p w) (p + w) else refused 1
+
+-- the next n bytes, as the place where they lie
+unfoldable pub bytes : ℕ → Parser Span
+bytes n s p = if leb (p + n) (length s) then value (record { start = p; len = n }) (p + n) else refused 1
+
+-- a length of w bytes and that many bytes
+unfoldable pub chunk : ℕ → Parser Span
+chunk w = do
+  n ← uint w
+  bytes n
+
+-- the same, written
+unfoldable pub toChunk : ℕ → List ℕ → List ℕ
+toChunk w u = toBe w (length u) ++ u
+
+-- what P reads of the bytes of a span alone, whose places stay those of the whole
+unfoldable pub inside : {A : Type 0} → Span → Parser A → Parser A
+inside a P s p = P (take (a .start + a .len) s) (a .start)

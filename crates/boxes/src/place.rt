@@ -1,0 +1,78 @@
+// For the crates further down: bytes and numbers at a place that is known to be there, read and written.
+use super::Span;
+
+ghost use mathlib.Core.Path.{_≡_};
+ghost use Prim.Native.Nat.{_+_, _≤_, _<_, _^_};
+ghost use lib.ListN.{length, getD, set};
+ghost use lib.Seq.{sets};
+ghost use Rattle.boxes.specs.Bytes.{be, toBe};
+ghost use Rattle.boxes.specs.Parts.{PartOf};
+
+// A byte as a number of its own width.
+pub fn wide(x: u8) -> usize
+    ensures { λ r. ⌜ (r ≡ x) × (r < 256) ⌝ }
+{
+    x as usize
+}
+
+// The byte at a place, 0 past the end.
+pub fn byte(s: &[u8], at: usize) -> u8
+    ensures { λ r. ⌜ r ≡ getD (now (s .entry)) at 0 ⌝ }
+{
+    if at < s.len() { s[at] } else { 0 }
+}
+
+// The number of the `width` bytes from a place on.
+pub fn number(s: &[u8], at: usize, width: usize) -> usize
+    requires { ⌜ (width ≤ 4) × (at + width ≤ length (now s)) ⌝ }
+    ensures { λ r. ⌜ (r ≡ be (now (s .entry)) at width) × (r < 256 ^ width) ⌝ }
+{
+    let mut n: usize = 0;
+    let mut k: usize = 0;
+    while k < width {
+        n = n * 256 + wide(s[at + k]);
+        k += 1;
+    }
+    n
+}
+
+// The part at a span.
+pub fn part(s: &[u8], a: Span) -> &[u8]
+    requires { ⌜ a .start + a .len ≤ length (now s) ⌝ }
+    ensures { λ r. ⌜ PartOf r (s .entry) a ⌝ }
+{
+    let from = a.start;
+    let to = a.start + a.len;
+    &s[from..to]
+}
+
+// Stores a byte; past the end there is nothing to store to.
+pub fn put(out: &mut [u8], at: usize, b: u8)
+    ensures { λ _. ⌜ now (out .exit) ≡ set (now (out .entry)) at b ⌝ }
+{
+    if at < out.len() {
+        out[at] = b;
+    }
+}
+
+// Stores the `width` bytes of a number from a place on.
+pub fn put_number(out: &mut [u8], at: usize, width: usize, v: usize)
+    requires { ⌜ (width ≤ 4) × (at + width ≤ length (now out)) ⌝ }
+    ensures { λ _. ⌜ now (out .exit) ≡ sets (now (out .entry)) at (toBe width v) ⌝ }
+{
+    let mut n = v;
+    let mut k = width;
+    while 0 < k {
+        k -= 1;
+        out[at + k] = (n % 256) as u8;
+        n = n / 256;
+    }
+}
+
+// Copies all of a slice to a place of lent memory.
+pub fn copy(src: &[u8], out: &mut [u8], at: usize)
+    requires { ⌜ at + length (now src) ≤ length (now out) ⌝ }
+    ensures { λ _. ⌜ now (out .exit) ≡ sets (now (out .entry)) at (now (src .entry)) ⌝ }
+{
+    bytes::copy(src, &mut out[at..]);
+}

@@ -1,0 +1,11 @@
+-- What the answers of this crate say.
+use Prim.Native.Nat.{ℕ}
+use Rattle.error.specs.Outcome.{Outcome, accept, refuse}
+use Rattle.error.specs.Refusals.{numberOf}
+use Rattle.compact.specs.Compact.{CompactParsed}
+use Rattle.compact.specs.declared.CompactRead.{CompactRead}
+use Rattle.compact.specs.declared.CompactRead.the-variants.{Read, Refused}
+
+abbrev pub compactOf : CompactRead → Outcome CompactParsed
+compactOf (Read c n len) = accept (record { config = c; unitCount = n; listLength = len })
+compactOf (Refused e) = refuse (numberOf e)

@@ -1,0 +1,6 @@
+pub mod Logic
+pub mod Outcome
+pub mod Refusals
+pub mod Parse
+pub mod Steps
+pub mod Answers

@@ -1,0 +1,113 @@
+-- The full record read (ISO/IEC 14496-15 11.2.4.2, VvcDecoderConfigurationRecord and VvcPTLRecord). Reserved bits are ignored.
+use Prim.Native.Nat.{ℕ, _+_, _-_, _*_, _/_, _%_}
+use mathlib.Core.Bool.{Bool, true, false, _||_}
+use mathlib.Core.List.{List, map}
+use lib.Dec.{ltb, eqb}
+use lib.ListN.{length, getD}
+use Rattle.error.specs.Logic.{if_then_else_}
+use Rattle.error.specs.Outcome.{Outcome, accept, refuse, lentInput}
+use Rattle.error.specs.Parse.{Parsed, value, refused, bind, Parser, _>>=_, _>>_, give, refuseIf, times}
+use Rattle.boxes.specs.Bytes.{uint, bytes, chunk}
+use Rattle.boxes.specs.Parts.{held}
+use Rattle.boxes.specs.declared.Span.{Span}
+use Rattle.rbsp.specs.Bits.{isSet}
+use Rattle.unit_list.specs.UnitList.{Array, encode, heldArrays}
+use Rattle.params.specs.Ptl.{padded, presentFlags, levels, withoutFlags, zeroPtl}
+use Rattle.params.specs.declared.VvcPtlRecord.{VvcPtlRecord}
+use Rattle.full.specs.declared.VvcConfig.{VvcConfig}
+
+-- the next n bytes themselves
+unfoldable pub octets : ℕ → Parser (List ℕ)
+octets n s p = bind (bytes n s p) (λ a q. value (held s a) q)
+
+-- VvcPTLRecord( num_sublayers )
+unfoldable pub vvcPtlRecord : ℕ → Parser VvcPtlRecord
+vvcPtlRecord sublayers = do
+  a ← uint 1                                     -- reserved 2, num_bytes_constraint_info 6
+  refuseIf (eqb (a % 64) 0) 2
+  b ← uint 1                                     -- general_profile_idc 7, general_tier_flag 1
+  level ← uint 1                                 -- general_level_idc
+  info ← octets (a % 64)                         -- ptl_frame_only_constraint_flag 1, ptl_multilayer_enabled_flag 1, general_constraint_info
+  flags ← if ltb 1 sublayers then uint 1 else give 0   -- ptl_sublayer_level_present_flag, ptl_reserved_zero_bit
+  idcs ← levels (uint 1) (sublayers - 1) flags   -- sublayer_level_idc
+  n ← uint 1                                     -- ptl_num_sub_profiles
+  subs ← times n (uint 4)                        -- general_sub_profile_idc
+  give (record {
+    «general_profile_idc» = b / 2;
+    «general_tier_flag» = isSet (b % 2);
+    «general_level_idc» = level;
+    «ptl_frame_only_constraint_flag» = isSet (getD info 0 0 / 128);
+    «ptl_multilayer_enabled_flag» = isSet (getD info 0 0 / 64 % 2);
+    «num_bytes_constraint_info» = a % 64;
+    «general_constraint_info» = padded 63 0 (withoutFlags info);
+    «num_sublayer_levels» = sublayers - 1;
+    «sublayer_level_present_flag» = padded 7 false (presentFlags (sublayers - 1) flags);
+    «sublayer_level_idc» = padded 7 0 idcs;
+    «num_sub_profiles» = n;
+    «general_sub_profile_idc» = padded 255 0 subs })
+
+-- a head without the PTL flag: "the head fields under it are 0"
+abbrev pub plainHead : ℕ → VvcConfig
+plainHead size = record {
+    «length_size» = size; «ptl_present_flag» = false; «ols_idx» = 0; «num_sublayers» = 0; «constant_frame_rate» = 0;
+    «chroma_format_idc» = 0; «bit_depth_minus8» = 0; «native_ptl» = zeroPtl;
+    «max_picture_width» = 0; «max_picture_height» = 0; «avg_frame_rate» = 0 }
+
+-- the head on a refusal
+abbrev pub zeroHead : VvcConfig
+zeroHead = plainHead 0
+
+-- what ptl_present_flag announces
+unfoldable pub headWithPtl : ℕ → Parser VvcConfig
+headWithPtl size = do
+  w ← uint 2                                     -- ols_idx 9, num_sublayers 3, constant_frame_rate 2, chroma_format_idc 2
+  d ← uint 1                                     -- bit_depth_minus8 3, reserved 5
+  ptl ← vvcPtlRecord (w / 16 % 8)                -- native_ptl
+  width ← uint 2                                 -- max_picture_width
+  height ← uint 2                                -- max_picture_height
+  rate ← uint 2                                  -- avg_frame_rate
+  give (record {
+    «length_size» = size; «ptl_present_flag» = true; «ols_idx» = w / 128; «num_sublayers» = w / 16 % 8;
+    «constant_frame_rate» = w / 4 % 4; «chroma_format_idc» = w % 4; «bit_depth_minus8» = d / 32; «native_ptl» = ptl;
+    «max_picture_width» = width; «max_picture_height» = height; «avg_frame_rate» = rate })
+
+unfoldable pub vvcHead : Parser VvcConfig
+vvcHead = do
+  b ← uint 1                                     -- reserved 5, LengthSizeMinusOne 2, ptl_present_flag 1
+  refuseIf (eqb (b / 2 % 4) 2) 3                 -- size 3
+  if isSet (b % 2) then headWithPtl (b / 2 % 4 + 1) else give (plainHead (b / 2 % 4 + 1))
+
+-- OPI and DCI arrays have no count: they hold one unit
+abbrev pub holdsOne : ℕ → Bool
+holdsOne t = eqb t 12 || eqb t 13
+
+-- one array of the record
+unfoldable pub recordArray : Parser (Array Span)
+recordArray = do
+  b ← uint 1                                     -- array_completeness 1, reserved 2, NAL_unit_type 5
+  n ← if holdsOne (b % 32) then give 1 else uint 2   -- num_nalus
+  units ← times n (chunk 2)                      -- nal_unit_length, nal_unit
+  give (record { complete = b / 128; unitType = b % 32; units = units })
+
+unfoldable pub vvcRecord : Parser (VvcConfig × List (Array Span))
+vvcRecord = do
+  head ← vvcHead
+  n ← uint 1                                     -- num_of_arrays
+  arrays ← times n recordArray
+  give (head, arrays)
+
+-- what reading hands back
+pub record FullParsed : Type 0 where
+  pub head : VvcConfig
+  pub consumed : ℕ
+  pub listLength : ℕ
+
+-- reading s gave r: what is handed back, and the unit list
+abbrev pub fullParsed : List ℕ → Parsed (VvcConfig × List (Array Span)) → Outcome (FullParsed × List ℕ)
+fullParsed s (refused e) = refuse e
+fullParsed s (value r p) =
+    accept (record { head = r .0; consumed = p; listLength = length (encode (heldArrays s (r .1))) }, encode (heldArrays s (r .1)))
+
+-- `VvcConfig::parse`: 23, 3, then in byte order 1 and 2; with the output 20
+unfoldable pub parseFull : List ℕ → Outcome (FullParsed × List ℕ)
+parseFull s = lentInput s (fullParsed s (vvcRecord s 0))

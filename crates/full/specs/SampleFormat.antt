@@ -1,0 +1,29 @@
+-- The sample format that a record announces.
+use Prim.Native.Nat.{ℕ, _+_}
+use mathlib.Core.List.{List, [], _∷_}
+use lib.Dec.{ltb}
+use Rattle.error.specs.Logic.{if_then_else_}
+use Rattle.error.specs.Outcome.{Outcome, accept, refuse, andThen}
+use Rattle.boxes.specs.Parts.{held}
+use Rattle.boxes.specs.declared.Span.{Span}
+use Rattle.unit_list.specs.UnitList.{Array, decode, unitsOfType}
+use Rattle.params.specs.Heads.{parseSps}
+use Rattle.full.specs.declared.VvcConfig.{VvcConfig}
+
+-- chroma format and bit depth
+pub record Format : Type 0 where
+  pub chroma : ℕ
+  pub depth : ℕ
+
+-- of the first unit in an array of type 15: 17 where there is none, then the SPS's refusals
+unfoldable pub spsFormat : List ℕ → List Span → Outcome Format
+spsFormat list [] = refuse 17
+spsFormat list (a ∷ r) = andThen (parseSps (held list a)) (λ h. accept (record { chroma = h .«chroma_format_idc»; depth = h .«bit_depth» }))
+
+-- `sample_format`: 23, 21; "PTL flag set, only 22 for depth minus 8 above 247", which a byte cannot hold with 8 more
+unfoldable pub sampleFormat : VvcConfig → List ℕ → Outcome Format
+sampleFormat h list =
+    andThen (decode list) (λ xs.
+    if h .«ptl_present_flag»
+    then (if ltb 247 (h .«bit_depth_minus8») then refuse 22 else accept (record { chroma = h .«chroma_format_idc»; depth = h .«bit_depth_minus8» + 8 }))
+    else spsFormat list (unitsOfType 15 xs))

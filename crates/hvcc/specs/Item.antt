@@ -1,0 +1,29 @@
+-- Items of length-prefixed units (ISO/IEC 14496-15 4.3.3, the sample format).
+use Prim.Native.Nat.{ℕ}
+use mathlib.Core.Bool.{Bool, _||_}
+use mathlib.Core.List.{List}
+use lib.Dec.{ltb, eqb}
+use Rattle.error.specs.Logic.{if_then_else_}
+use Rattle.error.specs.Outcome.{Outcome, refuse, lentInput}
+use Rattle.error.specs.Parse.{Parser, _>>=_, _>>_, refuseIf, many, outcome}
+use Rattle.boxes.specs.Bytes.{uint, bytes}
+use Rattle.boxes.specs.declared.Span.{Span}
+
+-- a prefix size outside 1 to 4
+abbrev pub outside : ℕ → Bool
+outside size = eqb size 0 || ltb 4 size
+
+-- NALUnitLength and NALUnit: "in byte order 1 and 5 (zero length)"
+unfoldable pub itemUnit : ℕ → Parser Span
+itemUnit size = do
+  n ← uint size
+  refuseIf (eqb n 0) 5
+  bytes n
+
+-- the units of an item
+unfoldable pub itemUnits : ℕ → List ℕ → Outcome (List Span)
+itemUnits size item = if outside size then refuse 4 else outcome (many (itemUnit size) item 0)
+
+-- `split_length_prefixed`: 23, 4, then in byte order 1 and 5
+unfoldable pub splitItem : ℕ → List ℕ → Outcome (List Span)
+splitItem size item = lentInput item (itemUnits size item)

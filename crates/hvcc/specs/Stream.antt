@@ -1,0 +1,50 @@
+-- Annex B streams: units between start codes (H.266 annex B), trailing zeros cut, empty units omitted.
+use Prim.Native.Nat.{ℕ, zero, suc, _+_, _-_}
+use mathlib.Core.List.{List, [], _∷_, _++_}
+use lib.Dec.{eqb}
+use lib.ListN.{length, take, drop}
+use Rattle.error.specs.Logic.{if_then_else_}
+use Rattle.error.specs.Outcome.{Outcome, accept, lentInput}
+use Rattle.error.specs.Parse.{Parsed, value, refused, Parser, many}
+use Rattle.boxes.specs.declared.Span.{Span}
+use Rattle.nal.specs.StartCode.{startCodeFrom}
+
+-- x in front of what is left of the bytes behind it, unless both are nothing but zeros
+unfoldable pub trimOnto : ℕ → List ℕ → List ℕ
+trimOnto zero [] = []
+trimOnto (suc x) [] = suc x ∷ []
+trimOnto x (y ∷ r) = x ∷ y ∷ r
+
+-- without trailing zeros
+unfoldable pub trim : List ℕ → List ℕ
+trim [] = []
+trim (x ∷ r) = trimOnto x (trim r)
+
+-- from a start code at p: what follows it up to the next one, or to the end, without trailing zeros
+unfoldable pub segment : Parser Span
+segment s p =
+    let next = startCodeFrom s (p + 3) in
+    value (record { start = p + 3; len = length (trim (take (next - (p + 3)) (drop (p + 3) s))) }) next
+
+-- "empty ones omitted"
+unfoldable pub nonEmpty : List Span → List Span
+nonEmpty [] = []
+nonEmpty (a ∷ xs) = if eqb (a .len) 0 then nonEmpty xs else a ∷ nonEmpty xs
+
+-- what was read; a walk over segments is never refused
+abbrev pub allRead : Parsed (List Span) → List Span
+allRead (value xs p) = xs
+allRead (refused e) = []
+
+-- the units whose start codes stand at or after a place
+unfoldable pub unitsFrom : List ℕ → ℕ → List Span
+unitsFrom s p = nonEmpty (allRead (many segment s (startCodeFrom s p)))
+
+-- `split_annex_b`: 23 alone
+unfoldable pub splitStream : List ℕ → Outcome (List Span)
+splitStream s = lentInput s (accept (unitsFrom s 0))
+
+-- units behind start codes, one after another
+unfoldable pub annexB : List ℕ → List (List ℕ) → List ℕ
+annexB startCode [] = []
+annexB startCode (u ∷ us) = startCode ++ (u ++ annexB startCode us)

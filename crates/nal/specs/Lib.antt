@@ -1,0 +1,4 @@
+pub mod Header
+pub mod Kinds
+pub mod StartCode
+pub mod Answers

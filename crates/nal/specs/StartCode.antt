@@ -1,0 +1,30 @@
+-- Start codes 00 00 01 (H.266 annex B), and the unit check.
+use Prim.Native.Nat.{ℕ, zero, suc, _+_}
+use mathlib.Core.Bool.{Bool, true, false, not, _&&_}
+use mathlib.Core.List.{List, [], _∷_}
+use lib.Dec.{eqb, ltb}
+use lib.ListN.{length, drop}
+use Rattle.error.specs.Logic.{if_then_else_}
+
+unfoldable pub isStartCode : ℕ → ℕ → ℕ → Bool
+isStartCode x y z = eqb z 1 && (eqb y 0 && eqb x 0)
+
+-- how many bytes stand before the first start code; all of them where there is none
+unfoldable pub scan : List ℕ → ℕ
+scan [] = 0
+scan (x ∷ []) = 1
+scan (x ∷ y ∷ []) = 2
+scan (x ∷ y ∷ z ∷ r) = if isStartCode x y z then 0 else suc (scan (y ∷ z ∷ r))
+
+-- "The scan gives the first 00 00 01 at or after a place"; the length where there is none
+abbrev pub startCodeFrom : List ℕ → ℕ → ℕ
+startCodeFrom s p = p + scan (drop p s)
+
+unfoldable pub endsInZero : List ℕ → Bool
+endsInZero [] = false
+endsInZero (x ∷ []) = eqb x 0
+endsInZero (x ∷ y ∷ r) = endsInZero (y ∷ r)
+
+-- the unit check: "yes exactly if the unit is non-empty, lacks 00 00 01 and doesn't end in 00"
+unfoldable pub unitChecked : List ℕ → Bool
+unitChecked u = ltb 0 (length u) && (eqb (scan u) (length u) && not (endsInZero u))

@@ -1,0 +1,1 @@
+// For the crates further down: the scan for start codes.

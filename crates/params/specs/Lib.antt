@@ -1,0 +1,4 @@
+pub mod Ptl
+pub mod Heads
+pub mod Cropped
+pub mod Answers

@@ -1,0 +1,18 @@
+-- What the answers of this crate say.
+use Prim.Native.Nat.{ℕ}
+use Rattle.error.specs.Parse.{Parsed, value, refused}
+use Rattle.error.specs.Refusals.{numberOf}
+use Rattle.error.specs.declared.Refusal.{Refusal}
+use Rattle.error.specs.declared.Refusal.the-variants.{BitsRunOut}
+use Rattle.rbsp.specs.declared.BitsRead.{BitsRead}
+use Rattle.rbsp.specs.declared.BitsRead.the-variants.{Value, Refused}
+
+-- a number of bits and the bit position behind it, or a refusal
+abbrev pub parsed : BitsRead → Parsed ℕ
+parsed (Value v q) = value v (q .0)
+parsed (Refused e) = refused (numberOf e)
+
+-- the refusal of a refused read; a value has none, and some refusal stands for that
+abbrev pub refusalOf : BitsRead → Refusal
+refusalOf (Value v q) = BitsRunOut
+refusalOf (Refused e) = e

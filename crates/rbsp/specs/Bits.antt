@@ -1,0 +1,47 @@
+-- Bits of a list of bytes, the highest of each byte first; a place is a count of bits (H.266 7.2, read_bits, u(n) and ue(v) of 9.2).
+use mathlib.Core.Bool.{Bool}
+use mathlib.Core.List.{List}
+use Prim.Native.Nat.{ℕ, zero, suc, _+_, _-_, _*_, _/_, _%_, _^_}
+use lib.Dec.{leb, eqb}
+use lib.ListN.{length, getD}
+use Rattle.error.specs.Logic.{if_then_else_}
+use Rattle.error.specs.Parse.{Parsed, value, refused, bind, Parser, _>>=_, _>>_, give, refusing}
+
+-- bit p of the bytes
+abbrev pub bitAt : List ℕ → ℕ → ℕ
+bitAt s p = getD s (p / 8) 0 / 2 ^ (7 - p % 8) % 2
+
+-- the number of the n bits from p on
+unfoldable pub bitsAt : List ℕ → ℕ → ℕ → ℕ
+bitsAt s p zero = 0
+bitsAt s p (suc n) = bitsAt s p n * 2 + bitAt s (p + n)
+
+-- u(n): "Running out is 11."
+unfoldable pub u : ℕ → Parser ℕ
+u n s p = if leb (p + n) (8 * length s) then value (bitsAt s p n) (p + n) else refused 11
+
+-- a flag, u(1)
+abbrev pub isSet : ℕ → Bool
+isSet b = eqb b 1
+
+-- n bits passed over
+unfoldable pub skip : ℕ → Parser (Unit {0})
+skip n s p = if leb (p + n) (8 * length s) then value tt (p + n) else refused 11
+
+-- on to the next whole byte
+unfoldable pub align : Parser (Unit {0})
+align s p = value tt ((p + 7) / 8 * 8)
+
+-- the zeros before the next 1, which is passed too; z were counted before, and f more are one too many
+unfoldable pub zerosBeforeOne : ℕ → ℕ → Parser ℕ
+zerosBeforeOne z zero = refusing 12
+zerosBeforeOne z (suc f) = do
+  b ← u 1
+  if isSet b then give z else zerosBeforeOne (z + 1) f
+
+-- ue(v): "z zeros, a 1, z bits v, value 2^z - 1 + v; the 32nd zero is 12"
+unfoldable pub ue : Parser ℕ
+ue = do
+  z ← zerosBeforeOne 0 32
+  v ← u z
+  give (2 ^ z - 1 + v)

@@ -1,0 +1,4 @@
+pub mod Rbsp
+pub mod Front
+pub mod Bits
+pub mod Answers

@@ -1,0 +1,2 @@
+pub mod UnitList
+pub mod Answers

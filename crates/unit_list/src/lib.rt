@@ -1,0 +1,1 @@
+// The unit list: the units of a record, grouped into arrays.

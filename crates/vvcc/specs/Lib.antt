@@ -1,0 +1,3 @@
+pub mod Expand
+pub mod AccessUnit
+pub mod Answers

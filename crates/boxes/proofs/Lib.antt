@@ -2,3 +2,5 @@ pub mod Numbers
 pub mod Sets
 pub mod Many
 pub mod Fields
+pub mod Walk
+pub mod Lent

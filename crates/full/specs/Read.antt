@@ -1,50 +1,19 @@
--- The full record read (ISO/IEC 14496-15 11.2.4.2, VvcDecoderConfigurationRecord and VvcPTLRecord). Reserved bits are ignored.
+-- The full record read (ISO/IEC 14496-15 11.2.4.2, VvcDecoderConfigurationRecord). Reserved bits are ignored.
 use Prim.Native.Nat.{ℕ, _+_, _-_, _*_, _/_, _%_}
 use mathlib.Core.Bool.{Bool, true, false, _||_}
 use mathlib.Core.List.{List, map}
-use lib.Dec.{ltb, eqb}
-use lib.ListN.{length, getD}
+use lib.Dec.{eqb}
+use lib.ListN.{length}
 use Rattle.error.specs.Logic.{if_then_else_}
 use Rattle.error.specs.Outcome.{Outcome, accept, refuse, lentInput}
-use Rattle.error.specs.Parse.{Parsed, value, refused, bind, Parser, _>>=_, _>>_, give, refuseIf, times}
-use Rattle.boxes.specs.Bytes.{uint, bytes, chunk}
-use Rattle.boxes.specs.Parts.{held}
+use Rattle.error.specs.Parse.{Parsed, value, refused, Parser, _>>=_, _>>_, give, refuseIf, times}
+use Rattle.boxes.specs.Bytes.{uint, chunk}
 use Rattle.boxes.specs.declared.Span.{Span}
 use Rattle.rbsp.specs.Bits.{isSet}
 use Rattle.unit_list.specs.UnitList.{Array, encode, heldArrays}
-use Rattle.params.specs.Ptl.{padded, presentFlags, levels, withoutFlags, zeroPtl}
-use Rattle.params.specs.declared.VvcPtlRecord.{VvcPtlRecord}
+use Rattle.ptl.specs.Ptl.{zeroPtl}
+use Rattle.ptl_record.specs.Read.{vvcPtlRecord}
 use Rattle.full.specs.declared.VvcConfig.{VvcConfig}
-
--- the next n bytes themselves
-unfoldable pub octets : ℕ → Parser (List ℕ)
-octets n s p = bind (bytes n s p) (λ a q. value (held s a) q)
-
--- VvcPTLRecord( num_sublayers )
-unfoldable pub vvcPtlRecord : ℕ → Parser VvcPtlRecord
-vvcPtlRecord sublayers = do
-  a ← uint 1                                     -- reserved 2, num_bytes_constraint_info 6
-  refuseIf (eqb (a % 64) 0) 2
-  b ← uint 1                                     -- general_profile_idc 7, general_tier_flag 1
-  level ← uint 1                                 -- general_level_idc
-  info ← octets (a % 64)                         -- ptl_frame_only_constraint_flag 1, ptl_multilayer_enabled_flag 1, general_constraint_info
-  flags ← if ltb 1 sublayers then uint 1 else give 0   -- ptl_sublayer_level_present_flag, ptl_reserved_zero_bit
-  idcs ← levels (uint 1) (sublayers - 1) flags   -- sublayer_level_idc
-  n ← uint 1                                     -- ptl_num_sub_profiles
-  subs ← times n (uint 4)                        -- general_sub_profile_idc
-  give (record {
-    «general_profile_idc» = b / 2;
-    «general_tier_flag» = isSet (b % 2);
-    «general_level_idc» = level;
-    «ptl_frame_only_constraint_flag» = isSet (getD info 0 0 / 128);
-    «ptl_multilayer_enabled_flag» = isSet (getD info 0 0 / 64 % 2);
-    «num_bytes_constraint_info» = a % 64;
-    «general_constraint_info» = padded 63 0 (withoutFlags info);
-    «num_sublayer_levels» = sublayers - 1;
-    «sublayer_level_present_flag» = padded 7 false (presentFlags (sublayers - 1) flags);
-    «sublayer_level_idc» = padded 7 0 idcs;
-    «num_sub_profiles» = n;
-    «general_sub_profile_idc» = padded 255 0 subs })
 
 -- a head without the PTL flag: "the head fields under it are 0"
 abbrev pub plainHead : ℕ → VvcConfig

@@ -1,6 +1,6 @@
 // The full record: read, written, and the sample format it announces.
 use error::Refusal;
-use params::VvcPtlRecord;
+use ptl::VvcPtlRecord;
 
 // VvcDecoderConfigurationRecord of ISO/IEC 14496-15 11.2.4 without its arrays, which stand in a unit list beside it.
 // Without the PTL flag the fields under it are 0.

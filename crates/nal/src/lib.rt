@@ -5,10 +5,20 @@ pub mod start_code;
 use error::Refusal;
 
 ghost use mathlib.Core.Path.{_≡_};
-ghost use mathlib.Core.List.{_∷_, []};
 ghost use Rattle.nal.specs.Header.{layerId, unitType, temporalIdPlus1, nalHeader};
 ghost use Rattle.nal.specs.Kinds.{unitKind, isPictureData, isRecordKind};
 ghost use Rattle.nal.specs.Answers.{headerOf, headerPart, checkOf, checked};
+
+// The unit types that are named in this build, after the original.
+pub const NAL_IDR_N_LP: u8 = 8;
+pub const NAL_OPI: u8 = 12;
+pub const NAL_DCI: u8 = 13;
+pub const NAL_VPS: u8 = 14;
+pub const NAL_SPS: u8 = 15;
+pub const NAL_PPS: u8 = 16;
+pub const NAL_PREFIX_APS: u8 = 17;
+pub const NAL_AUD: u8 = 20;
+pub const NAL_PREFIX_SEI: u8 = 23;
 
 // A part of a unit's header; the original's `Option`.
 pub enum HeaderField {
@@ -36,4 +46,112 @@ pub enum UnitKind {
     PrefixSei,
     Aud,
     Other,
+}
+
+// The type of a unit: bits 7 to 3 of byte 1. Refusal: 23.
+pub fn nal_unit_type(nal: &[u8]) -> HeaderField
+    ensures { λ r. ⌜ headerOf r ≡ headerPart unitType (now (nal .entry)) ⌝ }
+{
+    if 0x4000_0000 < nal.len() {
+        return HeaderField::Refused(Refusal::InputTooLong);
+    }
+    if nal.len() < 2 {
+        return HeaderField::Absent;
+    }
+    HeaderField::Present(nal[1] / 8)
+}
+
+// The layer id of a unit: the low 6 bits of byte 0. Refusal: 23.
+pub fn nal_layer_id(nal: &[u8]) -> HeaderField
+    ensures { λ r. ⌜ headerOf r ≡ headerPart layerId (now (nal .entry)) ⌝ }
+{
+    if 0x4000_0000 < nal.len() {
+        return HeaderField::Refused(Refusal::InputTooLong);
+    }
+    if nal.len() < 1 {
+        return HeaderField::Absent;
+    }
+    HeaderField::Present(nal[0] % 64)
+}
+
+// The temporal id plus 1 of a unit: the low 3 bits of byte 1. Refusal: 23.
+pub fn nal_temporal_id_plus1(nal: &[u8]) -> HeaderField
+    ensures { λ r. ⌜ headerOf r ≡ headerPart temporalIdPlus1 (now (nal .entry)) ⌝ }
+{
+    if 0x4000_0000 < nal.len() {
+        return HeaderField::Refused(Refusal::InputTooLong);
+    }
+    if nal.len() < 2 {
+        return HeaderField::Absent;
+    }
+    HeaderField::Present(nal[1] % 8)
+}
+
+// The two bytes of a unit's header, each part masked to its width.
+pub fn nal_header(nal_unit_type: u8, layer_id: u8, temporal_id_plus1: u8) -> [u8; 2]
+    ensures { λ r. ⌜ r ≡ nalHeader «nal_unit_type» «layer_id» «temporal_id_plus1» ⌝ }
+{
+    let first = layer_id % 64;
+    let second = nal_unit_type % 32 * 8 + temporal_id_plus1 % 8;
+    [first, second]
+}
+
+// What a unit type stands for.
+pub fn unit_kind(nal_unit_type: u8) -> UnitKind
+    ensures { λ r. ⌜ r ≡ unitKind «nal_unit_type» ⌝ }
+{
+    match nal_unit_type {
+        0..=11 => UnitKind::PictureData,
+        NAL_OPI => UnitKind::Opi,
+        NAL_DCI => UnitKind::Dci,
+        NAL_VPS => UnitKind::Vps,
+        NAL_SPS => UnitKind::Sps,
+        NAL_PPS => UnitKind::Pps,
+        NAL_PREFIX_APS => UnitKind::PrefixAps,
+        NAL_PREFIX_SEI => UnitKind::PrefixSei,
+        NAL_AUD => UnitKind::Aud,
+        _ => UnitKind::Other,
+    }
+}
+
+// Whether a unit of this type is picture data.
+pub fn is_vcl(nal_unit_type: u8) -> bool
+    ensures { λ r. ⌜ r ≡ isPictureData (unitKind «nal_unit_type») ⌝ }
+{
+    let kind = unit_kind(nal_unit_type);
+    match kind {
+        UnitKind::PictureData => true,
+        _ => false,
+    }
+}
+
+// Whether a unit of this type may stand in a record.
+pub fn is_record_nal_type(nal_unit_type: u8) -> bool
+    ensures { λ r. ⌜ r ≡ isRecordKind (unitKind «nal_unit_type») ⌝ }
+{
+    let kind = unit_kind(nal_unit_type);
+    match kind {
+        UnitKind::PictureData | UnitKind::Aud | UnitKind::Other => false,
+        _ => true,
+    }
+}
+
+// Whether a unit is non-empty, lacks 00 00 01 and does not end in 00. Refusal: 23.
+pub fn check_unit(unit: &[u8]) -> UnitCheck
+    ensures { λ r. ⌜ checkOf r ≡ checked (now (unit .entry)) ⌝ }
+{
+    if 0x4000_0000 < unit.len() {
+        return UnitCheck::Refused(Refusal::InputTooLong);
+    }
+    if unit.len() == 0 {
+        return UnitCheck::No;
+    }
+    let code = start_code::start_code(unit, 0);
+    if code < unit.len() {
+        return UnitCheck::No;
+    }
+    if start_code::ends_in_zero(unit) {
+        return UnitCheck::No;
+    }
+    UnitCheck::Yes
 }

@@ -4,9 +4,9 @@ use mathlib.Core.List.{List}
 use mathlib.Core.Option.{Option, none, some}
 use Rattle.error.specs.Outcome.{Outcome, accept, refuse, lentInput, handsBack}
 use Rattle.error.specs.Refusals.{numberOf}
-use Rattle.params.specs.Ptl.{zeroPtl}
+use Rattle.ptl.specs.Ptl.{zeroPtl}
 use Rattle.params.specs.Heads.{parseSps, vpsFirstPtl, opiOlsIdx, zeroSps}
-use Rattle.params.specs.declared.VvcPtlRecord.{VvcPtlRecord}
+use Rattle.ptl.specs.declared.VvcPtlRecord.{VvcPtlRecord}
 use Rattle.params.specs.declared.SpsHead.{SpsHead}
 use Rattle.params.specs.declared.ParamsAnswer.{ParamsAnswer}
 use Rattle.params.specs.declared.ParamsAnswer.the-variants as A

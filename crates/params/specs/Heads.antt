@@ -11,8 +11,8 @@ use Rattle.error.specs.Parse.{Parsed, value, refused, Parser, _>>=_, _>>_, give
 use Rattle.nal.specs.Header.{typeOr31}
 use Rattle.rbsp.specs.Rbsp.{rbsp}
 use Rattle.rbsp.specs.Bits.{u, isSet, align, ue}
-use Rattle.params.specs.Ptl.{profileTierLevel, zeroPtl}
-use Rattle.params.specs.declared.VvcPtlRecord.{VvcPtlRecord}
+use Rattle.ptl.specs.Ptl.{profileTierLevel, zeroPtl}
+use Rattle.ptl.specs.declared.VvcPtlRecord.{VvcPtlRecord}
 use Rattle.params.specs.declared.SpsHead.{SpsHead}
 
 -- sps_conf_win_left_offset, right, top, bottom

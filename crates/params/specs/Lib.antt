@@ -1,4 +1,3 @@
-pub mod Ptl
 pub mod Heads
 pub mod Cropped
 pub mod Answers

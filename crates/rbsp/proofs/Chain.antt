@@ -1,6 +1,6 @@
 -- Reads one after the other: what an answer of a read says of the definition's chain.
-use mathlib.Core.Path.{_≡_, refl, ap, sym, _∙_}
-use mathlib.Core.List.{List}
+use mathlib.Core.Path.{_≡_, ap, sym, _∙_}
+use mathlib.Core.List.{List, []}
 use Prim.Native.Nat.{ℕ}
 use native.Mathlib.Omega.{arith}
 use Rattle.error.specs.Parse.{Parsed, value, refused, bind}
@@ -11,7 +11,7 @@ use Rattle.rbsp.specs.Answers.{parsed, refusalOf}
 use Rattle.rbsp.specs.declared.BitsRead.{BitsRead}
 use Rattle.rbsp.specs.declared.BitsRead.the-variants.{Value, Refused}
 use Rattle.rbsp.specs.declared.BitPosition.{BitPosition}
-use Rattle.rbsp.proofs.Numbers.{Read, u-read, Passed, skip-read, Coded, ue-read}
+use Rattle.rbsp.proofs.Numbers.{Read, u-read, Passed, skip-read, Coded, ue-read, Aligned, align-read}
 
 -- ---- a number: read_bits and exp_golomb
 
@@ -59,5 +59,9 @@ pub passed-of : {n : ℕ} {s : List ℕ} {p v : ℕ} {r : BitsRead} {q : BitPosi
 passed-of {n} {s} {p} h e = skip-read n s p _ (skip-told (skip n s p) _ _ (told h e))
 
 -- ---- alignment: align
-pub went-aligned : {B : Type 0} (s : List ℕ) (p : ℕ) {q : ℕ} (f : Unit {0} → ℕ → Parsed B) → align s p ≡ value tt q → bind (align s p) f ≡ f tt q
-went-aligned s p f h = ap (λ y. bind y f) h
+module _ (p : ℕ) {q : ℕ} (h : (t : List ℕ) → align t p ≡ value tt q) where
+  pub went-aligned : {B : Type 0} (s : List ℕ) (f : Unit {0} → ℕ → Parsed B) → bind (align s p) f ≡ f tt q
+  went-aligned s f = ap (λ y. bind y f) (h s)
+
+  pub aligned-of : Aligned p q
+  aligned-of = align-read [] p q (h [])

@@ -1,7 +1,6 @@
 -- The worked bytes of this crate, computed by the definitions.
 use mathlib.Core.Path.{_≡_, refl}
-use mathlib.Core.List.{List, [], _∷_}
-use Prim.Native.Nat.{ℕ}
+use mathlib.Core.List.{[], _∷_}
 use Rattle.error.specs.Parse.{value, refused}
 use Rattle.rbsp.specs.Rbsp.{drops, nextZeros, unescape, rbsp}
 use Rattle.rbsp.specs.Bits.{bitsAt, u, zerosBeforeOne, ue}

@@ -1,14 +1,14 @@
 -- The RBSP written to the front of an output, whole or as far as there is room.
 use mathlib.Core.Path.{_≡_, refl, ap, sym, _∙_}
 use mathlib.Core.Bool.{true, false}
-use mathlib.Core.List.{List, [], _∷_, _++_, append-nil}
-use Prim.Native.Nat.{ℕ, _+_, _≤_, _<_, _^_, min}
+use mathlib.Core.List.{List, _∷_, _++_, append-nil}
+use Prim.Native.Nat.{ℕ, _+_, _≤_, _<_, _^_}
 use native.Mathlib.Numerals.{add-one}
 use native.Mathlib.Omega.{arith}
 use lib.ListN.{length, getD, take, drop, set, length-append, length-take, length-set, take-append-drop, drop-of-length-le}
 use lib.Seq.{take-suc-set, drop-set-lt, drop-drop, take-all, length-take-le, take-at, append-snoc}
 use borrow.Author.Tests.{le-leb, lt-leb}
-use Rattle.error.specs.Outcome.{Outcome, accept, refuse, overlay}
+use Rattle.error.specs.Outcome.{accept, refuse, overlay}
 use Rattle.rbsp.specs.Rbsp.{drops, nextZeros, unescape, rbsp, extractRbsp}
 use Rattle.rbsp.specs.Front.{Front}
 use Rattle.rbsp.proofs.Removal.{step-dropped, step-kept, step-end, zeros-le}
@@ -38,7 +38,8 @@ module _ (p o₀ o : List ℕ) (z z′ n i : ℕ) (f : Filled p o₀ o z n i) (h
     room = omega arith;
     long = f .long;
     done = rw e (f .done ∙ ap (λ (l : List ℕ). take n o ++ l) (step-dropped z i p h d));
-    kept = f .kept }
+    kept = f .kept;
+  }
 
   pub fill-kept : drops z (getD p i 0) ≡ false → n < length o → Filled p o₀ (set o n (getD p i 0)) z′ (n + 1) (i + 1)
   fill-kept d r = record {
@@ -48,7 +49,8 @@ module _ (p o₀ o : List ℕ) (z z′ n i : ℕ) (f : Filled p o₀ o z n i) (h
     long = length-set o n (getD p i 0) ∙ f .long;
     done = rw (e, add-one n, take-suc-set o n (getD p i 0) r, append-snoc (take n o) (getD p i 0) (unescape (nextZeros z (getD p i 0)) (drop (i + 1) p)))
         (f .done ∙ ap (λ (l : List ℕ). take n o ++ l) (step-kept z i p h d));
-    kept = drop-set-lt (n + 1) o n (getD p i 0) (omega arith) ∙ drop-more o o₀ n (f .kept) }
+    kept = drop-set-lt (n + 1) o n (getD p i 0) (omega arith) ∙ drop-more o o₀ n (f .kept);
+  }
 
 -- bytes that fit stand there whole
 front-fits : (bytes o : List ℕ) → length bytes ≤ length o → overlay (take (length o) bytes) o ≡ overlay bytes o
@@ -61,7 +63,8 @@ fill-end p o₀ o z n i f h =
     let long : length (rbsp p) ≡ n = ap length all ∙ length-take-le n o (f .room) in
     record {
       count = omega arith;
-      stands = rw (front-fits (rbsp p) o₀ (omega arith), long, all) (rw (← f .kept) (sym (take-append-drop n o))) }
+      stands = rw (front-fits (rbsp p) o₀ (omega arith), long, all) (rw (← f .kept) (sym (take-append-drop n o)));
+    }
 
 -- the output is full
 pub fill-full : (p o₀ o : List ℕ) (z n i : ℕ) → Filled p o₀ o z n i → i < length p → drops z (getD p i 0) ≡ false → n ≡ length o → Front (rbsp p) o₀ o n
@@ -70,7 +73,8 @@ fill-full p o₀ o z n i f h d e =
     let more : rbsp p ≡ o ++ X = f .done ∙ ap (λ (l : List ℕ). take n o ++ l) (step-kept z i p h d) ∙ ap (λ (l : List ℕ). l ++ X) (take-all n o (omega arith)) in
     record {
       count = omega (arith, ap length more ∙ length-append o X);
-      stands = rw (more, take-at o X (length o₀) (f .long), drop-of-length-le o₀ {i = length o} (omega arith)) (sym (append-nil o)) }
+      stands = rw (more, take-at o X (length o₀) (f .long), drop-of-length-le o₀ {i = length o} (omega arith)) (sym (append-nil o));
+    }
 
 -- The three answers of the extraction.
 module _ (p o : List ℕ) where

@@ -1,17 +1,17 @@
 -- A parser that looks at no more than its next n bits does the same on the first bytes of a list as on the list, where these hold as many bits.
-use mathlib.Core.Path.{_≡_, refl, ap, sym, _∙_}
+use mathlib.Core.Path.{_≡_, refl}
 use mathlib.Core.Bool.{Bool, true, false}
 use mathlib.Core.List.{List, [], _∷_}
-use Prim.Native.Nat.{ℕ, zero, suc, _+_, _-_, _*_, _/_, _%_, _^_, _≤_, _<_}
+use Prim.Native.Nat.{ℕ, zero, suc, _+_, _-_, _*_, _/_, _^_, _≤_, _<_}
 use native.Mathlib.Nat.{suc-mul}
 use native.Mathlib.Omega.{arith}
 use lib.Dec.{leb}
-use lib.ListN.{length, getD, take, length-take}
+use lib.ListN.{length, take, length-take}
 use lib.Seq.{getD-take}
-use borrow.Author.Tests.{le-leb, lt-leb, leb-true, leb-false}
 use Rattle.error.specs.Logic.{if_then_else_}
-use Rattle.error.specs.Parse.{Parsed, value, refused, bind, Parser, _>>=_, _>>_, give, refusing, refuseIf, here, times}
+use Rattle.error.specs.Parse.{Parsed, value, refused, bind, Parser, _>>=_, give, refusing, refuseIf, here, times}
 use Rattle.rbsp.specs.Bits.{bitAt, bitsAt, u, isSet, skip, align, zerosBeforeOne, ue}
+use Rattle.rbsp.proofs.Choice.{leb-same}
 use Rattle.rbsp.proofs.Numbers.{u-read, skip-read, align-read, zeros-read}
 
 -- same: cut behind m bytes, of which the n bits from p on are part, the list gives the same answer, refusals among them.
@@ -31,50 +31,53 @@ bits-take m s p (suc n) h = rw (bits-take m s p n (omega arith), bit-take m s (p
 
 -- a bound that the first m bytes keep is the list's: so 11 is said of both or of neither
 leb-take : (m : ℕ) (s : List ℕ) (k : ℕ) → k ≤ 8 * m → leb k (8 * length (take m s)) ≡ leb k (8 * length s)
-leb-take m s k h = go (leb k (8 * length s)) refl
-  where
-    go : (b : Bool) → leb k (8 * length s) ≡ b → leb k (8 * length (take m s)) ≡ b
-    go true e = le-leb k (8 * length (take m s)) (omega (arith, length-take m s, leb-true k (8 * length s) e))
-    go false e = lt-leb k (8 * length (take m s)) (omega (arith, length-take m s, leb-false k (8 * length s) e))
+leb-take m s k h = leb-same k (8 * length (take m s)) k (8 * length s) (λ e. omega (arith, length-take m s)) (λ e. omega (arith, length-take m s))
 
 pub local-u : (n : ℕ) → Local n (u n)
 unfolding u
 local-u n = record {
   same = λ m s p h. rw (leb-take m s (p + n) h, bits-take m s p n h);
-  near = λ s p a q e. omega (arith, u-read n s p a q e) }
+  near = λ s p a q e. omega (arith, u-read n s p a q e);
+}
 
 pub local-skip : (n : ℕ) → Local n (skip n)
 unfolding skip
 local-skip n = record {
   same = λ m s p h. rw (leb-take m s (p + n) h);
-  near = λ s p a q e. omega (arith, skip-read n s p q e) }
+  near = λ s p a q e. omega (arith, skip-read n s p q e);
+}
 
 pub local-align : Local 7 align
 unfolding align
 local-align = record {
   same = λ m s p h. refl;
-  near = λ s p a q e. omega (arith, align-read s p q e) }
+  near = λ s p a q e. omega (arith, align-read s p q e);
+}
 
 -- ---- joining
 pub local-more : {A : Type 0} {P : Parser A} (n k : ℕ) → n ≤ k → Local n P → Local k P
 local-more n k h l = record {
   same = λ m s p g. l .same m s p (omega arith);
-  near = λ s p a q e. omega (arith, l .near s p a q e) }
+  near = λ s p a q e. omega (arith, l .near s p a q e);
+}
 
 pub local-give : {A : Type 0} (a : A) → Local 0 (give a)
 local-give a = record {
   same = λ m s p h. refl;
-  near = λ s p b q e. let o : p ≡ q = cc in omega arith }
+  near = λ s p b q e. let o : p ≡ q = cc in omega arith;
+}
 
 pub local-here : Local 0 here
 local-here = record {
   same = λ m s p h. refl;
-  near = λ s p b q e. let o : p ≡ q = cc in omega arith }
+  near = λ s p b q e. let o : p ≡ q = cc in omega arith;
+}
 
 pub local-refusing : {A : Type 0} (r : ℕ) → Local 0 (refusing {A = A} r)
 local-refusing r = record {
   same = λ m s p h. refl;
-  near = λ s p b q e. let o : _≡_ {A = ℕ} 0 1 = cc in absurd (omega arith) }
+  near = λ s p b q e. let o : _≡_ {A = ℕ} 0 1 = cc in absurd (omega arith);
+}
 
 -- a choice, over parsers and over their answers
 pub local-if : {A : Type 0} (n : ℕ) (b : Bool) {P Q : Parser A} → Local n P → Local n Q → Local n (if b then P else Q)
@@ -88,7 +91,7 @@ local-refuse-if b r = local-if 0 b (local-refusing r) (local-give tt)
 module _ {A B : Type 0} (n k : ℕ) (P : Parser A) (Q : A → Parser B) (l : Local n P)
     (g : (a : A) → (s : List ℕ) (p q : ℕ) → P s p ≡ value a q → Local k (Q a)) where
   bind-same : (m : ℕ) (s : List ℕ) (p : ℕ) → p + (n + k) ≤ 8 * m → (r : Parsed A) → P s p ≡ r
-    → bind r (λ a q. Q a (take m s) q) ≡ bind r (λ a q. Q a s q)
+      → bind r (λ a q. Q a (take m s) q) ≡ bind r (λ a q. Q a s q)
   bind-same m s p h (value a q) e = g a s p q e .same m s q (omega (arith, l .near s p a q e))
   bind-same m s p h (refused r) e = refl
 
@@ -99,7 +102,8 @@ module _ {A B : Type 0} (n k : ℕ) (P : Parser A) (Q : A → Parser B) (l : Loc
   pub local-bind-of : Local (n + k) (P >>= Q)
   local-bind-of = record {
     same = λ m s p h. rw (l .same m s p (omega arith)) (bind-same m s p h (P s p) refl);
-    near = λ s p b t e. bind-near s p b t (P s p) refl e }
+    near = λ s p b t e. bind-near s p b t (P s p) refl e;
+  }
 
 -- the same where the value does not matter; it serves P >> Q too
 pub local-bind : {A B : Type 0} (n k : ℕ) {P : Parser A} {Q : A → Parser B} → Local n P → ((a : A) → Local k (Q a)) → Local (n + k) (P >>= Q)

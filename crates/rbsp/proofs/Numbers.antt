@@ -1,18 +1,17 @@
 -- Numbers read from bits: what each read gives, how large its value is, and where it ends.
-use mathlib.Core.Path.{_≡_, refl, ap, sym, _∙_}
+use mathlib.Core.Path.{_≡_, refl, sym}
 use mathlib.Core.Bool.{Bool, true, false}
 use mathlib.Core.List.{List}
 use Prim.Native.Nat.{ℕ, zero, suc, _+_, _-_, _*_, _/_, _%_, _^_, _≤_, _<_}
 use native.Mathlib.Nat.{pow-suc, add-zero, zero-add}
 use native.Mathlib.Omega.{arith}
-use lib.Dec.{leb, eqb, lit<}
+use lib.Dec.{leb, lit<}
 use lib.Pow.{pow-mono, pow-pos}
 use lib.ListN.{length}
 use borrow.Author.Tests.{leb-true, eq-eqb, ne-eqb}
 use Rattle.error.specs.Logic.{if_then_else_}
 use Rattle.error.specs.Parse.{Parsed, value, refused, bind, give}
 use Rattle.rbsp.specs.Bits.{bitAt, bitsAt, u, isSet, skip, align, zerosBeforeOne, ue}
-use Rattle.rbsp.proofs.Choice.{if-elim}
 
 -- ---- u(n)
 pub bits-lt : (s : List ℕ) (p n : ℕ) → bitsAt s p n < 2 ^ n

@@ -3,7 +3,6 @@ use super::BitPosition;
 use super::BitsRead;
 use super::ByteOffset;
 use error::Refusal;
-
 ghost use mathlib.Core.Path.{_≡_};
 ghost use mathlib.Core.List.{List};
 ghost use Prim.Native.Nat.{ℕ, _+_, _*_, _%_, _≤_, _<_, _^_};

@@ -1,10 +1,9 @@
 // Emulation prevention removed from a payload, and bits read from what is left.
-pub mod fill;
 pub mod bits;
+pub mod fill;
 
 use error::Refusal;
 use error::Written;
-
 ghost use mathlib.Core.Path.{_≡_};
 ghost use Rattle.error.specs.Answers.{writtenOf};
 ghost use Rattle.rbsp.specs.Rbsp.{extractRbsp};

@@ -1,2 +1,4 @@
 pub mod UnitList
 pub mod Answers
+pub mod Walk
+pub mod Find

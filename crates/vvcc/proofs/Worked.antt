@@ -11,15 +11,17 @@ use Rattle.nal.specs.Header.{typeOr31}
 use Rattle.unit_list.specs.UnitList.{arrayRest, array, unitList, decode, unitsOf, unitsOfType, encodeUnits, encodeArray, encodeArrays, encode}
 use Rattle.rbsp.specs.Rbsp.{drops, nextZeros, unescape, rbsp}
 use Rattle.rbsp.specs.Bits.{bitsAt, u, skip, align, zerosBeforeOne, ue}
-use Rattle.params.specs.Ptl.{presentFlags, levels, withoutFlags, constraintBits, generalConstraintsInfo, constraintBytes, profileTierLevel, zeroPtl}
+use Rattle.ptl.specs.Ptl.{presentFlags, levels, withoutFlags, constraintBits, generalConstraintsInfo, constraintBytes, profileTierLevel, zeroPtl}
 use Rattle.params.specs.Heads.{window, spsHead, vpsPtl, parseSps, vpsFirstPtl}
-use Rattle.params.specs.declared.VvcPtlRecord.{VvcPtlRecord}
+use Rattle.ptl.specs.declared.VvcPtlRecord.{VvcPtlRecord}
 use Rattle.params.specs.declared.SpsHead.{SpsHead}
 use Rattle.compact.specs.Compact.{CompactParsed, atEnd, compactRecord, oneArray, parseCompact}
 use Rattle.compact.specs.ItemData.{restore}
 use Rattle.compact.specs.declared.CompactVvcConfig.{CompactVvcConfig}
-use Rattle.full.specs.Read.{FullParsed, octets, vvcPtlRecord, headWithPtl, plainHead, vvcHead, recordArray, vvcRecord, parseFull}
-use Rattle.full.specs.Write.{withFlags, flagByte, levelBytes, subProfiles, ptlBytes, ptlPart, headBytes, arrayBytes, arraysBytes, fullBytes, ptlFits, ptlPartFits, headFits, unitsFit, arrayFits, arraysFit, recordFits, writeFull, serializeFull}
+use Rattle.ptl_record.specs.Read.{octets, vvcPtlRecord}
+use Rattle.ptl_record.specs.Write.{withFlags, flagByte, levelBytes, subProfiles, ptlBytes, ptlFits}
+use Rattle.full.specs.Read.{FullParsed, headWithPtl, plainHead, vvcHead, recordArray, vvcRecord, parseFull}
+use Rattle.full.specs.Write.{ptlPart, headBytes, arrayBytes, arraysBytes, fullBytes, ptlPartFits, headFits, unitsFit, arrayFits, arraysFit, recordFits, writeFull, serializeFull}
 use Rattle.vvcc.specs.Expand.{Picture, FullHead, havingType, without, firsts, grouped, multiLayerVps, ptlOfSets, expandUnits, toFull}
 
 -- an SPS and a PPS

@@ -13,7 +13,7 @@ use Rattle.nal.specs.Header.{typeOr31}
 use Rattle.unit_list.specs.UnitList.{Array, encode}
 use Rattle.unit_list.specs.Answers.{listUnits}
 use Rattle.params.specs.Heads.{parseSps, vpsFirstPtl}
-use Rattle.params.specs.declared.VvcPtlRecord.{VvcPtlRecord}
+use Rattle.ptl.specs.declared.VvcPtlRecord.{VvcPtlRecord}
 use Rattle.params.specs.declared.SpsHead.{SpsHead}
 use Rattle.compact.specs.declared.CompactVvcConfig.{CompactVvcConfig}
 use Rattle.full.specs.declared.VvcConfig.{VvcConfig}

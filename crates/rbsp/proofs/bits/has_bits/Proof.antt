@@ -1,26 +1,22 @@
-use Prim.Native.Nat.{ℕ, zero, suc, _+_, _*_, _-_, _/_, _%_, _^_, _≤_, _<_}
-use mathlib.Core.Path.{_≡_, refl, sym, ap, _∙_, subst}
-use mathlib.Core.List.{List, [], _∷_, _++_}
-use mathlib.Core.Logic.{⊎-elim}
+-- `has_bits` tests whether the bits are left: the test over what is left is the one over the end.
+use borrow.Author.Tests.{lt-leb}
+use Prim.Native.Nat.{_+_, _*_, _-_}
+use mathlib.Core.Path.{sym}
 use native.Mathlib.Omega.{arith}
-use lib.ListN.{length, getD, take, drop}
+use lib.ListN.{length}
 use borrow.Author.Needs.{needs}
+use Rattle.rbsp.proofs.Choice.{leb-same}
 use Rattle.rbsp.proofs.bits.has_bits.Statement.{statement}
 use Rattle.rbsp.proofs.bits.has_bits.Tie as tie
-use Rattle.rbsp.proofs.bits.has_bits.Reads as reads
-use Rattle.rbsp.proofs.bits.has_bits.Lts as lts
 
--- src/bits.rt:29:17
 mul-total : tie.Need-mul-total
 mul-total c = search needs
 
--- src/bits.rt:31:9
 returns : tie.Need-returns
-returns c = search needs
+returns c = let a = c .before .args in sym (lt-leb (a .from + a .n) (8 * length (a .s .now)) (omega arith))
 
--- src/bits.rt:25:1
 returns-2 : tie.Need-returns-2
-returns-2 c = search needs
+returns-2 c = let a = c .before .args in leb-same (a .n) (length (a .s .now) * 8 - a .from) (a .from + a .n) (8 * length (a .s .now)) (λ e. omega arith) (λ e. omega arith)
 
 pub has-bits-spec : {M : Type 1} → statement M
 has-bits-spec = tie.close (tie.spec mul-total returns returns-2)

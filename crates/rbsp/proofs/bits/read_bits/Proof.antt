@@ -1,70 +1,65 @@
-use Prim.Native.Nat.{ℕ, zero, suc, _+_, _*_, _-_, _/_, _%_, _^_, _≤_, _<_}
-use mathlib.Core.Path.{_≡_, refl, sym, ap, _∙_, subst}
-use mathlib.Core.List.{List, [], _∷_, _++_}
-use mathlib.Core.Logic.{⊎-elim}
+-- `read_bits` gives u(n): after k turns the loop holds the number of the first k bits.
+use lib.Dec.{leb}
+use mathlib.Core.Bool.{true}
+use native.Mathlib.Numerals.{add-one}
+use borrow.Author.Tests.{not-true, not-false, leb-true}
+use Prim.Native.Nat.{_+_, _*_, _-_, _≤_}
+use mathlib.Core.Path.{_≡_, sym, _∙_}
 use native.Mathlib.Omega.{arith}
 use borrow.Author.Needs.{needs}
-use lib.ListN.{length, getD, take, drop}
+use lib.ListN.{length}
+use Rattle.rbsp.specs.Bits.{bitsAt}
+use Rattle.rbsp.proofs.Numbers.{bits-fit, u-short, u-there}
 use Rattle.rbsp.proofs.bits.read_bits.Statement.{statement}
 use Rattle.rbsp.proofs.bits.read_bits.Tie as tie
-use Rattle.rbsp.proofs.bits.read_bits.Reads as reads
-use Rattle.rbsp.proofs.bits.read_bits.Lts as lts
-use Rattle.rbsp.proofs.bits.bit.Reads as bit-reads
-use Rattle.rbsp.proofs.bits.has_bits.Reads as has-bits-reads
 
 abbrev Inv-loop : tie.InvT-loop
-Inv-loop s n from v₀ k₀ v k = ?
+Inv-loop s n from v₀ k₀ v k = (k ≤ n) × (v ≡ bitsAt s from k)
 
 abbrev μ-loop : tie.MeasureT-loop
-μ-loop s n from v₀ k₀ v k = ?
+μ-loop s n from v₀ k₀ v k = n - k
 
--- src/bits.rt:42:9
 has-bits-requires : tie.Need-has-bits-requires Inv-loop μ-loop
 has-bits-requires c κs = search needs
 
--- src/bits.rt:43:9
 returns : tie.Need-returns Inv-loop μ-loop
-returns c = search needs
+returns c = sym (u-short _ _ _ (sym (c .before .has-bits .ensures) ∙ not-true _ (c .if1 .taken)))
 
--- src/bits.rt:47:5
+-- there are as many bits
+room : (c : tie.Else1 Inv-loop μ-loop) → leb (c .before .before .before .args .at .0 + c .before .before .before .args .n) (8 * length (c .before .before .before .args .s .now)) ≡ true
+room c = sym (c .before .has-bits .ensures) ∙ not-false _ (c .if1 .left)
+
 loop-holds : tie.Need-loop-holds Inv-loop μ-loop
+unfolding bitsAt
 loop-holds c = search needs
 
--- src/bits.rt:48:13
 mul-v : tie.Need-mul-v Inv-loop μ-loop
-mul-v c = search needs
+mul-v c = let a = c .before .before .before .before .before .args in omega (arith, bits-fit (a .s .now) (a .at .0) (c .before .loop .k) (omega arith))
 
--- src/bits.rt:48:28
 add-bit : tie.Need-add-bit Inv-loop μ-loop
-add-bit c = search needs
+add-bit c = omega (arith, leb-true, room (c .before .before))
 
--- src/bits.rt:48:21
 bit-requires : tie.Need-bit-requires Inv-loop μ-loop
-bit-requires c κs = search needs
+bit-requires c κs = omega (arith, leb-true, room (c .before .before))
 
--- src/bits.rt:48:13
 add-v : tie.Need-add-v Inv-loop μ-loop
-add-v c = search needs
+add-v c = let a = c .before .before .before .before .before .before .args in omega (arith, bits-fit (a .s .now) (a .at .0) (c .before .before .loop .k) (omega arith))
 
--- src/bits.rt:49:9
 add-k : tie.Need-add-k Inv-loop μ-loop
 add-k c = search needs
 
--- src/bits.rt:47:5
 loop-less : tie.Need-loop-less Inv-loop μ-loop
 loop-less c = search needs
 
--- src/bits.rt:47:5
 loop-again : tie.Need-loop-again Inv-loop μ-loop
-loop-again c = search needs
+unfolding bitsAt
+loop-again c = (search needs, rw add-one (cc))
 
--- src/bits.rt:51:36
 add-t14 : tie.Need-add-t14 Inv-loop μ-loop
-add-t14 c = search needs
+add-t14 c = omega (arith, leb-true, room (c .before .before))
 
--- src/bits.rt:37:1
 returns-2 : tie.Need-returns-2 Inv-loop μ-loop
-returns-2 c = search needs
+returns-2 c = sym (u-there _ _ _ _ (c .before .loop .k) (room (c .before .before)) (c .before .loop .inv .1) (omega arith))
 
 pub read-bits-spec : {M : Type 1} → statement M
 read-bits-spec =

@@ -1,66 +1,65 @@
-use Prim.Native.Nat.{ℕ, zero, suc, _+_, _*_, _-_, _/_, _%_, _^_, _≤_, _<_}
-use mathlib.Core.Path.{_≡_, refl, sym, ap, _∙_, subst}
-use mathlib.Core.List.{List, [], _∷_, _++_}
-use mathlib.Core.Logic.{⊎-elim}
+-- `zeros_before_one` counts the zeros before the next 1: the count from where the loop stands gives the whole count.
+use lib.Dec.{leb}
+use mathlib.Core.Bool.{true}
+use borrow.Author.Tests.{not-true, not-false, leb-true}
+use Prim.Native.Nat.{_+_, _*_, _-_, _≤_}
+use mathlib.Core.Path.{_≡_, refl, sym, _∙_}
 use native.Mathlib.Omega.{arith}
 use borrow.Author.Needs.{needs}
-use lib.ListN.{length, getD, take, drop}
+use lib.ListN.{length}
+use Rattle.rbsp.specs.Bits.{zerosBeforeOne}
+use Rattle.rbsp.proofs.Numbers.{zeros-out, zeros-one, zeros-more, zeros-none}
 use Rattle.rbsp.proofs.bits.zeros_before_one.Statement.{statement}
 use Rattle.rbsp.proofs.bits.zeros_before_one.Tie as tie
-use Rattle.rbsp.proofs.bits.zeros_before_one.Reads as reads
-use Rattle.rbsp.proofs.bits.zeros_before_one.Lts as lts
-use Rattle.rbsp.proofs.bits.bit.Reads as bit-reads
-use Rattle.rbsp.proofs.bits.has_bits.Reads as has-bits-reads
 
 abbrev Inv-loop : tie.InvT-loop
-Inv-loop s p₀ z₀ p z = ?
+Inv-loop s p₀ z₀ p z = (z ≤ 32) × (zerosBeforeOne 0 32 s p₀ ≡ zerosBeforeOne z (32 - z) s p)
 
 abbrev μ-loop : tie.MeasureT-loop
-μ-loop s p₀ z₀ p z = ?
+μ-loop s p₀ z₀ p z = 32 - z
 
--- src/bits.rt:73:5
 loop-holds : tie.Need-loop-holds Inv-loop μ-loop
-loop-holds c = search needs
+loop-holds c = (omega arith, refl)
 
--- src/bits.rt:74:13
 has-bits-requires : tie.Need-has-bits-requires Inv-loop μ-loop
 has-bits-requires c κs = search needs
 
--- src/bits.rt:75:13
 returns : tie.Need-returns Inv-loop μ-loop
-returns c = search needs
+returns c =
+    let l = c .before .before .before .loop in
+    sym (l .inv .1 ∙ zeros-out _ (l .z) _ (32 - (l .z + 1)) _ (omega arith) (sym (c .before .has-bits .ensures) ∙ not-true _ (c .if1 .taken)))
 
--- src/bits.rt:77:12
+-- there is a bit
+room : (c : tie.Else1 Inv-loop μ-loop) → leb (c .before .before .before .loop .p + 1) (8 * length (c .before .before .before .before .before .args .s .now)) ≡ true
+room c = sym (c .before .has-bits .ensures) ∙ not-false _ (c .if1 .left)
+
 bit-requires : tie.Need-bit-requires Inv-loop μ-loop
-bit-requires c κs = search needs
+bit-requires c κs = omega (arith, leb-true, room c)
 
--- src/bits.rt:78:51
 add-t9 : tie.Need-add-t9 Inv-loop μ-loop
-add-t9 c = search needs
+add-t9 c = omega (arith, leb-true, room (c .before .before))
 
--- src/bits.rt:78:13
 returns-2 : tie.Need-returns-2 Inv-loop μ-loop
-returns-2 c = search needs
+returns-2 c =
+    let l = c .before .before .before .before .before .loop in
+    sym (l .inv .1 ∙ zeros-one _ (l .z) _ (32 - (l .z + 1)) _ (omega arith) (room (c .before .before)) (sym (c .before .bit .ensures) ∙ c .if2 .taken))
 
--- src/bits.rt:80:9
 add-p : tie.Need-add-p Inv-loop μ-loop
-add-p c = search needs
+add-p c = omega (arith, leb-true, room (c .before .before))
 
--- src/bits.rt:81:9
 add-z : tie.Need-add-z Inv-loop μ-loop
 add-z c = search needs
 
--- src/bits.rt:73:5
 loop-less : tie.Need-loop-less Inv-loop μ-loop
 loop-less c = search needs
 
--- src/bits.rt:73:5
 loop-again : tie.Need-loop-again Inv-loop μ-loop
-loop-again c = search needs
+loop-again c =
+    let l = c .before .before .before .before .before .loop in
+    (search needs, l .inv .1 ∙ zeros-more _ (l .z) _ (32 - (l .z + 1)) _ (omega arith) (room (c .before .before)) (λ e. c .if2 .left (c .before .bit .ensures ∙ e)))
 
--- src/bits.rt:67:1
 returns-3 : tie.Need-returns-3 Inv-loop μ-loop
-returns-3 c = search needs
+returns-3 c = let l = c .before .loop in sym (l .inv .1 ∙ zeros-none _ (l .z) (32 - l .z) _ (omega arith))
 
 pub zeros-before-one-spec : {M : Type 1} → statement M
 zeros-before-one-spec =

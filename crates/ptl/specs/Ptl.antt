@@ -7,7 +7,7 @@ use lib.ListN.{length, take, drop, replicate}
 use Rattle.error.specs.Logic.{if_then_else_}
 use Rattle.error.specs.Parse.{Parsed, value, Parser, _>>=_, _>>_, give, here, times}
 use Rattle.rbsp.specs.Bits.{u, isSet, skip, align}
-use Rattle.params.specs.declared.VvcPtlRecord.{VvcPtlRecord}
+use Rattle.ptl.specs.declared.VvcPtlRecord.{VvcPtlRecord}
 
 -- an array of N: the values, and z past them
 abbrev pub padded : {A : Type 0} → ℕ → A → List A → List A

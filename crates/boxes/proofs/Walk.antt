@@ -1,0 +1,54 @@
+-- What one step of a walk does to the count and to the one found as number k. One set of laws for lists, items and streams.
+use Prim.Native.Nat.{ℕ, zero, suc, _+_, _-_, _≤_, _<_}
+use native.Mathlib.Omega.{arith}
+use mathlib.Core.Path.{_≡_, refl, sym, ap}
+use mathlib.Core.List.{List, [], _∷_}
+use lib.ListN.{length, getD, List·getD-eq-default}
+use Rattle.error.specs.Outcome.{Outcome, accept, refuse}
+use Rattle.boxes.specs.Parts.{nowhere}
+use Rattle.boxes.specs.Walk.{more, countFound, found}
+use Rattle.boxes.specs.declared.Span.{Span}
+
+-- a count with n counted before
+abbrev pub plus : ℕ → Outcome ℕ → Outcome ℕ
+plus n (accept m) = accept (n + m)
+plus n (refuse e) = refuse e
+
+-- how many are found, 0 on a refusal
+abbrev pub total : {A : Type 0} → Outcome (List A) → ℕ
+total (accept xs) = length xs
+total (refuse e) = 0
+
+pub plus-zero : (o : Outcome ℕ) → plus 0 o ≡ o
+plus-zero (accept m) = ap accept (omega arith)
+plus-zero (refuse e) = refl
+
+module _ {A : Type 0} where
+  pub count-more : (n : ℕ) (a : A) (o : Outcome (List A)) → plus n (countFound (more a o)) ≡ plus (n + 1) (countFound o)
+  count-more n a (accept xs) = ap accept (omega arith)
+  count-more n a (refuse e) = refl
+
+  pub total-more : (a : A) (o : Outcome (List A)) → total (more a o) ≤ suc (total o)
+  total-more a (accept xs) = omega arith
+  total-more a (refuse e) = omega arith
+
+  pub total-count : (o : Outcome (List A)) (n : ℕ) → countFound o ≡ accept n → total o ≡ n
+  total-count (accept xs) n e = cc
+  total-count (refuse k) n e = let z : _≡_ {A = ℕ} 0 1 = cc in absurd (omega arith)
+
+  pub total-refused : (o : Outcome (List A)) (n : ℕ) → countFound o ≡ refuse n → total o ≡ 0
+  total-refused (accept xs) n e = let z : _≡_ {A = ℕ} 0 1 = cc in absurd (omega arith)
+  total-refused (refuse k) n e = refl
+
+pub found-here : (a : Span) (o : Outcome (List Span)) → 0 < total (more a o) → found (more a o) 0 ≡ a
+found-here a (accept xs) h = refl
+found-here a (refuse e) h = absurd (omega arith)
+
+pub found-next : (a : Span) (o : Outcome (List Span)) (i : ℕ) → suc i < total (more a o)
+    → (i < total o) × (found o i ≡ found (more a o) (suc i))
+found-next a (accept xs) i h = (omega arith, refl)
+found-next a (refuse e) i h = absurd (omega arith)
+
+pub found-past : (o : Outcome (List Span)) (k : ℕ) → total o ≤ k → found o k ≡ nowhere
+found-past (accept xs) k h = List·getD-eq-default xs nowhere h
+found-past (refuse e) k h = refl

@@ -1,0 +1,84 @@
+// For the crates further down: one step of a walk over an item.
+use super::ItemStep;
+use boxes::Span;
+use boxes::place;
+use error::Counted;
+use error::Refusal;
+
+ghost use mathlib.Core.Path.{_≡_};
+ghost use Prim.Native.Nat.{_+_, _≤_, _<_, _^_};
+ghost use lib.ListN.{length};
+ghost use Rattle.error.specs.Answers.{countOf};
+ghost use Rattle.boxes.specs.Walk.{countFound, found};
+ghost use Rattle.boxes.proofs.Walk.{total};
+ghost use Rattle.hvcc.specs.Answers.{leftOf, stepped, Onward};
+
+// The unit whose length stands at a place of an item, and the place behind it.
+pub fn item_step(item: &[u8], size: usize, at: usize) -> ItemStep
+    requires { ⌜ (1 ≤ size) × (size ≤ 4) × (at ≤ length (now item)) × (length (now item) ≤ 2 ^ 30) ⌝ }
+    ensures { λ r. ⌜ (stepped size (now (item .entry)) r ≡ leftOf size (now (item .entry)) at) × Onward (now (item .entry)) at r ⌝ }
+{
+    let left = item.len() - at;
+    if left == 0 {
+        return ItemStep::End;
+    }
+    if left < size {
+        return ItemStep::Refused(Refusal::Truncated);
+    }
+    let start = at + size;
+    let len = place::number(item, at, size);
+    if len == 0 {
+        return ItemStep::Refused(Refusal::ZeroLengthUnit);
+    }
+    if left - size < len {
+        return ItemStep::Refused(Refusal::Truncated);
+    }
+    let unit = Span { start: start, len: len };
+    ItemStep::Unit(unit, start + len)
+}
+
+// How many units an item has.
+pub fn count_units(item: &[u8], size: usize) -> Counted
+    requires { ⌜ (1 ≤ size) × (size ≤ 4) × (length (now item) ≤ 2 ^ 30) ⌝ }
+    ensures { λ r. ⌜ countOf r ≡ countFound (leftOf size (now (item .entry)) 0) ⌝ }
+{
+    let mut at: usize = 0;
+    let mut n: usize = 0;
+    'walk: loop {
+        let step = item_step(item, size, at);
+        match step {
+            ItemStep::Unit(_, next) => {
+                n += 1;
+                at = next;
+            }
+            ItemStep::End => {
+                break 'walk;
+            }
+            ItemStep::Refused(e) => {
+                return Counted::Refused(e);
+            }
+        }
+    }
+    Counted::Count(n)
+}
+
+// Where unit k lies in an item that has more than k units.
+pub fn unit_at(item: &[u8], size: usize, k: usize) -> Span
+    requires { ⌜ (1 ≤ size) × (size ≤ 4) × (length (now item) ≤ 2 ^ 30) × (k < total (leftOf size (now item) 0)) ⌝ }
+    ensures { λ r. ⌜ (r ≡ found (leftOf size (now (item .entry)) 0) k) × (r .start + r .len ≤ length (now (item .entry))) ⌝ }
+{
+    let mut at: usize = 0;
+    let mut left = k;
+    let unit = 'walk: loop {
+        let step = item_step(item, size, at);
+        let ItemStep::Unit(a, next) = step else {
+            break 'walk Span { start: 0, len: 0 };
+        };
+        if left == 0 {
+            break 'walk a;
+        }
+        left -= 1;
+        at = next;
+    };
+    unit
+}

@@ -1,0 +1,4 @@
+pub mod StartCodes
+pub mod Checks
+pub mod Headers
+pub mod UnitKinds

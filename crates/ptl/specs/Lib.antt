@@ -1,0 +1,2 @@
+pub mod Ptl
+pub mod Answers

@@ -1,0 +1,14 @@
+// VvcPTLRecord of ISO/IEC 14496-15 11.2.4.2 as bytes: read and written.
+use error::Refusal;
+use ptl::VvcPtlRecord;
+
+// A PTL and the place behind it, or a refusal with a PTL of zeros.
+pub enum PtlRecordAnswer {
+    Read(usize),
+    Refused(Refusal),
+}
+
+pub struct PtlRecordRead {
+    pub answer: PtlRecordAnswer,
+    pub ptl: VvcPtlRecord,
+}

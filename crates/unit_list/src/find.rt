@@ -1,0 +1,81 @@
+// For this crate's calls and the crates further down: the wanted units of a list counted, and one of them found, in one walk.
+use super::Found;
+use super::ListCursor;
+use super::ListStart;
+use super::ListStep;
+use super::Wanted;
+use super::walk;
+use boxes::Span;
+use error::Counted;
+use error::Refusal;
+
+ghost use mathlib.Core.Path.{_≡_};
+ghost use Prim.Native.Nat.{_+_, _≤_, _<_, _^_};
+ghost use lib.ListN.{length};
+ghost use Rattle.error.specs.Logic.{if_then_else_};
+ghost use Rattle.unit_list.specs.Walk.{Fits, leftOf};
+ghost use Rattle.unit_list.specs.Find.{wants, Finds, wantedOf, wantedList, seeing};
+
+// The units seen so far: how many, and number k of them.
+pub struct Seen {
+    pub count: usize,
+    pub unit: Span,
+}
+
+// Whether a unit in an array of type `t` is wanted.
+fn wanted(w: Wanted, t: u8) -> bool
+    ensures { λ r. ⌜ r ≡ wants w t ⌝ }
+{
+    match w {
+        Wanted::Every => true,
+        Wanted::OfType(x) => x == t,
+    }
+}
+
+// One more unit seen, if it is wanted.
+fn see(seen: Seen, w: Wanted, k: usize, t: u8, a: Span) -> Seen
+    requires { ⌜ seen .count < 2 ^ 30 ⌝ }
+    ensures { λ r. ⌜ r ≡ seeing w k t a seen ⌝ }
+{
+    if !wanted(w, t) {
+        return seen;
+    }
+    let unit = seen.unit;
+    if seen.count == k {
+        return Seen { count: seen.count + 1, unit: a };
+    }
+    Seen { count: seen.count + 1, unit: unit }
+}
+
+// What the units behind a cursor give.
+pub fn find_from(list: &[u8], c: ListCursor, w: Wanted, k: usize) -> Found
+    requires { ⌜ Fits (now list) c ⌝ }
+    ensures { λ r. ⌜ Finds (now (list .entry)) (wantedOf w (leftOf (now (list .entry)) c)) k r ⌝ }
+{
+    let nowhere = Span { start: 0, len: 0 };
+    let mut here = c;
+    let mut seen = Seen { count: 0, unit: nowhere };
+    loop {
+        match walk::step(list, here) {
+            ListStep::Unit(a, next) => {
+                seen = see(seen, w, k, next.unit_type, a);
+                here = next;
+            }
+            ListStep::End => {
+                let unit = seen.unit;
+                return Found { counted: Counted::Count(seen.count), unit: unit };
+            }
+            ListStep::Malformed => return Found { counted: Counted::Refused(Refusal::UnitList), unit: nowhere },
+        }
+    }
+}
+
+// What the units of a list give. Refusals: 23, 21.
+pub fn find(list: &[u8], w: Wanted, k: usize) -> Found
+    ensures { λ r. ⌜ Finds (now (list .entry)) (wantedList w (now (list .entry))) k r ⌝ }
+{
+    match walk::start(list) {
+        ListStart::At(c) => find_from(list, c, w, k),
+        ListStart::Refused(e) => Found { counted: Counted::Refused(e), unit: Span { start: 0, len: 0 } },
+    }
+}

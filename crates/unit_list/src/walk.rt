@@ -1,0 +1,100 @@
+// For the crates further down: one walk over the units of a list, array after array.
+use super::ArrayStep;
+use super::ChunkRead;
+use super::ListCursor;
+use super::ListStart;
+use super::ListStep;
+use boxes::Span;
+use boxes::place;
+use error::Refusal;
+
+ghost use mathlib.Core.Path.{_≡_};
+ghost use Prim.Native.Nat.{_≤_, _^_};
+ghost use lib.ListN.{length, take};
+ghost use Rattle.boxes.specs.Bytes.{chunk as chunkOf};
+ghost use Rattle.unit_list.specs.Walk.{Fits, StartFits, chunkStepped, unitsFrom, unitsStepped, UnitStepFits, arraysFrom, arraysStepped, ArrayStepFits, typedList, started, leftOf, stepped, StepFits};
+
+// A length of `width` bytes and that many bytes, all before `end`.
+pub fn chunk(s: &[u8], at: usize, end: usize, width: usize) -> ChunkRead
+    requires { ⌜ (width ≤ 4) × (at ≤ end) × (end ≤ length (now s)) × (length (now s) ≤ 2 ^ 30) ⌝ }
+    ensures { λ r. ⌜ chunkStepped r ≡ chunkOf width (take end (now (s .entry))) at ⌝ }
+{
+    if end - at < width {
+        return ChunkRead::Short;
+    }
+    let n = place::number(s, at, width);
+    let start = at + width;
+    if end - start < n {
+        return ChunkRead::Short;
+    }
+    ChunkRead::Bytes(Span { start: start, len: n })
+}
+
+// The cursor behind the version, in front of the first array. Refusals: 23, 21 for no byte or another version.
+pub fn start(list: &[u8]) -> ListStart
+    ensures { λ r. ⌜ (started (now (list .entry)) r ≡ typedList (now (list .entry))) × StartFits (now (list .entry)) r ⌝ }
+{
+    if 0x4000_0000 < list.len() {
+        return ListStart::Refused(Refusal::InputTooLong);
+    }
+    if place::byte(list, 0) != 1 {
+        return ListStart::Refused(Refusal::UnitList);
+    }
+    ListStart::At(ListCursor { at: 1, end: 1, unit_type: 0 })
+}
+
+// The array at a place: its length, complete and type are read, its units are not.
+pub fn array_step(list: &[u8], at: usize) -> ArrayStep
+    requires { ⌜ (at ≤ length (now list)) × (length (now list) ≤ 2 ^ 30) ⌝ }
+    ensures { λ r. ⌜ (arraysStepped (now (list .entry)) r ≡ arraysFrom (now (list .entry)) at) × ArrayStepFits (now (list .entry)) at r ⌝ }
+{
+    if at == list.len() {
+        return ArrayStep::End;
+    }
+    let ChunkRead::Bytes(rest) = chunk(list, at, list.len(), 4) else {
+        return ArrayStep::Malformed;
+    };
+    if rest.len < 2 {
+        return ArrayStep::Malformed;
+    }
+    let from = rest.start;
+    let complete = list[from];
+    let unit_type = list[from + 1];
+    if 1 < complete {
+        return ArrayStep::Malformed;
+    }
+    if 31 < unit_type {
+        return ArrayStep::Malformed;
+    }
+    ArrayStep::Array(complete, ListCursor { at: from + 2, end: from + rest.len, unit_type: unit_type })
+}
+
+// The unit at a cursor, before its array's end.
+pub fn unit_step(list: &[u8], c: ListCursor) -> ListStep
+    requires { ⌜ Fits (now list) c ⌝ }
+    ensures { λ r. ⌜ (unitsStepped (now (list .entry)) r ≡ unitsFrom (now (list .entry)) c) × UnitStepFits (now (list .entry)) c r ⌝ }
+{
+    if c.at == c.end {
+        return ListStep::End;
+    }
+    let ChunkRead::Bytes(a) = chunk(list, c.at, c.end, 4) else {
+        return ListStep::Malformed;
+    };
+    ListStep::Unit(a, ListCursor { at: a.start + a.len, end: c.end, unit_type: c.unit_type })
+}
+
+// The next unit behind a cursor, past arrays that have none left.
+pub fn step(list: &[u8], c: ListCursor) -> ListStep
+    requires { ⌜ Fits (now list) c ⌝ }
+    ensures { λ r. ⌜ (stepped (now (list .entry)) r ≡ leftOf (now (list .entry)) c) × StepFits (now (list .entry)) c r ⌝ }
+{
+    let mut here = c;
+    while here.at == here.end {
+        match array_step(list, here.end) {
+            ArrayStep::Array(_, first) => here = first,
+            ArrayStep::End => return ListStep::End,
+            ArrayStep::Malformed => return ListStep::Malformed,
+        }
+    }
+    unit_step(list, here)
+}

@@ -1,0 +1,28 @@
+// For the crates further down: the pieces of a list, stored at a place of lent memory.
+use boxes::place;
+
+ghost use mathlib.Core.Path.{_≡_};
+ghost use mathlib.Core.List.{[], _∷_, _++_};
+ghost use Prim.Native.Nat.{_+_, _≤_};
+ghost use lib.ListN.{length};
+ghost use lib.Seq.{sets};
+ghost use Rattle.boxes.specs.Bytes.{toBe, toChunk};
+
+// What stands before an array's units: the length of its rest, complete, type.
+pub fn put_array_head(out: &mut [u8], at: usize, rest: usize, complete: u8, unit_type: u8)
+    requires { ⌜ at + 6 ≤ length (now out) ⌝ }
+    ensures { λ _. ⌜ now (out .exit) ≡ sets (now (out .entry)) at (toBe 4 rest ++ (complete ∷ «unit_type» ∷ [])) ⌝ }
+{
+    place::put_number(out, at, 4, rest);
+    place::put(out, at + 4, complete);
+    place::put(out, at + 5, unit_type);
+}
+
+// A unit behind its length of `width` bytes.
+pub fn put_chunk(src: &[u8], out: &mut [u8], at: usize, width: usize)
+    requires { ⌜ (width ≤ 4) × (at + width + length (now src) ≤ length (now out)) ⌝ }
+    ensures { λ _. ⌜ now (out .exit) ≡ sets (now (out .entry)) at (toChunk width (now (src .entry))) ⌝ }
+{
+    place::put_number(out, at, width, src.len());
+    place::copy(src, out, at + width);
+}

@@ -79,15 +79,12 @@ chunk-advances w s h p a q e = let c = chunk-read w s p a q e in omega arith
 
 -- a chunk that was written, behind other bytes and in front of others: its span, and what it holds
 module _ (w : ℕ) (s u t : List ℕ) (fits : length u < 256 ^ w) where
-  whole : List ℕ
-  whole = s ++ (toChunk w u ++ t)
-
   pub chunk-toChunk : chunk w (s ++ (toChunk w u ++ t)) (length s) ≡ value (record { start = length s + w; len = length u }) (length s + w + length u)
   unfolding toChunk
   chunk-toChunk =
       let n : be (s ++ ((toBe w (length u) ++ u) ++ t)) (length s) w ≡ length u = rw (append-assoc (toBe w (length u)) u t) (be-toBe-at s w (length u) (u ++ t) fits) in
       let l : length (s ++ ((toBe w (length u) ++ u) ++ t)) ≡ length s + (w + length u + length t) =
-          simp (length-append, length-toBe) in
+      simp (length-append, length-toBe) in
       chunk-there w (s ++ ((toBe w (length u) ++ u) ++ t)) (length s) (omega arith) ∙ rw n
 
   pub held-toChunk : held (s ++ (toChunk w u ++ t)) (record { start = length s + w; len = length u }) ≡ u

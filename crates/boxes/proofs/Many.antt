@@ -43,7 +43,7 @@ module _ {A : Type 0} (P : Parser A) (s : List ℕ) (advances : Advances P s) wh
 
   -- what holds at the end, and where P refuses, and before a step where it holds behind it, holds everywhere
   module _ (M : ℕ → Type 0) (nil : (p : ℕ) → length s ≤ p → M p) (bad : (p e : ℕ) → p < length s → P s p ≡ refused e → M p)
-    (step : (p : ℕ) (a : A) (q : ℕ) → p < length s → P s p ≡ value a q → M q → M p) where
+      (step : (p : ℕ) (a : A) (q : ℕ) → p < length s → P s p ≡ value a q → M q → M p) where
     at : (p : ℕ) → ((q : ℕ) → p < q → M q) → p < length s → (x : Parsed A) → P s p ≡ x → M p
     at p rest h (refused e) w = bad p e h w
     at p rest h (value a q) w = step p a q h w (rest q (advances p a q w))

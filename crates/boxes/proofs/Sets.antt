@@ -1,5 +1,5 @@
 -- Laws of `sets`, what a run of stores leaves: stores one behind the other, in another order, and from the front on.
-use Prim.Native.Nat.{ℕ, zero, suc, _+_, _-_, _/_, _%_, _≤_, _<_}
+use Prim.Native.Nat.{ℕ, suc, _+_, _-_, _/_, _%_, _≤_, _<_}
 use mathlib.Core.Path.{_≡_, refl, sym, ap, _∙_}
 use mathlib.Core.List.{List, [], _∷_, _++_, append-nil, append-assoc}
 use native.Mathlib.Omega.{arith}
@@ -41,12 +41,15 @@ sets-copied d u ys i h e =
     let z : drop (length d - i) (drop i d) ≡ [] = drop-of-length-le (drop i d) {i = length d - i} (omega arith) in
     rw (e, t, z, take-length u, drop-drop (length u) i d, append-nil) (sym (append-assoc (take i d) u (drop (i + length u) d)) ∙ sym (sets-eq u d i h))
 
--- the last byte of a number is stored first, then the others in front of it
-pub sets-toBe : (d : List ℕ) (i k n : ℕ) → 0 < k → sets (set d (i + (k - 1)) (n % 256)) i (toBe (k - 1) (n / 256)) ≡ sets d i (toBe k n)
+-- of the w bytes of a number the last k are stored, and the one before them comes next
+last-byte : (d : List ℕ) (i m n : ℕ) → sets (set d (i + m) (n % 256)) i (toBe m (n / 256)) ≡ sets d i (toBe (suc m) n)
 unfolding toBe
-sets-toBe d i zero n h = absurd (omega arith)
-sets-toBe d i (suc k) n h =
-    let e : suc k - 1 ≡ k = omega arith in
-    rw e
-    (let l : k ≡ length (toBe k (n / 256)) = sym (length-toBe k (n / 256)) in
-    ap (λ (j : ℕ). sets (set d (i + j) (n % 256)) i (toBe k (n / 256))) l ∙ sets-last d i (toBe k (n / 256)) (n % 256))
+last-byte d i m n =
+    ap (λ (j : ℕ). sets (set d (i + j) (n % 256)) i (toBe m (n / 256))) (sym (length-toBe m (n / 256))) ∙ sets-last d i (toBe m (n / 256)) (n % 256)
+
+pub sets-toBe : (d : List ℕ) (i w k n : ℕ) → k < w
+    → sets (set d (i + w - (k + 1)) (n % 256)) i (toBe (w - (k + 1)) (n / 256)) ≡ sets d i (toBe (w - k) n)
+sets-toBe d i w k n h =
+    let e : w - k ≡ suc (w - (k + 1)) = omega arith in
+    let f : i + w - (k + 1) ≡ i + (w - (k + 1)) = omega arith in
+    rw (e, f) (last-byte d i (w - (k + 1)) n)

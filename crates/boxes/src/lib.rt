@@ -2,7 +2,6 @@
 pub mod place;
 
 use error::Refusal;
-
 ghost use mathlib.Core.Path.{_≡_};
 ghost use Rattle.boxes.specs.Answers.{fieldOf, fieldAt};
 

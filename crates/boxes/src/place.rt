@@ -1,6 +1,5 @@
 // For the crates further down: bytes and numbers at a place that is known to be there, read and written.
 use super::Span;
-
 ghost use mathlib.Core.Path.{_≡_};
 ghost use Prim.Native.Nat.{_+_, _≤_, _<_, _^_};
 ghost use lib.ListN.{length, getD, set};
@@ -61,10 +60,11 @@ pub fn put_number(out: &mut [u8], at: usize, width: usize, v: usize)
     ensures { λ _. ⌜ now (out .exit) ≡ sets (now (out .entry)) at (toBe width v) ⌝ }
 {
     let mut n = v;
-    let mut k = width;
-    while 0 < k {
-        k -= 1;
-        out[at + k] = (n % 256) as u8;
+    let mut k: usize = 0;
+    while k < width {
+        k += 1;
+        let i = at + width - k;
+        out[i] = (n % 256) as u8;
         n = n / 256;
     }
 }

@@ -1,7 +1,7 @@
 -- Laws of items: the unit at a place by cases, the walk from it, and where the units of an accepted item lie.
 use Prim.Native.Nat.{ℕ, zero, suc, _+_, _-_, _^_, _≤_, _<_}
 use mathlib.Core.Path.{_≡_, refl, sym, ap, _∙_}
-use mathlib.Core.Logic.{_⊎_, ⊎-elim}
+use mathlib.Core.Logic.{_⊎_, ⊎-elim, inl, inr}
 use mathlib.Core.List.{List, [], _∷_}
 use native.Mathlib.Omega.{arith}
 use native.Mathlib.Decide.{decLe}
@@ -14,12 +14,16 @@ use Rattle.error.specs.Parse.{Parsed, value, refused, bind, many, outcome}
 use Rattle.boxes.specs.Bytes.{be}
 use Rattle.boxes.specs.Walk.{more, countFound, found}
 use Rattle.boxes.specs.declared.Span.{Span}
+use Rattle.boxes.proofs.Walk.{total, total-count}
 use Rattle.boxes.proofs.Fields.{uint-there, uint-short, bytes-there, bytes-short}
 use Rattle.boxes.proofs.Many.{Advances, many-nil, many-bad, many-step, many-induction}
 use Rattle.hvcc.specs.Item.{itemUnit, itemUnits, splitItem}
 use Rattle.hvcc.specs.Answers.{leftOf, stepped, Found, Onward}
 use Rattle.hvcc.specs.declared.ItemStep.{ItemStep}
 use Rattle.hvcc.specs.declared.ItemStep.the-variants as I
+use types.Run.{OneOf}
+use denote.Enum.Declared.{tagOf}
+use Rattle.hvcc.proofs.ItemStep.{the-type}
 use Rattle.hvcc.proofs.Spans.{Apart}
 
 -- ### the unit at a place
@@ -164,12 +168,51 @@ module _ (size : ℕ) (s : List ℕ) where
 
 -- ### what a step says
 
+-- a turn of a walk: the unit found from place p on, in front of what is left behind it
+pub record Turn (size : ℕ) (s : List ℕ) (p : ℕ) (a : Span) (next : ℕ) : Type 0 where
+  pub here : Found s p a next
+  pub rest : leftOf size s p ≡ more a (leftOf size s next)
+
 module _ (size : ℕ) (s : List ℕ) (p : ℕ) (r : ItemStep) (said : (stepped size s r ≡ leftOf size s p) × Onward s p r) where
-  pub found-unit : (a : Span) (next : ℕ) → r ≡ I.Unit a next → Found s p a next × (leftOf size s p ≡ more a (leftOf size s next))
-  found-unit a next e = (rw e at (said .1), sym (said .0) ∙ ap (stepped size s) e)
+  pub found-unit : (a : Span) (next : ℕ) → r ≡ I.Unit a next → Turn size s p a next
+  found-unit a next e = record { here = rw e at (said .1); rest = sym (said .0) ∙ ap (stepped size s) e }
 
   pub found-end : r ≡ I.End → leftOf size s p ≡ accept []
   found-end e = sym (said .0) ∙ ap (stepped size s) e
 
   pub found-refusal : (e : Refusal) → r ≡ I.Refused e → leftOf size s p ≡ refuse (numberOf e)
   found-refusal e w = sym (said .0) ∙ ap (stepped size s) w
+
+-- a step that found no unit: there is none
+pub found-none : (size : ℕ) (s : List ℕ) (p : ℕ) (r : ItemStep) → stepped size s r ≡ leftOf size s p → OneOf (1 ∷ 2 ∷ []) (tagOf the-type r) → total (leftOf size s p) ≡ 0
+found-none size s p (I.Unit a next) e k = absurd (⊎-elim (λ h. omega arith) (λ h. omega arith) k)
+found-none size s p I.End e k = ap total (sym e)
+found-none size s p (I.Refused x) e k = ap total (sym e)
+
+-- what an accepted split says of its input, and of what is left from the first place on
+pub record Sound (size : ℕ) (s : List ℕ) (n : ℕ) : Type 0 where
+  pub some : 1 ≤ size
+  pub four : size ≤ 4
+  pub lent : length s ≤ 2 ^ 30
+  pub whole : splitItem size s ≡ leftOf size s 0
+  pub count : total (leftOf size s 0) ≡ n
+
+pub split-sound : (size : ℕ) (s : List ℕ) (n : ℕ) → countFound (splitItem size s) ≡ accept n → Sound size s n
+split-sound size s n e =
+    elim (decLe (length s) (2 ^ 30)) [
+      | no k ↦ never 23 (split-too-long size s (omega arith))
+      | yes k ↦
+        elim (decLe size 0) [
+          | yes z ↦ never 4 (split-size size s k (inl (omega arith)))
+          | no z ↦
+            elim (decLe size 4) [
+              | no f ↦ never 4 (split-size size s k (inr (omega arith)))
+              | yes f ↦ (
+                let w = split-left size s k (omega arith) f in
+                record { some = omega arith; four = f; lent = k; whole = w; count = total-count (leftOf size s 0) n (rw w at e) })
+            ]
+        ]
+    ]
+  where
+    never : (m : ℕ) → splitItem size s ≡ refuse m → Sound size s n
+    never m w = let z : _≡_ {A = ℕ} 0 1 = cc (ap countFound w) in absurd (omega arith)

@@ -1,2 +1,4 @@
 pub mod Spans
+pub mod Walks
 pub mod Items
+pub mod Trim

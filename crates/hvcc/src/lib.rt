@@ -5,6 +5,7 @@ use boxes::Span;
 use boxes::place;
 use error::Counted;
 use error::Refusal;
+use nal::start_code;
 
 ghost use mathlib.Core.Path.{_≡_};
 ghost use Prim.Native.Nat.{_+_, _≤_};
@@ -13,6 +14,8 @@ ghost use Rattle.error.specs.Answers.{countOf};
 ghost use Rattle.boxes.specs.Parts.{PartOf};
 ghost use Rattle.boxes.specs.Walk.{countFound, found};
 ghost use Rattle.hvcc.specs.Item.{splitItem};
+ghost use Rattle.hvcc.specs.Stream.{splitStream};
+ghost use Rattle.hvcc.specs.Answers.{nextOf, nextGiven};
 
 // One step of a walk over an item: a unit and the place behind it, the end, or a refusal.
 pub enum ItemStep {
@@ -61,4 +64,82 @@ fn item_unit(item: &[u8], length_size: u8, k: usize) -> Span
         return Span { start: 0, len: 0 };
     }
     walk::unit_at(item, place::wide(length_size), k)
+}
+
+// The first unit whose start code stands at or after a place, and the place behind it, to go on from. Refusal: 23.
+pub fn next_unit(stream: &[u8], from: usize) -> NextUnit
+    ensures { λ r. ⌜ nextOf r ≡ nextGiven (now (stream .entry)) from ⌝ }
+{
+    if 0x4000_0000 < stream.len() {
+        return NextUnit::Refused(Refusal::InputTooLong);
+    }
+    if stream.len() <= from {
+        return NextUnit::End;
+    }
+    let mut code = start_code::start_code(stream, from);
+    'walk: loop {
+        if stream.len() <= code {
+            break 'walk;
+        }
+        let start = code + 3;
+        code = start_code::start_code(stream, start);
+        let len = walk::trimmed(stream, start, code);
+        if 0 < len {
+            let unit = Span { start: start, len: len };
+            return NextUnit::Unit(unit, start + len);
+        }
+    }
+    NextUnit::End
+}
+
+// How many units a stream has. Refusal: 23.
+pub fn split_annex_b_count(stream: &[u8]) -> Counted
+    ensures { λ r. ⌜ countOf r ≡ countFound (splitStream (now (stream .entry))) ⌝ }
+{
+    let mut at: usize = 0;
+    let mut n: usize = 0;
+    'walk: loop {
+        let next = next_unit(stream, at);
+        match next {
+            NextUnit::Unit(_, behind) => {
+                n += 1;
+                at = behind;
+            }
+            NextUnit::End => {
+                break 'walk;
+            }
+            NextUnit::Refused(e) => {
+                return Counted::Refused(e);
+            }
+        }
+    }
+    Counted::Count(n)
+}
+
+// Unit k of a stream, a part of it; the empty part past the last unit and on a refusal.
+pub fn split_annex_b(stream: &[u8], k: usize) -> &[u8]
+    ensures { λ r. ⌜ PartOf r (stream .entry) (found (splitStream (now (stream .entry))) k) ⌝ }
+{
+    let unit = stream_unit(stream, k);
+    place::part(stream, unit)
+}
+
+// Where unit k of a stream lies.
+fn stream_unit(stream: &[u8], k: usize) -> Span
+    ensures { λ r. ⌜ (r ≡ found (splitStream (now (stream .entry))) k) × (r .start + r .len ≤ length (now (stream .entry))) ⌝ }
+{
+    let mut at: usize = 0;
+    let mut left = k;
+    let unit = 'walk: loop {
+        let next = next_unit(stream, at);
+        let NextUnit::Unit(a, behind) = next else {
+            break 'walk Span { start: 0, len: 0 };
+        };
+        if left == 0 {
+            break 'walk a;
+        }
+        left -= 1;
+        at = behind;
+    };
+    unit
 }

@@ -1,4 +1,4 @@
-// For the crates further down: one step of a walk over an item.
+// For the crates further down: the steps of the walks over items and streams.
 use super::ItemStep;
 use boxes::Span;
 use boxes::place;
@@ -6,11 +6,12 @@ use error::Counted;
 use error::Refusal;
 
 ghost use mathlib.Core.Path.{_≡_};
-ghost use Prim.Native.Nat.{_+_, _≤_, _<_, _^_};
-ghost use lib.ListN.{length};
+ghost use Prim.Native.Nat.{_+_, _-_, _≤_, _<_, _^_};
+ghost use lib.ListN.{length, take, drop};
 ghost use Rattle.error.specs.Answers.{countOf};
 ghost use Rattle.boxes.specs.Walk.{countFound, found};
 ghost use Rattle.boxes.proofs.Walk.{total};
+ghost use Rattle.hvcc.specs.Stream.{trim};
 ghost use Rattle.hvcc.specs.Answers.{leftOf, stepped, Onward};
 
 // The unit whose length stands at a place of an item, and the place behind it.
@@ -81,4 +82,22 @@ pub fn unit_at(item: &[u8], size: usize, k: usize) -> Span
         at = next;
     };
     unit
+}
+
+// How many of the bytes between two places are left without the trailing zeros.
+pub fn trimmed(s: &[u8], from: usize, to: usize) -> usize
+    requires { ⌜ (from ≤ to) × (to ≤ length (now s)) ⌝ }
+    ensures { λ r. ⌜ (r ≡ length (trim (take (to - from) (drop from (now (s .entry)))))) × (from + r ≤ to) ⌝ }
+{
+    let mut end = to;
+    let kept = loop {
+        if end <= from {
+            break 0;
+        }
+        if s[end - 1] != 0 {
+            break end - from;
+        }
+        end -= 1;
+    };
+    kept
 }

@@ -3,7 +3,6 @@ pub mod header;
 pub mod start_code;
 
 use error::Refusal;
-
 ghost use mathlib.Core.Path.{_≡_};
 ghost use Rattle.nal.specs.Header.{layerId, unitType, temporalIdPlus1, nalHeader};
 ghost use Rattle.nal.specs.Kinds.{unitKind, isPictureData, isRecordKind};
@@ -11,13 +10,21 @@ ghost use Rattle.nal.specs.Answers.{headerOf, headerPart, checkOf, check
 
 // The unit types that are named in this build, after the original.
 pub const NAL_IDR_N_LP: u8 = 8;
+
 pub const NAL_OPI: u8 = 12;
+
 pub const NAL_DCI: u8 = 13;
+
 pub const NAL_VPS: u8 = 14;
+
 pub const NAL_SPS: u8 = 15;
+
 pub const NAL_PPS: u8 = 16;
+
 pub const NAL_PREFIX_APS: u8 = 17;
+
 pub const NAL_AUD: u8 = 20;
+
 pub const NAL_PREFIX_SEI: u8 = 23;
 
 // A part of a unit's header; the original's `Option`.

@@ -1,4 +1,9 @@
 // Profile, tier and level: the record, and reading it from the bits of a parameter set.
+pub mod bits;
+pub mod constraints;
+pub mod sublayers;
+pub mod sub_profiles;
+
 use error::Refusal;
 use rbsp::BitPosition;
 

@@ -1,19 +1,16 @@
-use Prim.Native.Nat.{ℕ, zero, suc, _+_, _*_, _-_, _/_, _%_, _^_, _≤_, _<_}
-use mathlib.Core.Path.{_≡_, refl, sym, ap, _∙_, subst}
-use mathlib.Core.List.{List, [], _∷_, _++_}
-use mathlib.Core.Logic.{⊎-elim}
+-- `walk::count_units` counts the units of an item. The loop's invariant: those passed and those left are all.
+use Prim.Native.Nat.{ℕ, _+_, _-_, _≤_, _<_}
+use mathlib.Core.Path.{_≡_}
 use native.Mathlib.Omega.{arith}
 use borrow.Author.Needs.{needs}
-use lib.ListN.{length, getD, take, drop}
-use Rattle.boxes.specs.Walk.{countFound, more, found}
-use Rattle.boxes.proofs.Walk.{plus, plus-zero, count-more}
-use Rattle.hvcc.specs.Answers.{leftOf, stepped, Found, Onward}
-use Rattle.hvcc.proofs.Items.{found-unit, found-end, found-refusal}
+use lib.ListN.{length}
+use Rattle.boxes.specs.Walk.{countFound}
+use Rattle.boxes.proofs.Walk.{plus, plus-zero}
+use Rattle.hvcc.specs.Answers.{leftOf}
+use Rattle.hvcc.proofs.Walks.{count-on, count-end, count-refused}
+use Rattle.hvcc.proofs.Items.{Turn, found-unit, found-end, found-refusal}
 use Rattle.hvcc.proofs.walk.count_units.Statement.{statement}
 use Rattle.hvcc.proofs.walk.count_units.Tie as tie
-use Rattle.hvcc.proofs.walk.count_units.Reads as reads
-use Rattle.hvcc.proofs.walk.count_units.Lts as lts
-use Rattle.hvcc.proofs.walk.item_step.Reads as item-step-reads
 
 abbrev Inv-walk : tie.InvT-walk
 Inv-walk item size at₀ n₀ at n = (at ≤ length item) × (n ≤ at) × (plus n (countFound (leftOf size item at)) ≡ countFound (leftOf size item 0))
@@ -21,45 +18,47 @@ Inv-walk item size at₀ n₀ at n = (at ≤ length item) × (n ≤ at) × (plus
 abbrev μ-walk : tie.MeasureT-walk
 μ-walk item size at₀ n₀ at n = length item - at
 
--- src/walk.rt:47:5
 walk-holds : tie.Need-walk-holds Inv-walk μ-walk
 walk-holds c = (omega arith, omega arith, plus-zero _)
 
--- src/walk.rt:48:13
 item-step-requires : tie.Need-item-step-requires Inv-walk μ-walk
 item-step-requires c κs = search needs
 
--- src/walk.rt:50:31
 enum-known-step : tie.Need-enum-known-step Inv-walk μ-walk
 enum-known-step c = search needs
 
--- src/walk.rt:51:17
+-- the unit that the step found
+unit-at : (c : tie.After-known-told Inv-walk μ-walk)
+    → Turn (c .before .before .before .before .before .before .args .size) (c .before .before .before .before .before .before .args .item .now)
+    (c .before .before .before .before .walk .at) (c .before .step .given .0 .0) (c .before .step .given .0 .1 .0)
+unit-at c = found-unit _ _ _ _ (c .before .before .before .item-step .ensures) _ _ (c .before .step .given .1)
+
 add-n : tie.Need-add-n Inv-walk μ-walk
-add-n c = ?
+add-n c = let f = unit-at c in omega arith
 
--- src/walk.rt:47:5
 walk-less : tie.Need-walk-less Inv-walk μ-walk
-walk-less c = ?
+walk-less c = let f = unit-at c in omega arith
 
--- src/walk.rt:47:5
 walk-again : tie.Need-walk-again Inv-walk μ-walk
-walk-again c = ?
+walk-again c =
+    let f = unit-at c in
+    (omega arith, omega arith, count-on _ _ _ (c .before .before .before .before .walk .inv .2) (c .before .step .given .0 .0) (leftOf _ _ (c .before .step .given .0 .1 .0)) (f .rest))
 
--- src/walk.rt:55:17
 enum-told : tie.Need-enum-told Inv-walk μ-walk
 enum-told c = search needs
 
--- src/walk.rt:57:31
 enum-known-step-2 : tie.Need-enum-known-step-2 Inv-walk μ-walk
 enum-known-step-2 c = search needs
 
--- src/walk.rt:58:17
 returns : tie.Need-returns Inv-walk μ-walk
-returns c = ?
+returns c =
+    count-refused _ _ _ (c .before .before .before .before .walk .inv .2) _
+    (found-refusal _ _ _ _ (c .before .before .before .item-step .ensures) _ (c .before .step2 .given .1))
 
--- src/walk.rt:41:1
 returns-2 : tie.Need-returns-2 Inv-walk μ-walk
-returns-2 c = ?
+returns-2 c =
+    count-end _ _ _ (c .before .before .before .walk .inv .2)
+    (found-end _ _ _ _ (c .before .before .item-step .ensures) (c .enum-told .given .1))
 
 pub count-units-spec : {M : Type 1} → statement M
 count-units-spec =

@@ -1,53 +1,61 @@
-use Prim.Native.Nat.{ℕ, zero, suc, _+_, _*_, _-_, _/_, _%_, _^_, _≤_, _<_}
-use mathlib.Core.Path.{_≡_, refl, sym, ap, _∙_, subst}
-use mathlib.Core.List.{List, [], _∷_, _++_}
-use mathlib.Core.Logic.{⊎-elim}
+-- `walk::unit_at` finds unit k of an item. The loop's invariant: what is left has more than `left` units, and unit `left` of it is unit k.
+use Prim.Native.Nat.{ℕ, _+_, _-_, _≤_, _<_}
+use mathlib.Core.Path.{_≡_}
 use native.Mathlib.Omega.{arith}
 use borrow.Author.Needs.{needs}
-use lib.ListN.{length, getD, take, drop}
+use lib.ListN.{length}
+use Rattle.boxes.specs.Walk.{found}
+use Rattle.boxes.proofs.Walk.{total}
+use Rattle.hvcc.specs.Answers.{leftOf}
+use Rattle.hvcc.proofs.Walks.{find-here, find-on}
+use Rattle.hvcc.proofs.Items.{Turn, found-unit, found-none}
 use Rattle.hvcc.proofs.walk.unit_at.Statement.{statement}
 use Rattle.hvcc.proofs.walk.unit_at.Tie as tie
-use Rattle.hvcc.proofs.walk.unit_at.Reads as reads
-use Rattle.hvcc.proofs.walk.unit_at.Lts as lts
-use Rattle.hvcc.proofs.walk.item_step.Reads as item-step-reads
 
 abbrev Inv-walk : tie.InvT-walk
-Inv-walk item size k at₀ left₀ at left = ?
+Inv-walk item size k at₀ left₀ at left = (at ≤ length item) × (left < total (leftOf size item at)) × (found (leftOf size item at) left ≡ found (leftOf size item 0) k)
 
 abbrev μ-walk : tie.MeasureT-walk
-μ-walk item size k at₀ left₀ at left = ?
+μ-walk item size k at₀ left₀ at left = length item - at
 
--- src/walk.rt:72:9
 walk-holds : tie.Need-walk-holds Inv-walk μ-walk
 walk-holds c = search needs
 
--- src/walk.rt:73:13
 item-step-requires : tie.Need-item-step-requires Inv-walk μ-walk
 item-step-requires c κs = search needs
 
--- src/walk.rt:74:28
 enum-known-step : tie.Need-enum-known-step Inv-walk μ-walk
 enum-known-step c = search needs
 
--- src/walk.rt:80:9
+-- the unit that the step found
+unit-here : (c : tie.After-known-told Inv-walk μ-walk)
+    → Turn (c .before .before .before .before .before .before .args .size) (c .before .before .before .before .before .before .args .item .now)
+    (c .before .before .before .before .walk .at) (c .before .step .given .0 .0) (c .before .step .given .0 .1 .0)
+unit-here c = found-unit _ _ _ _ (c .before .before .before .item-step .ensures) _ _ (c .before .step .given .1)
+
 sub-left : tie.Need-sub-left Inv-walk μ-walk
 sub-left c = search needs
 
--- src/walk.rt:72:9
 walk-less : tie.Need-walk-less Inv-walk μ-walk
-walk-less c = search needs
+walk-less c = let f = unit-here (c .before) in omega arith
 
--- src/walk.rt:72:9
 walk-again : tie.Need-walk-again Inv-walk μ-walk
-walk-again c = search needs
+walk-again c =
+    let f = unit-here (c .before) in
+    let l = c .before .before .before .before .before .walk in
+    let w = find-on (l .left) _ _ (l .inv .1) (l .inv .2) (c .before .before .step .given .0 .0) (leftOf _ _ (c .before .before .step .given .0 .1 .0)) (f .rest) (c .if1 .left) in
+    (omega arith, w .0, w .1)
 
--- src/walk.rt:66:1
 returns : tie.Need-returns Inv-walk μ-walk
-returns c = search needs
+returns c =
+    let z = found-none _ _ _ (c .before .item-step .result) (c .before .item-step .ensures .0) (c .match .keys2) in
+    absurd (omega arith)
 
--- src/walk.rt:66:1
 returns-2 : tie.Need-returns-2 Inv-walk μ-walk
-returns-2 c = search needs
+returns-2 c =
+    let f = unit-here (c .before) in
+    let l = c .before .before .before .before .before .walk in
+    (find-here (l .left) _ _ (l .inv .1) (l .inv .2) (c .before .before .step .given .0 .0) (leftOf _ _ (c .before .before .step .given .0 .1 .0)) (f .rest) (c .if1 .taken), omega arith)
 
 pub unit-at-spec : {M : Type 1} → statement M
 unit-at-spec =

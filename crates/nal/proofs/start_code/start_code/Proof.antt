@@ -51,9 +51,9 @@ loop-again c =
     let s : List ℕ = k .before .args .s .now in
     let i : ℕ = k .loop .i in
     let none : CodeAt s i → ⊥ = λ h.
-        ⊎-elim (λ w. eqb-false _ _ (w .4 .left) (h .third))
-        (λ v. ⊎-elim (λ w. eqb-false _ _ (w .2 .left) (h .second)) (λ w. w .left (h .first)) v)
-        (c .if2 .came) in
+    ⊎-elim (λ w. eqb-false _ _ (w .4 .left) (h .third))
+    (λ v. ⊎-elim (λ w. eqb-false _ _ (w .2 .left) (h .second)) (λ w. w .left (h .first)) v)
+    (c .if2 .came) in
     let step = scan-miss s i (omega arith) none in
     (omega arith, omega arith)
 
@@ -69,12 +69,12 @@ returns-2 c =
     let s : List ℕ = k .before .args .s .now in
     let i : ℕ = k .loop .i in
     let e = scan-hit s i
-        (record {
-          inside = omega arith;
-          first = c .before .before .before .before .if2 .taken;
-          second = eqb-true _ _ (c .before .before .if3 .taken);
-          third = eqb-true _ _ (c .if4 .taken);
-        }) in
+    (record {
+      inside = omega arith;
+      first = c .before .before .before .before .if2 .taken;
+      second = eqb-true _ _ (c .before .before .if3 .taken);
+      third = eqb-true _ _ (c .if4 .taken);
+    }) in
     (omega arith, omega arith)
 
 pub start-code-spec : {M : Type 1} → statement M

@@ -17,7 +17,7 @@ wanted-requires c κs = search needs
 
 -- src/find.rt:41:9
 returns : tie.Need-returns
-returns c = search needs
+returns c = ?
 
 -- src/find.rt:45:30
 add-t9 : tie.Need-add-t9
@@ -25,7 +25,7 @@ add-t9 c = search needs
 
 -- src/find.rt:45:9
 returns-2 : tie.Need-returns-2
-returns-2 c = search needs
+returns-2 c = ?
 
 -- src/find.rt:47:19
 add-t10 : tie.Need-add-t10
@@ -33,7 +33,7 @@ add-t10 c = search needs
 
 -- src/find.rt:36:1
 returns-3 : tie.Need-returns-3
-returns-3 c = search needs
+returns-3 c = ?
 
 pub see-spec : {M : Type 1} → statement M
 see-spec = tie.close (tie.spec wanted-requires returns add-t9 returns-2 add-t10 returns-3)

@@ -24,7 +24,7 @@ returns c = search needs
 
 -- src/find.rt:26:1
 returns-2 : tie.Need-returns-2
-returns-2 c = search needs
+returns-2 c = ?
 
 pub wanted-spec : {M : Type 1} → statement M
 wanted-spec = tie.close (tie.spec enum-told enum-known-w returns returns-2)

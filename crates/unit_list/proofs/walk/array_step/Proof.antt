@@ -1,71 +1,83 @@
-use Prim.Native.Nat.{ℕ, zero, suc, _+_, _*_, _-_, _/_, _%_, _^_, _≤_, _<_}
-use mathlib.Core.Path.{_≡_, refl, sym, ap, _∙_, subst}
-use mathlib.Core.List.{List, [], _∷_, _++_}
-use mathlib.Core.Logic.{⊎-elim}
+-- `walk::array_step` reads the head of the array at a place: the arrays from there on are its units and the arrays behind it.
+use Prim.Native.Nat.{ℕ, _+_, _≤_, _<_}
+use mathlib.Core.Path.{_≡_}
+use mathlib.Core.List.{List}
 use native.Mathlib.Omega.{arith}
-use lib.ListN.{length, getD, take, drop}
+use lib.ListN.{length, take}
 use borrow.Author.Needs.{needs}
+use Rattle.error.specs.Parse.{value}
+use Rattle.boxes.specs.Bytes.{chunk}
+use Rattle.unit_list.proofs.Steps.{chunk-bytes, chunk-refused, arrays-end, arrays-unread, array-inside, arrays-short, arrays-complete, arrays-type, arrays-entered}
 use Rattle.unit_list.proofs.walk.array_step.Statement.{statement}
 use Rattle.unit_list.proofs.walk.array_step.Tie as tie
-use Rattle.unit_list.proofs.walk.array_step.Reads as reads
-use Rattle.unit_list.proofs.walk.array_step.Lts as lts
-use Rattle.unit_list.proofs.walk.chunk.Reads as chunk-reads
 
--- src/walk.rt:52:9
+left-at : (c : tie.After-rest) → c .before .before .before .before .before .args .at < length (c .before .before .before .before .before .args .list .now)
+left-at c = omega (arith, c .before .before .before .if1 .left)
+
+read-at : (c : tie.After-rest)
+    → chunk 4 (take (length (c .before .before .before .before .before .args .list .now)) (c .before .before .before .before .before .args .list .now)) (c .before .before .before .before .before .args .at)
+    ≡ value (c .rest .given .0 .0) (c .rest .given .0 .0 .start + c .rest .given .0 .0 .len)
+read-at c = chunk-bytes (c .before .before .chunk .result) _ (c .rest .given .0 .0) (c .before .before .chunk .ensures) (c .rest .given .1)
+
+inside-at : (c : tie.After-rest) → c .rest .given .0 .0 .start + c .rest .given .0 .0 .len ≤ length (c .before .before .before .before .before .args .list .now)
+inside-at c = let a = c .before .before .before .before .before .args in array-inside (a .list .now) (a .at) (left-at c) (c .rest .given .0 .0) (read-at c)
+
 returns : tie.Need-returns
-returns c = search needs
+returns c = let a = c .before .before .args in (arrays-end (a .list .now) (a .at) (omega arith), omega arith)
 
--- src/walk.rt:54:34
 chunk-requires : tie.Need-chunk-requires
 chunk-requires c κs = search needs
 
--- src/walk.rt:54:26
 enum-known-rest : tie.Need-enum-known-rest
 enum-known-rest c = search needs
 
--- src/walk.rt:55:9
 enum-told : tie.Need-enum-told
 enum-told c = search needs
 
--- src/walk.rt:55:9
 returns-2 : tie.Need-returns-2
-returns-2 c = search needs
+returns-2 c =
+    let a = c .before .before .before .before .before .args in
+    (arrays-unread (a .list .now) (a .at) (omega (arith, c .before .before .before .if1 .left)) (chunk-refused (c .before .before .chunk .result) _ (c .before .before .chunk .ensures) (c .enum-told .given .1)), tt)
 
--- src/walk.rt:58:9
 returns-3 : tie.Need-returns-3
-returns-3 c = search needs
+returns-3 c =
+    let r = c .before .before .before in
+    let a = r .before .before .before .before .before .args in
+    (arrays-short (a .list .now) (a .at) (left-at r) (r .rest .given .0 .0) (read-at r) (c .if2 .taken), tt)
 
--- src/walk.rt:61:20
 shared-slice-read-complete : tie.Need-shared-slice-read-complete
-shared-slice-read-complete c = search needs
+shared-slice-read-complete c = omega (arith, inside-at (c .before .before .before .before), c .before .if2 .left)
 
--- src/walk.rt:62:26
 add-unit-type : tie.Need-add-unit-type
-add-unit-type c = search needs
+add-unit-type c = omega (arith, inside-at (c .before .before .before .before), c .before .if2 .left)
 
--- src/walk.rt:62:21
 shared-slice-read-unit-type : tie.Need-shared-slice-read-unit-type
-shared-slice-read-unit-type c = search needs
+shared-slice-read-unit-type c = omega (arith, inside-at (c .before .before .before .before .before), c .before .before .if2 .left)
 
--- src/walk.rt:64:9
 returns-4 : tie.Need-returns-4
-returns-4 c = search needs
+returns-4 c =
+    let r = c .before .before .before .before .before .before in
+    let a = r .before .before .before .before .before .args in
+    (arrays-complete (a .list .now) (a .at) (left-at r) (r .rest .given .0 .0) (read-at r) (c .if3 .taken), tt)
 
--- src/walk.rt:67:9
 returns-5 : tie.Need-returns-5
-returns-5 c = search needs
+returns-5 c =
+    let r = c .before .before .before .before .before .before .before in
+    let a = r .before .before .before .before .before .args in
+    (arrays-type (a .list .now) (a .at) (left-at r) (r .rest .given .0 .0) (read-at r) (omega (arith, c .before .before .before .before .if2 .left)) (c .before .if3 .left) (c .if4 .taken), tt)
 
--- src/walk.rt:69:49
 add-t7 : tie.Need-add-t7
-add-t7 c = search needs
+add-t7 c = omega (arith, inside-at (c .before .before .before .before .before .before .before), c .before .before .before .before .if2 .left)
 
--- src/walk.rt:69:64
 add-t13 : tie.Need-add-t13
-add-t13 c = search needs
+add-t13 c = omega (arith, inside-at (c .before .before .before .before .before .before .before .before))
 
--- src/walk.rt:47:1
 returns-6 : tie.Need-returns-6
-returns-6 c = search needs
+returns-6 c =
+    let r = c .before .before .before .before .before .before .before .before in
+    let b = r .before .before .before .before .before in
+    let a = b .args in
+    arrays-entered (a .list .now) (a .at) (left-at r) (r .rest .given .0 .0) (read-at r) (omega (arith, c .before .before .before .before .before .if2 .left)) (c .before .before .if3 .left) (b .pre .1) (c .before .if4 .left)
 
 pub array-step-spec : {M : Type 1} → statement M
 array-step-spec =

@@ -1,31 +1,35 @@
-use Prim.Native.Nat.{ℕ, zero, suc, _+_, _*_, _-_, _/_, _%_, _^_, _≤_, _<_}
-use mathlib.Core.Path.{_≡_, refl, sym, ap, _∙_, subst}
-use mathlib.Core.List.{List, [], _∷_, _++_}
-use mathlib.Core.Logic.{⊎-elim}
+-- `walk::start` stands behind the version of a list, in front of all its units.
+use Prim.Native.Nat.{ℕ, suc, _≤_, _<_}
+use mathlib.Core.Path.{_≡_, sym, _∙_}
+use mathlib.Core.List.{List, [], _∷_}
 use native.Mathlib.Omega.{arith}
-use lib.ListN.{length, getD, take, drop}
+use lib.ListN.{length, getD}
 use borrow.Author.Needs.{needs}
+use Rattle.unit_list.proofs.Left.{list-too-long, list-versionless, left-start}
 use Rattle.unit_list.proofs.walk.start.Statement.{statement}
 use Rattle.unit_list.proofs.walk.start.Tie as tie
-use Rattle.unit_list.proofs.walk.start.Reads as reads
-use Rattle.unit_list.proofs.walk.start.Lts as lts
-use Rattle.boxes.proofs.place.byte.Reads as byte-reads
 
--- src/walk.rt:38:9
+-- a list whose first byte is 1 has one
+has-byte : (s : List ℕ) → getD s 0 0 ≡ 1 → 1 ≤ length s
+has-byte [] e = absurd (omega arith)
+has-byte (b ∷ s) e = omega arith
+
 returns : tie.Need-returns
-returns c = search needs
+returns c = (sym (list-too-long (c .before .before .args .list .now) (omega arith)), tt)
 
--- src/walk.rt:40:8
 byte-requires : tie.Need-byte-requires
 byte-requires c κs = search needs
 
--- src/walk.rt:41:9
 returns-2 : tie.Need-returns-2
-returns-2 c = search needs
+returns-2 c =
+    let s = c .before .before .before .before .args .list .now in
+    (sym (list-versionless s (omega arith) (λ e. c .if2 .taken (c .before .byte .ensures ∙ e))), tt)
 
--- src/walk.rt:34:1
 returns-3 : tie.Need-returns-3
-returns-3 c = search needs
+returns-3 c =
+    let s : List ℕ = c .before .before .before .before .args .list .now in
+    let e : getD s 0 0 ≡ 1 = sym (c .before .byte .ensures) ∙ c .if2 .left in
+    (left-start s (omega arith) e, record { before = omega arith; within = has-byte s e; lent = omega arith })
 
 pub start-spec : {M : Type 1} → statement M
 start-spec = tie.close (tie.spec returns byte-requires returns-2 returns-3)

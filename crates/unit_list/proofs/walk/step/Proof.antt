@@ -1,66 +1,72 @@
-use Prim.Native.Nat.{ℕ, zero, suc, _+_, _*_, _-_, _/_, _%_, _^_, _≤_, _<_}
-use mathlib.Core.Path.{_≡_, refl, sym, ap, _∙_, subst}
-use mathlib.Core.List.{List, [], _∷_, _++_}
-use mathlib.Core.Logic.{⊎-elim}
+-- `walk::step` gives the next unit behind the cursor. The loop's invariant: behind `here` is left what is left behind `c`.
+use Prim.Native.Nat.{_-_, _≤_}
+use mathlib.Core.Path.{_≡_, refl}
 use native.Mathlib.Omega.{arith}
+use lib.ListN.{length}
 use borrow.Author.Needs.{needs}
-use lib.ListN.{length, getD, take, drop}
+use Rattle.unit_list.specs.Walk.{Fits, leftOf}
+use Rattle.unit_list.proofs.Left.{turn-less, turn-again, turn-end, turn-malformed, turn-unit}
 use Rattle.unit_list.proofs.walk.step.Statement.{statement}
 use Rattle.unit_list.proofs.walk.step.Tie as tie
-use Rattle.unit_list.proofs.walk.step.Reads as reads
-use Rattle.unit_list.proofs.walk.step.Lts as lts
-use Rattle.unit_list.proofs.walk.array_step.Reads as array-step-reads
-use Rattle.unit_list.proofs.walk.unit_step.Reads as unit-step-reads
 
 abbrev Inv-loop : tie.InvT-loop
-Inv-loop list here₀ here = ?
+Inv-loop list c here = Fits list here × (leftOf list here ≡ leftOf list c) × (c .at ≤ here .at)
 
 abbrev μ-loop : tie.MeasureT-loop
-μ-loop list here₀ here = ?
+μ-loop list c here = length list - here .end
 
--- src/walk.rt:92:5
 loop-holds : tie.Need-loop-holds Inv-loop μ-loop
-loop-holds c = search needs
+loop-holds c = (c .before .pre, refl, omega arith)
 
--- src/walk.rt:93:15
 array-step-requires : tie.Need-array-step-requires Inv-loop μ-loop
-array-step-requires c κs = search needs
+array-step-requires c κs = let f = c .before .before .loop .inv .0 in (f .within, f .lent)
 
--- src/walk.rt:94:33
 enum-known-first : tie.Need-enum-known-first Inv-loop μ-loop
 enum-known-first c = search needs
 
--- src/walk.rt:92:5
 loop-less : tie.Need-loop-less Inv-loop μ-loop
-loop-less c = search needs
+loop-less c =
+    let a = c .before .before .before in
+    let i = a .before in
+    let l = i .before .before in
+    let g = c .before .first .given in
+    turn-less (l .before .before .args .list .now) (l .before .before .args .c) (l .loop .here) (l .loop .inv) (i .if1 .taken) (a .array-step .result) (a .array-step .ensures) (g .0 .0) (g .0 .1 .0) (g .1)
 
--- src/walk.rt:92:5
 loop-again : tie.Need-loop-again Inv-loop μ-loop
-loop-again c = search needs
+loop-again c =
+    let a = c .before .before .before in
+    let i = a .before in
+    let l = i .before .before in
+    let g = c .before .first .given in
+    turn-again (l .before .before .args .list .now) (l .before .before .args .c) (l .loop .here) (l .loop .inv) (i .if1 .taken) (a .array-step .result) (a .array-step .ensures) (g .0 .0) (g .0 .1 .0) (g .1)
 
--- src/walk.rt:95:31
 enum-told : tie.Need-enum-told Inv-loop μ-loop
 enum-told c = search needs
 
--- src/walk.rt:95:31
 returns : tie.Need-returns Inv-loop μ-loop
-returns c = search needs
+returns c =
+    let a = c .before .before in
+    let i = a .before in
+    let l = i .before .before in
+    (turn-end (l .before .before .args .list .now) (l .before .before .args .c) (l .loop .here) (l .loop .inv) (i .if1 .taken) (a .array-step .result) (a .array-step .ensures) (c .enum-told .given .1), tt)
 
--- src/walk.rt:96:37
 enum-told-2 : tie.Need-enum-told-2 Inv-loop μ-loop
 enum-told-2 c = search needs
 
--- src/walk.rt:96:37
 returns-2 : tie.Need-returns-2 Inv-loop μ-loop
-returns-2 c = search needs
+returns-2 c =
+    let a = c .before .before in
+    let i = a .before in
+    let l = i .before .before in
+    (turn-malformed (l .before .before .args .list .now) (l .before .before .args .c) (l .loop .here) (l .loop .inv) (i .if1 .taken) (a .array-step .result) (a .array-step .ensures) (c .enum-told2 .given .1), tt)
 
--- src/walk.rt:99:5
 unit-step-requires : tie.Need-unit-step-requires Inv-loop μ-loop
-unit-step-requires c κs = search needs
+unit-step-requires c κs = c .before .before .loop .inv .0
 
--- src/walk.rt:87:1
 returns-3 : tie.Need-returns-3 Inv-loop μ-loop
-returns-3 c = search needs
+returns-3 c =
+    let l = c .before .before .before in
+    turn-unit (l .before .before .args .list .now) (l .before .before .args .c) (l .loop .here) (l .loop .inv) (c .before .if1 .left) (c .unit-step .result) (c .unit-step .ensures)
 
 pub step-spec : {M : Type 1} → statement M
 step-spec =

@@ -1,44 +1,58 @@
-use Prim.Native.Nat.{ℕ, zero, suc, _+_, _*_, _-_, _/_, _%_, _^_, _≤_, _<_}
-use mathlib.Core.Path.{_≡_, refl, sym, ap, _∙_, subst}
-use mathlib.Core.List.{List, [], _∷_, _++_}
-use mathlib.Core.Logic.{⊎-elim}
+-- `walk::unit_step` passes the unit at the cursor: the units up to the array's end are this one and those behind it.
+use Prim.Native.Nat.{ℕ, _+_, _≤_}
+use mathlib.Core.Path.{_≡_, refl}
+use mathlib.Core.List.{List}
 use native.Mathlib.Omega.{arith}
-use lib.ListN.{length, getD, take, drop}
+use lib.ListN.{length, take}
 use borrow.Author.Needs.{needs}
+use Rattle.error.specs.Parse.{value}
+use Rattle.boxes.specs.Bytes.{chunk}
+use Rattle.unit_list.proofs.Steps.{chunk-bytes, chunk-refused, units-end, units-unread, unit-inside, units-next, unit-passed}
 use Rattle.unit_list.proofs.walk.unit_step.Statement.{statement}
 use Rattle.unit_list.proofs.walk.unit_step.Tie as tie
-use Rattle.unit_list.proofs.walk.unit_step.Reads as reads
-use Rattle.unit_list.proofs.walk.unit_step.Lts as lts
-use Rattle.unit_list.proofs.walk.chunk.Reads as chunk-reads
 
--- src/walk.rt:78:9
+read-at : (c : tie.After-a)
+    → chunk 4 (take (c .before .before .before .before .before .before .args .c .end) (c .before .before .before .before .before .before .args .list .now)) (c .before .before .before .before .before .before .args .c .at)
+    ≡ value (c .a .given .0 .0) (c .a .given .0 .0 .start + c .a .given .0 .0 .len)
+read-at c = chunk-bytes (c .before .before .chunk .result) _ (c .a .given .0 .0) (c .before .before .chunk .ensures) (c .a .given .1)
+
 returns : tie.Need-returns
-returns c = search needs
+returns c =
+    let b = c .before .before .before in
+    (units-end (b .args .list .now) (b .args .c) (b .pre) (c .if1 .taken), c .if1 .taken)
 
--- src/walk.rt:80:31
 chunk-requires : tie.Need-chunk-requires
 chunk-requires c κs = search needs
 
--- src/walk.rt:80:26
 enum-known-a : tie.Need-enum-known-a
 enum-known-a c = search needs
 
--- src/walk.rt:81:9
 enum-told : tie.Need-enum-told
 enum-told c = search needs
 
--- src/walk.rt:81:9
 returns-2 : tie.Need-returns-2
-returns-2 c = search needs
+returns-2 c =
+    let i = c .before .before .before in
+    let b = i .before .before .before in
+    (units-unread (b .args .list .now) (b .args .c) (b .pre) (i .if1 .left) (chunk-refused (c .before .before .chunk .result) _ (c .before .before .chunk .ensures) (c .enum-told .given .1)), tt)
 
--- src/walk.rt:83:40
 add-t6 : tie.Need-add-t6
-add-t6 c = search needs
+add-t6 c =
+    let r = c .before .before in
+    let i = r .before .before .before in
+    let b = i .before .before .before in
+    let h = unit-inside (b .args .list .now) (b .args .c) (b .pre) (i .if1 .left) (r .a .given .0 .0) (read-at r) in
+    omega (arith, b .pre .within, b .pre .lent)
 
--- src/walk.rt:73:1
 returns-3 : tie.Need-returns-3
-returns-3 c = search needs
+returns-3 c =
+    let r = c .before .before in
+    let i = r .before .before .before in
+    let b = i .before .before .before in
+    (units-next (b .args .list .now) (b .args .c) (b .pre) (i .if1 .left) (r .a .given .0 .0) (read-at r),
+    (unit-passed (b .args .list .now) (b .args .c) (b .pre) (i .if1 .left) (r .a .given .0 .0) (read-at r), refl, refl))
 
 pub unit-step-spec : {M : Type 1} → statement M
 unit-step-spec =
-    tie.close (tie.spec returns chunk-requires enum-known-a enum-told returns-2 add-t6 returns-3)
+    tie.close
+    (tie.spec returns chunk-requires enum-known-a enum-told returns-2 add-t6 returns-3)

@@ -38,7 +38,7 @@ same-length c = search needs
 
 -- src/write.rt:12:1
 returns : tie.Need-returns
-returns c = search needs
+returns c = ?
 
 pub put-array-head-spec : {M : Type 1} → statement M
 put-array-head-spec =

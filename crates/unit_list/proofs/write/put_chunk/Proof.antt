@@ -30,7 +30,7 @@ same-length c = search needs
 
 -- src/write.rt:22:1
 returns : tie.Need-returns
-returns c = search needs
+returns c = ?
 
 pub put-chunk-spec : {M : Type 1} → statement M
 put-chunk-spec =

@@ -1,0 +1,57 @@
+-- profile_tier_level( 1, s ) in the sections that the code reads one by one; a law says that they make up the whole.
+use mathlib.Core.Bool.{false}
+use Prim.Native.Nat.{ℕ}
+use lib.Dec.{ltb}
+use lib.ListN.{length}
+use Rattle.error.specs.Logic.{if_then_else_}
+use Rattle.error.specs.Parse.{Parsed, value, refused, Parser, _>>=_, _>>_, give, here, times}
+use Rattle.error.specs.Refusals.{numberOf}
+use Rattle.rbsp.specs.Bits.{u, isSet}
+use Rattle.ptl.specs.Ptl.{padded, presentFlags, levels, generalConstraintsInfo, constraintBytes}
+use Rattle.ptl.specs.declared.PtlAnswer.{PtlAnswer}
+use Rattle.ptl.specs.declared.PtlAnswer.the-variants as A
+use Rattle.ptl.specs.declared.bits.General.{General}
+use Rattle.ptl.specs.declared.constraints.Constraints.{Constraints}
+use Rattle.ptl.specs.declared.sublayers.Sublayers.{Sublayers}
+use Rattle.ptl.specs.declared.sub_profiles.SubProfiles.{SubProfiles}
+
+-- what an answer says with what stands beside it; on a refusal nothing is said of that
+abbrev pub partOf : {A : Type 0} → PtlAnswer → A → Parsed A
+partOf (A.Read q) a = value a (q .0)
+partOf (A.Refused e) a = refused (numberOf e)
+
+-- profile, tier and level
+unfoldable pub general : Parser General
+general = do
+  profile ← u 7
+  tier ← u 1
+  level ← u 8
+  give (record { «general_profile_idc» = profile; «general_tier_flag» = isSet tier; «general_level_idc» = level })
+
+-- the two flags and the constraint information
+unfoldable pub constraints : Parser Constraints
+constraints = do
+  from ← here
+  frameOnly ← u 1
+  multilayer ← u 1
+  generalConstraintsInfo
+  constraint ← constraintBytes from
+  give (record {
+    «ptl_frame_only_constraint_flag» = isSet frameOnly;
+    «ptl_multilayer_enabled_flag» = isSet multilayer;
+    «num_bytes_constraint_info» = length constraint;
+    «general_constraint_info» = padded 63 0 constraint })
+
+-- the present flags and the levels
+unfoldable pub sublayers : ℕ → Parser Sublayers
+sublayers s = do
+  flags ← if ltb 0 s then u 8 else give 0
+  idcs ← levels (u 8) s flags
+  give (record { «sublayer_level_present_flag» = padded 7 false (presentFlags s flags); «sublayer_level_idc» = padded 7 0 idcs })
+
+-- the count of sub-profiles, and the sub-profiles
+unfoldable pub subProfiles : Parser SubProfiles
+subProfiles = do
+  n ← u 8
+  subs ← times n (u 32)
+  give (record { «num_sub_profiles» = n; «general_sub_profile_idc» = padded 255 0 subs })

@@ -1,0 +1,118 @@
+-- Laws of what is left behind a cursor: from the start of a list to its end, step by step.
+use Prim.Native.Nat.{ℕ, _+_, _-_, _^_, _≤_, _<_}
+use mathlib.Core.Path.{_≡_, refl, sym, ap, _∙_, subst}
+use mathlib.Core.List.{List, [], _∷_, _++_}
+use native.Mathlib.Omega.{arith}
+use lib.ListN.{length, getD, take, length-take}
+use lib.Seq.{take-length}
+use borrow.Author.Tests.{le-leb, lt-leb, eq-eqb, ne-eqb}
+use Rattle.error.specs.Outcome.{Outcome, accept, refuse, andThen}
+use Rattle.error.specs.Parse.{Parsed, value, refused, many, outcomeOr}
+use Rattle.boxes.specs.Bytes.{chunk}
+use Rattle.boxes.specs.Walk.{more}
+use Rattle.boxes.specs.declared.Span.{Span}
+use Rattle.boxes.proofs.Fields.{uint-there, uint-short, chunk-read, chunk-advances}
+use Rattle.unit_list.specs.UnitList.{Array, array, unitList, decode}
+use Rattle.unit_list.specs.Walk.{typed, typedUnits, typedList, leftOf, unitsFrom, arraysFrom, arraysStepped, unitsStepped, stepped, Fits, Entered, ArrayStepFits, UnitStepFits, StepFits}
+use Rattle.unit_list.specs.declared.ListCursor.{ListCursor}
+use Rattle.unit_list.specs.declared.ListStep.{ListStep}
+use Rattle.unit_list.specs.declared.ListStep.the-variants as L
+use Rattle.unit_list.specs.declared.ArrayStep.{ArrayStep}
+use Rattle.unit_list.specs.declared.ArrayStep.the-variants as A
+use Rattle.unit_list.proofs.Arrays.{be-one, run-nil, run-step, run-refused}
+
+-- the start: too long, another version or none, and behind the version
+pub list-too-long : (s : List ℕ) → 2 ^ 30 < length s → typedList s ≡ refuse 23
+unfolding decode
+list-too-long s h = rw (lt-leb (length s) (2 ^ 30) h)
+
+pub decode-versionless : (s : List ℕ) → length s ≤ 2 ^ 30 → (getD s 0 0 ≡ 1 → ⊥) → decode s ≡ refuse 21
+unfolding decode unitList
+decode-versionless [] l h = rw (uint-short 1 [] 0 (omega arith))
+decode-versionless (b ∷ s) l h =
+    rw (le-leb (length (b ∷ s)) (2 ^ 30) l, uint-there 1 (b ∷ s) 0 (omega arith), be-one (b ∷ s) 0, ne-eqb b 1 h)
+
+pub list-versionless : (s : List ℕ) → length s ≤ 2 ^ 30 → (getD s 0 0 ≡ 1 → ⊥) → typedList s ≡ refuse 21
+list-versionless s l h = rw (decode-versionless s l h)
+
+-- a list of version 1 is its arrays
+pub decode-arrays : (s : List ℕ) → length s ≤ 2 ^ 30 → getD s 0 0 ≡ 1 → decode s ≡ arraysFrom s 1
+unfolding decode unitList
+decode-arrays [] l h = absurd (omega arith)
+decode-arrays (b ∷ s) l h =
+    rw (le-leb (length (b ∷ s)) (2 ^ 30) l, uint-there 1 (b ∷ s) 0 (omega arith), be-one (b ∷ s) 0, eq-eqb b 1 h)
+
+-- what is left at the end of an array: the arrays behind it
+pub left-arrays : (s : List ℕ) (c : ListCursor) → c .at ≡ c .end → leftOf s c ≡ andThen (arraysFrom s (c .end)) (λ xs. accept (typedUnits xs))
+unfolding leftOf typed
+left-arrays s c e =
+    let l = length-take (c .end) s in
+    rw (run-nil (chunk 4) (take (c .end) s) (c .at) 21 (omega arith))
+
+pub left-start : (s : List ℕ) → length s ≤ 2 ^ 30 → getD s 0 0 ≡ 1 → leftOf s (record { at = 1; end = 1; «unit_type» = 0 }) ≡ typedList s
+left-start s l h = left-arrays s (record { at = 1; end = 1; «unit_type» = 0 }) refl ∙ rw (decode-arrays s l h)
+
+-- one array passed
+module _ (s : List ℕ) (c : ListCursor) (e : c .at ≡ c .end) where
+  pub left-entered : (b : ℕ) (d : ListCursor) → arraysStepped s (A.Array b d) ≡ arraysFrom s (c .end) → leftOf s d ≡ leftOf s c
+  unfolding leftOf typedUnits
+  left-entered b d f = go (unitsFrom s d) (arraysFrom s (d .end)) ∙ ap (λ (o : Outcome (List (Array Span))). andThen o (λ xs. accept (typedUnits xs))) f ∙ sym (left-arrays s c e)
+    where
+      go : (u : Outcome (List Span)) (o : Outcome (List (Array Span)))
+          → andThen u (λ us. andThen o (λ xs. accept (typed (d .«unit_type») us ++ typedUnits xs)))
+          ≡ andThen (andThen u (λ us. more (record { complete = b; unitType = d .«unit_type»; units = us }) o)) (λ xs. accept (typedUnits xs))
+      go (refuse m) o = refl
+      go (accept us) (refuse m) = refl
+      go (accept us) (accept xs) = refl
+
+  pub left-end : accept [] ≡ arraysFrom s (c .end) → accept [] ≡ leftOf s c
+  unfolding typedUnits
+  left-end f = sym (left-arrays s c e ∙ rw (← f))
+
+  pub left-malformed : refuse 21 ≡ arraysFrom s (c .end) → refuse 21 ≡ leftOf s c
+  left-malformed f = sym (left-arrays s c e ∙ rw (← f))
+
+-- one unit passed, in an array that has units left
+module _ (s : List ℕ) (c : ListCursor) where
+  left-unit : (a : Span) (d : ListCursor) → d .end ≡ c .end → d .«unit_type» ≡ c .«unit_type» → unitsStepped s (L.Unit a d) ≡ unitsFrom s c
+      → stepped s (L.Unit a d) ≡ leftOf s c
+  unfolding leftOf typed
+  left-unit a d e t f = rw (← f, ← e, ← t) (go (unitsFrom s d) (arraysFrom s (d .end)))
+    where
+      go : (u : Outcome (List Span)) (o : Outcome (List (Array Span)))
+          → more (record { unit = a; unitType = d .«unit_type» }) (andThen u (λ us. andThen o (λ xs. accept (typed (d .«unit_type») us ++ typedUnits xs))))
+          ≡ andThen (more a u) (λ us. andThen o (λ xs. accept (typed (d .«unit_type») us ++ typedUnits xs)))
+      go (refuse m) o = refl
+      go (accept us) (refuse m) = refl
+      go (accept us) (accept xs) = refl
+
+  left-unread : refuse 21 ≡ unitsFrom s c → refuse 21 ≡ leftOf s c
+  unfolding leftOf
+  left-unread f = rw (← f)
+
+-- the turns of a step from c, which has come to `here`: what is left is the same
+module _ (s : List ℕ) (c here : ListCursor) (inv : Fits s here × (leftOf s here ≡ leftOf s c) × (c .at ≤ here .at)) where
+  module _ (e : here .at ≡ here .end) (r : ArrayStep) (f : (arraysStepped s r ≡ arraysFrom s (here .end)) × ArrayStepFits s (here .end) r) where
+    module _ (b : ℕ) (d : ListCursor) (g : r ≡ A.Array b d) where
+      entered : (arraysStepped s (A.Array b d) ≡ arraysFrom s (here .end)) × Entered s (here .end) b d
+      entered = subst (λ (r : ArrayStep). (arraysStepped s r ≡ arraysFrom s (here .end)) × ArrayStepFits s (here .end) r) g f
+
+      pub turn-less : length s - d .end < length s - here .end
+      turn-less = let h = entered .1 in omega (arith, h .first, h .fits .before, h .fits .within)
+
+      pub turn-again : Fits s d × (leftOf s d ≡ leftOf s c) × (c .at ≤ d .at)
+      turn-again =
+          let h = entered .1 in
+          (h .fits, left-entered s here e b d (entered .0) ∙ inv .1, omega (arith, inv .2, h .first))
+
+    pub turn-end : r ≡ A.End → accept [] ≡ leftOf s c
+    turn-end g = left-end s here e (sym (ap (arraysStepped s) g) ∙ f .0) ∙ inv .1
+
+    pub turn-malformed : r ≡ A.Malformed → refuse 21 ≡ leftOf s c
+    turn-malformed g = left-malformed s here e (sym (ap (arraysStepped s) g) ∙ f .0) ∙ inv .1
+
+  pub turn-unit : ((here .at ≡ here .end) → ⊥) → (r : ListStep) → (unitsStepped s r ≡ unitsFrom s here) × UnitStepFits s here r → (stepped s r ≡ leftOf s c) × StepFits s c r
+  turn-unit h (L.Unit a d) f =
+      (left-unit s here a d (f .1 .1) (f .1 .2) (f .0) ∙ inv .1, record { start = omega (arith, f .1 .0 .start, inv .2); next = f .1 .0 .next; fits = f .1 .0 .fits })
+  turn-unit h L.End f = absurd (h (f .1))
+  turn-unit h L.Malformed f = (left-unread s here (f .0) ∙ inv .1, tt)

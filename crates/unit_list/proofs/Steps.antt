@@ -1,0 +1,113 @@
+-- What one step of the walk says, by cases: a chunk before an end, a unit of an array, an array.
+use Prim.Native.Nat.{ℕ, _+_, _^_, _≤_, _<_}
+use mathlib.Core.Path.{_≡_, refl, sym, ap, _∙_}
+use mathlib.Core.List.{List, []}
+use native.Mathlib.Omega.{arith}
+use lib.ListN.{length, getD, take}
+use lib.Seq.{take-length, length-take-le}
+use Rattle.error.specs.Outcome.{Outcome, accept, refuse}
+use Rattle.error.specs.Parse.{Parsed, value, refused}
+use Rattle.boxes.specs.Bytes.{be, chunk}
+use Rattle.boxes.specs.Walk.{more}
+use Rattle.boxes.specs.declared.Span.{Span}
+use Rattle.boxes.proofs.Numbers.{be-take}
+use Rattle.boxes.proofs.Fields.{chunk-there, chunk-short, chunk-read, chunk-advances}
+use Rattle.unit_list.specs.UnitList.{array}
+use Rattle.unit_list.specs.Walk.{chunkStepped, unitsFrom, arraysFrom, arraysStepped, Fits, Passed, Entered}
+use Rattle.unit_list.specs.declared.ListCursor.{ListCursor}
+use Rattle.unit_list.specs.declared.ArrayStep.the-variants as A
+use Rattle.unit_list.specs.declared.ChunkRead.{ChunkRead}
+use Rattle.unit_list.specs.declared.ChunkRead.the-variants as C
+use Rattle.unit_list.proofs.Arrays.{IsRefused, run-nil, run-step, run-refused, array-no-chunk, array-short, array-complete, array-type, arrays-step}
+
+-- a chunk before an end
+module _ (w : ℕ) (s : List ℕ) (p e : ℕ) (h : e ≤ length s) where
+  long : length (take e s) ≡ e
+  long = length-take-le e s h
+
+  pub chunk-no-length : e < p + w → refused 1 ≡ chunk w (take e s) p
+  chunk-no-length k = let l = long in sym (chunk-short w (take e s) p (omega arith))
+
+  module _ (there : p + w ≤ e) where
+    pub chunk-cut : e < p + w + be s p w → refused 1 ≡ chunk w (take e s) p
+    chunk-cut k =
+        let l = long in
+        let b = be-take s e p w there in
+        sym (chunk-short w (take e s) p (omega arith))
+
+    pub chunk-whole : (n : ℕ) → n ≡ be s p w → p + w + n ≤ e → value (record { start = p + w; len = n }) (p + w + n) ≡ chunk w (take e s) p
+    chunk-whole n m k =
+        let l = long in
+        let b : be (take e s) p w ≡ n = be-take s e p w there ∙ sym m in
+        sym (chunk-there w (take e s) p (omega arith) ∙ rw b)
+
+-- what the chunk's answer says once it is known which it is
+pub chunk-bytes : (r : ChunkRead) (x : Parsed Span) (a : Span) → chunkStepped r ≡ x → r ≡ C.Bytes a → x ≡ value a (a .start + a .len)
+chunk-bytes r x a f e = sym f ∙ ap chunkStepped e
+
+pub chunk-refused : (r : ChunkRead) (x : Parsed Span) → chunkStepped r ≡ x → r ≡ C.Short → x ≡ refused 1
+chunk-refused r x f e = sym f ∙ ap chunkStepped e
+
+-- the units behind a cursor
+module _ (s : List ℕ) (c : ListCursor) (fits : Fits s c) where
+  whole : length (take (c .end) s) ≡ c .end
+  whole = length-take-le (c .end) s (fits .within)
+
+  pub units-end : c .at ≡ c .end → accept [] ≡ unitsFrom s c
+  units-end e = let l = whole in sym (run-nil (chunk 4) (take (c .end) s) (c .at) 21 (omega arith))
+
+  module _ (left : (c .at ≡ c .end) → ⊥) where
+    some-left : c .at < length (take (c .end) s)
+    some-left = let l = whole in let h = fits .before in omega (arith, left)
+
+    pub units-unread : chunk 4 (take (c .end) s) (c .at) ≡ refused 1 → refuse 21 ≡ unitsFrom s c
+    units-unread e = sym (run-refused (chunk 4) (take (c .end) s) (c .at) 21 some-left (rw e tt))
+
+    module _ (a : Span) (e : chunk 4 (take (c .end) s) (c .at) ≡ value a (a .start + a .len)) where
+      pub unit-inside : a .start + a .len ≤ c .end
+      unit-inside = let l = whole in let h = chunk-read 4 (take (c .end) s) (c .at) a (a .start + a .len) e .fits in omega arith
+
+      pub units-next : more a (unitsFrom s (record { at = a .start + a .len; end = c .end; «unit_type» = c .«unit_type» })) ≡ unitsFrom s c
+      units-next = sym (run-step (chunk 4) (take (c .end) s) (c .at) 21 some-left (chunk-advances 4 (take (c .end) s) (omega arith)) a (a .start + a .len) e)
+
+      pub unit-passed : Passed s c a (record { at = a .start + a .len; end = c .end; «unit_type» = c .«unit_type» })
+      unit-passed =
+          let b = chunk-read 4 (take (c .end) s) (c .at) a (a .start + a .len) e in
+          record { start = omega arith; next = refl; fits = record { before = unit-inside; within = fits .within; lent = fits .lent } }
+
+-- the arrays from a place on
+module _ (s : List ℕ) (p : ℕ) where
+  pub arrays-end : p ≡ length s → accept [] ≡ arraysFrom s p
+  arrays-end e = sym (run-nil (array 4) s p 21 (omega arith))
+
+  module _ (left : p < length s) where
+    pub arrays-refused : IsRefused (array 4 s p) → refuse 21 ≡ arraysFrom s p
+    arrays-refused h = sym (run-refused (array 4) s p 21 left h)
+
+    pub arrays-unread : chunk 4 (take (length s) s) p ≡ refused 1 → refuse 21 ≡ arraysFrom s p
+    arrays-unread e = let f : chunk 4 s p ≡ refused 1 = rw take-length at e in arrays-refused (array-no-chunk 4 s p (rw f tt))
+
+    module _ (a : Span) (e : chunk 4 (take (length s) s) p ≡ value a (a .start + a .len)) where
+      read : chunk 4 s p ≡ value a (a .start + a .len)
+      read = rw take-length at e
+
+      pub array-inside : a .start + a .len ≤ length s
+      array-inside = chunk-read 4 s p a (a .start + a .len) read .fits
+
+      pub arrays-short : a .len < 2 → refuse 21 ≡ arraysFrom s p
+      arrays-short h = arrays-refused (array-short 4 s p a read h)
+
+      pub arrays-complete : 1 < getD s (a .start) 0 → refuse 21 ≡ arraysFrom s p
+      arrays-complete h = arrays-refused (array-complete 4 s p a read h)
+
+      module _ (two : 2 ≤ a .len) (one : getD s (a .start) 0 ≤ 1) where
+        pub arrays-type : 31 < getD s (a .start + 1) 0 → refuse 21 ≡ arraysFrom s p
+        arrays-type h = arrays-refused (array-type 4 s p a read two one h)
+
+        pub arrays-entered : length s ≤ 2 ^ 30 → getD s (a .start + 1) 0 ≤ 31
+            → (arraysStepped s (A.Array (getD s (a .start) 0) (record { at = a .start + 2; end = a .start + a .len; «unit_type» = getD s (a .start + 1) 0 })) ≡ arraysFrom s p)
+            × Entered s p (getD s (a .start) 0) (record { at = a .start + 2; end = a .start + a .len; «unit_type» = getD s (a .start + 1) 0 })
+        arrays-entered lent small =
+            let b = chunk-read 4 s p a (a .start + a .len) read in
+            (sym (arrays-step 4 s (omega arith) p 21 left a read two one small),
+            record { first = omega arith; complete = one; unitType = small; fits = record { before = omega arith; within = b .fits; lent = lent } })

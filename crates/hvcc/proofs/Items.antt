@@ -14,11 +14,11 @@ use Rattle.error.specs.Parse.{Parsed, value, refused, bind, many, outcome}
 use Rattle.boxes.specs.Bytes.{be}
 use Rattle.boxes.specs.Walk.{more, countFound, found}
 use Rattle.boxes.specs.declared.Span.{Span}
-use Rattle.boxes.proofs.Walk.{total, total-count}
+use Rattle.boxes.proofs.Walk.{total}
 use Rattle.boxes.proofs.Fields.{uint-there, uint-short, bytes-there, bytes-short}
 use Rattle.boxes.proofs.Many.{Advances, many-nil, many-bad, many-step, many-induction}
 use Rattle.hvcc.specs.Item.{itemUnit, itemUnits, splitItem}
-use Rattle.hvcc.specs.Answers.{leftOf, stepped, Found, Onward}
+use Rattle.hvcc.specs.Answers.{leftOf, stepped, UnitAhead, Onward}
 use Rattle.hvcc.specs.declared.ItemStep.{ItemStep}
 use Rattle.hvcc.specs.declared.ItemStep.the-variants as I
 use types.Run.{OneOf}
@@ -149,28 +149,30 @@ module _ (size : ℕ) (s : List ℕ) where
       step : (p : ℕ) (a : Span) (q : ℕ) → p < length s → itemUnit size s p ≡ value a q → M q → M p
       step p a q h w ih xs l v = go p a q (unit-read size s p a q w) ih (leftOf size s q) refl xs (sym (left-step p a q h w) ∙ v)
 
--- the public split's answers, in the order of their tests
+-- ### the answers, in the order of their tests
+
 module _ (size : ℕ) (s : List ℕ) where
+  pub items-size : (size ≡ 0) ⊎ (4 < size) → itemUnits size s ≡ refuse 4
+  unfolding itemUnits
+  items-size = ⊎-elim (λ h. rw (eq-eqb size 0 h)) (λ h. rw (ne-eqb size 0 (λ e. omega arith), lt-ltb 4 size h))
+
+  pub items-left : 0 < size → size ≤ 4 → itemUnits size s ≡ leftOf size s 0
+  unfolding itemUnits leftOf
+  items-left h k = rw (ne-eqb size 0 (λ e. omega arith), le-ltb 4 size k)
+
   pub split-too-long : 2 ^ 30 < length s → splitItem size s ≡ refuse 23
   unfolding splitItem
   split-too-long h = rw (lt-leb (length s) (2 ^ 30) h)
 
-  module _ (lent : length s ≤ 2 ^ 30) where
-    pub split-size : (size ≡ 0) ⊎ (4 < size) → splitItem size s ≡ refuse 4
-    unfolding splitItem itemUnits
-    split-size =
-        ⊎-elim (λ h. rw (le-leb (length s) (2 ^ 30) lent, eq-eqb size 0 h))
-        (λ h. rw (le-leb (length s) (2 ^ 30) lent, ne-eqb size 0 (λ e. omega arith), lt-ltb 4 size h))
-
-    pub split-left : 0 < size → size ≤ 4 → splitItem size s ≡ leftOf size s 0
-    unfolding splitItem itemUnits leftOf
-    split-left h k = rw (le-leb (length s) (2 ^ 30) lent, ne-eqb size 0 (λ e. omega arith), le-ltb 4 size k)
+  pub split-lent : length s ≤ 2 ^ 30 → splitItem size s ≡ itemUnits size s
+  unfolding splitItem
+  split-lent h = rw (le-leb (length s) (2 ^ 30) h)
 
 -- ### what a step says
 
 -- a turn of a walk: the unit found from place p on, in front of what is left behind it
 pub record Turn (size : ℕ) (s : List ℕ) (p : ℕ) (a : Span) (next : ℕ) : Type 0 where
-  pub here : Found s p a next
+  pub here : UnitAhead s p a next
   pub rest : leftOf size s p ≡ more a (leftOf size s next)
 
 module _ (size : ℕ) (s : List ℕ) (p : ℕ) (r : ItemStep) (said : (stepped size s r ≡ leftOf size s p) × Onward s p r) where
@@ -195,7 +197,7 @@ pub record Sound (size : ℕ) (s : List ℕ) (n : ℕ) : Type 0 where
   pub four : size ≤ 4
   pub lent : length s ≤ 2 ^ 30
   pub whole : splitItem size s ≡ leftOf size s 0
-  pub count : total (leftOf size s 0) ≡ n
+  pub counted : countFound (leftOf size s 0) ≡ accept n
 
 pub split-sound : (size : ℕ) (s : List ℕ) (n : ℕ) → countFound (splitItem size s) ≡ accept n → Sound size s n
 split-sound size s n e =
@@ -203,16 +205,36 @@ split-sound size s n e =
       | no k ↦ never 23 (split-too-long size s (omega arith))
       | yes k ↦
         elim (decLe size 0) [
-          | yes z ↦ never 4 (split-size size s k (inl (omega arith)))
+          | yes z ↦ never 4 (split-lent size s k ∙ items-size size s (inl (omega arith)))
           | no z ↦
             elim (decLe size 4) [
-              | no f ↦ never 4 (split-size size s k (inr (omega arith)))
+              | no f ↦ never 4 (split-lent size s k ∙ items-size size s (inr (omega arith)))
               | yes f ↦ (
-                let w = split-left size s k (omega arith) f in
-                record { some = omega arith; four = f; lent = k; whole = w; count = total-count (leftOf size s 0) n (rw w at e) })
+                let w = split-lent size s k ∙ items-left size s (omega arith) f in
+                record { some = omega arith; four = f; lent = k; whole = w; counted = rw w at e })
             ]
         ]
     ]
   where
     never : (m : ℕ) → splitItem size s ≡ refuse m → Sound size s n
     never m w = let z : _≡_ {A = ℕ} 0 1 = cc (ap countFound w) in absurd (omega arith)
+
+-- ### where the units of an accepted item lie: one behind the other inside it
+
+module _ (size : ℕ) (s : List ℕ) (xs : List Span) where
+  pub items-apart : itemUnits size s ≡ accept xs → Apart (length s) 0 xs
+  items-apart e =
+      elim (decLe size 0) [
+        | yes z ↦ never (inl (omega arith))
+        | no z ↦
+          elim (decLe size 4) [
+            | no f ↦ never (inr (omega arith))
+            | yes f ↦ left-apart size s 0 xs (omega arith) (omega arith) (sym (items-left size s (omega arith) f) ∙ e)
+          ]
+      ]
+    where
+      never : (size ≡ 0) ⊎ (4 < size) → Apart (length s) 0 xs
+      never h = let w = items-size size s h in let z : _≡_ {A = ℕ} 0 1 = cc in absurd (omega arith)
+
+  pub split-apart : splitItem size s ≡ accept xs → Apart (length s) 0 xs
+  split-apart e = let w = split-sound size s (length xs) (ap countFound e) in items-apart (sym (split-lent size s (w .lent)) ∙ e)

@@ -2,3 +2,5 @@ pub mod Spans
 pub mod Walks
 pub mod Items
 pub mod Trim
+pub mod Streams
+pub mod RoundTrip

@@ -7,7 +7,7 @@ use lib.ListN.{length}
 use Rattle.error.specs.Outcome.{Outcome, accept, refuse, lentInput}
 use Rattle.error.specs.Parse.{many, outcome}
 use Rattle.error.specs.Refusals.{numberOf}
-use Rattle.boxes.specs.Walk.{more}
+use Rattle.boxes.specs.Walk.{more, countFound}
 use Rattle.boxes.specs.declared.Span.{Span}
 use Rattle.hvcc.specs.Item.{itemUnit}
 use Rattle.hvcc.specs.Stream.{unitsFrom}
@@ -27,7 +27,7 @@ stepped size item I.End = accept []
 stepped size item (I.Refused e) = refuse (numberOf e)
 
 -- a unit found from place p on: it is not empty, lies inside the bytes, and the walk goes on behind it
-pub record Found (s : List ℕ) (p : ℕ) (a : Span) (next : ℕ) : Type 0 where
+pub record UnitAhead (s : List ℕ) (p : ℕ) (a : Span) (next : ℕ) : Type 0 where
   pub some : 0 < a .len
   pub ahead : p < a .start
   pub behind : next ≡ a .start + a .len
@@ -35,9 +35,15 @@ pub record Found (s : List ℕ) (p : ℕ) (a : Span) (next : ℕ) : Type 0 where
 
 -- so it is of a step that found one
 abbrev pub Onward : List ℕ → ℕ → ItemStep → Type 0
-Onward item p (I.Unit a next) = Found item p a next
+Onward item p (I.Unit a next) = UnitAhead item p a next
 Onward item p I.End = Unit {0}
 Onward item p (I.Refused e) = Unit {0}
+
+-- there is a unit number k
+pub record HasUnit (o : Outcome (List Span)) (k : ℕ) : Type 0 where
+  pub count : ℕ
+  pub counted : countFound o ≡ accept count
+  pub within : k < count
 
 -- the next unit of a stream from a place on, with the place behind it
 pub record Next : Type 0 where

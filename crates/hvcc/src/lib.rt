@@ -8,8 +8,6 @@ use error::Refusal;
 use nal::start_code;
 
 ghost use mathlib.Core.Path.{_≡_};
-ghost use Prim.Native.Nat.{_+_, _≤_};
-ghost use lib.ListN.{length};
 ghost use Rattle.error.specs.Answers.{countOf};
 ghost use Rattle.boxes.specs.Parts.{PartOf};
 ghost use Rattle.boxes.specs.Walk.{countFound, found};
@@ -41,29 +39,15 @@ pub fn split_length_prefixed_count(item: &[u8], length_size: u8) -> Counted
     if length_size == 0 || 4 < length_size {
         return Counted::Refused(Refusal::PrefixSize);
     }
-    walk::count_units(item, place::wide(length_size))
+    walk::item_count(item, place::wide(length_size))
 }
 
 // Unit k of an item, a part of it; the empty part past the last unit and on a refusal.
 pub fn split_length_prefixed(item: &[u8], length_size: u8, k: usize) -> &[u8]
     ensures { λ r. ⌜ PartOf r (item .entry) (found (splitItem «length_size» (now (item .entry))) k) ⌝ }
 {
-    let unit = item_unit(item, length_size, k);
+    let unit = walk::item_span(item, length_size, k);
     place::part(item, unit)
-}
-
-// Where unit k of an item lies.
-fn item_unit(item: &[u8], length_size: u8, k: usize) -> Span
-    ensures { λ r. ⌜ (r ≡ found (splitItem «length_size» (now (item .entry))) k) × (r .start + r .len ≤ length (now (item .entry))) ⌝ }
-{
-    let counted = split_length_prefixed_count(item, length_size);
-    let Counted::Count(n) = counted else {
-        return Span { start: 0, len: 0 };
-    };
-    if n <= k {
-        return Span { start: 0, len: 0 };
-    }
-    walk::unit_at(item, place::wide(length_size), k)
 }
 
 // The first unit whose start code stands at or after a place, and the place behind it, to go on from. Refusal: 23.
@@ -86,7 +70,8 @@ pub fn next_unit(stream: &[u8], from: usize) -> NextUnit
         let len = walk::trimmed(stream, start, code);
         if 0 < len {
             let unit = Span { start: start, len: len };
-            return NextUnit::Unit(unit, start + len);
+            let behind = start + len;
+            return NextUnit::Unit(unit, behind);
         }
     }
     NextUnit::End
@@ -120,26 +105,6 @@ pub fn split_annex_b_count(stream: &[u8]) -> Counted
 pub fn split_annex_b(stream: &[u8], k: usize) -> &[u8]
     ensures { λ r. ⌜ PartOf r (stream .entry) (found (splitStream (now (stream .entry))) k) ⌝ }
 {
-    let unit = stream_unit(stream, k);
+    let unit = walk::stream_span(stream, k);
     place::part(stream, unit)
-}
-
-// Where unit k of a stream lies.
-fn stream_unit(stream: &[u8], k: usize) -> Span
-    ensures { λ r. ⌜ (r ≡ found (splitStream (now (stream .entry))) k) × (r .start + r .len ≤ length (now (stream .entry))) ⌝ }
-{
-    let mut at: usize = 0;
-    let mut left = k;
-    let unit = 'walk: loop {
-        let next = next_unit(stream, at);
-        let NextUnit::Unit(a, behind) = next else {
-            break 'walk Span { start: 0, len: 0 };
-        };
-        if left == 0 {
-            break 'walk a;
-        }
-        left -= 1;
-        at = behind;
-    };
-    unit
 }

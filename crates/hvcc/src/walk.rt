@@ -1,5 +1,6 @@
 // For the crates further down: the steps of the walks over items and streams.
 use super::ItemStep;
+use super::NextUnit;
 use boxes::Span;
 use boxes::place;
 use error::Counted;
@@ -10,9 +11,9 @@ ghost use Prim.Native.Nat.{_+_, _-_, _≤_, _<_, _^_};
 ghost use lib.ListN.{length, take, drop};
 ghost use Rattle.error.specs.Answers.{countOf};
 ghost use Rattle.boxes.specs.Walk.{countFound, found};
-ghost use Rattle.boxes.proofs.Walk.{total};
-ghost use Rattle.hvcc.specs.Stream.{trim};
-ghost use Rattle.hvcc.specs.Answers.{leftOf, stepped, Onward};
+ghost use Rattle.hvcc.specs.Item.{splitItem};
+ghost use Rattle.hvcc.specs.Stream.{trim, splitStream};
+ghost use Rattle.hvcc.specs.Answers.{leftOf, stepped, Onward, HasUnit};
 
 // The unit whose length stands at a place of an item, and the place behind it.
 pub fn item_step(item: &[u8], size: usize, at: usize) -> ItemStep
@@ -39,7 +40,7 @@ pub fn item_step(item: &[u8], size: usize, at: usize) -> ItemStep
 }
 
 // How many units an item has.
-pub fn count_units(item: &[u8], size: usize) -> Counted
+pub fn item_count(item: &[u8], size: usize) -> Counted
     requires { ⌜ (1 ≤ size) × (size ≤ 4) × (length (now item) ≤ 2 ^ 30) ⌝ }
     ensures { λ r. ⌜ countOf r ≡ countFound (leftOf size (now (item .entry)) 0) ⌝ }
 {
@@ -64,24 +65,38 @@ pub fn count_units(item: &[u8], size: usize) -> Counted
 }
 
 // Where unit k lies in an item that has more than k units.
-pub fn unit_at(item: &[u8], size: usize, k: usize) -> Span
-    requires { ⌜ (1 ≤ size) × (size ≤ 4) × (length (now item) ≤ 2 ^ 30) × (k < total (leftOf size (now item) 0)) ⌝ }
+pub fn item_unit(item: &[u8], size: usize, k: usize) -> Span
+    requires { ⌜ (1 ≤ size) × (size ≤ 4) × (length (now item) ≤ 2 ^ 30) × HasUnit (leftOf size (now item) 0) k ⌝ }
     ensures { λ r. ⌜ (r ≡ found (leftOf size (now (item .entry)) 0) k) × (r .start + r .len ≤ length (now (item .entry))) ⌝ }
 {
     let mut at: usize = 0;
-    let mut left = k;
+    let mut skip = k;
     let unit = 'walk: loop {
         let step = item_step(item, size, at);
         let ItemStep::Unit(a, next) = step else {
             break 'walk Span { start: 0, len: 0 };
         };
-        if left == 0 {
+        if skip == 0 {
             break 'walk a;
         }
-        left -= 1;
+        skip -= 1;
         at = next;
     };
     unit
+}
+
+// Where unit k of an item lies; nowhere past the last unit and on a refusal. It is counted first: a refusal further on leaves no unit.
+pub fn item_span(item: &[u8], length_size: u8, k: usize) -> Span
+    ensures { λ r. ⌜ (r ≡ found (splitItem «length_size» (now (item .entry))) k) × (r .start + r .len ≤ length (now (item .entry))) ⌝ }
+{
+    let counted = super::split_length_prefixed_count(item, length_size);
+    let Counted::Count(n) = counted else {
+        return Span { start: 0, len: 0 };
+    };
+    if n <= k {
+        return Span { start: 0, len: 0 };
+    }
+    item_unit(item, place::wide(length_size), k)
 }
 
 // How many of the bytes between two places are left without the trailing zeros.
@@ -100,4 +115,24 @@ pub fn trimmed(s: &[u8], from: usize, to: usize) -> usize
         end -= 1;
     };
     kept
+}
+
+// Where unit k of a stream lies; nowhere past the last unit and on a refusal.
+pub fn stream_span(stream: &[u8], k: usize) -> Span
+    ensures { λ r. ⌜ (r ≡ found (splitStream (now (stream .entry))) k) × (r .start + r .len ≤ length (now (stream .entry))) ⌝ }
+{
+    let mut at: usize = 0;
+    let mut left = k;
+    let unit = 'walk: loop {
+        let next = super::next_unit(stream, at);
+        let NextUnit::Unit(a, behind) = next else {
+            break 'walk Span { start: 0, len: 0 };
+        };
+        if left == 0 {
+            break 'walk a;
+        }
+        left -= 1;
+        at = behind;
+    };
+    unit
 }

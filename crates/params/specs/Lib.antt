@@ -1,3 +1,4 @@
 pub mod Heads
 pub mod Cropped
 pub mod Answers
+pub mod Sections

@@ -1,4 +1,6 @@
 // What a still's parameter sets say: profile, tier and level, the SPS's head, the VPS's first PTL, an OPI's operating point.
+pub mod sps;
+
 use error::Refusal;
 use ptl::VvcPtlRecord;
 

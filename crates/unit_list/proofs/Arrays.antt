@@ -17,6 +17,11 @@ use Rattle.boxes.proofs.Many.{Advances, many-nil, many-bad, many-step, many-ind
 use Rattle.boxes.proofs.Fields.{uint-there, uint-short, chunk-read, chunk-advances}
 use Rattle.unit_list.specs.UnitList.{Array, array, arrayRest, unitsOf}
 
+-- each array's complete and type are small
+pub data Sound {U : Type 0} : List (Array U) → Type 0 where
+  sound-none : Sound []
+  sound-more : {a : Array U} {xs : List (Array U)} → a .complete ≤ 1 → a .unitType ≤ 31 → Sound xs → Sound (a ∷ xs)
+
 -- a refusal to read, whatever its number
 abbrev pub IsRefused : {A : Type 0} → Parsed A → Type 0
 IsRefused (value a p) = ⊥
@@ -286,3 +291,9 @@ module _ (w : ℕ) (s : List ℕ) (some : 1 ≤ w) where
       (λ p g h. lies-nil w (length s) p h)
       (λ p a q xs r x m h. let b = array-read p a q x in lies-append w (length s) p q (a .units) (unitsOf xs) (b .lies) (b .fits) (m (b .fits)))
       p xs r e h
+
+  -- and are sound
+  pub arrays-sound : (p : ℕ) (xs : List (Array Span)) (r : ℕ) → many (array w) s p ≡ value xs r → Sound xs
+  arrays-sound =
+      run-value (array w) s array-advances (λ p xs r. Sound xs) (λ p h. sound-none)
+      (λ p a q xs r x m. let b = array-read p a q x in sound-more (b .complete) (b .unitType) m)

@@ -22,9 +22,12 @@ use Rattle.unit_list.specs.declared.ArrayStep.the-variants as A
 use Rattle.unit_list.proofs.Arrays.{be-one, run-nil, run-step, run-refused}
 
 -- the start: too long, another version or none, and behind the version
-pub list-too-long : (s : List ℕ) → 2 ^ 30 < length s → typedList s ≡ refuse 23
+pub decode-too-long : (s : List ℕ) → 2 ^ 30 < length s → decode s ≡ refuse 23
 unfolding decode
-list-too-long s h = rw (lt-leb (length s) (2 ^ 30) h)
+decode-too-long s h = rw (lt-leb (length s) (2 ^ 30) h)
+
+pub list-too-long : (s : List ℕ) → 2 ^ 30 < length s → typedList s ≡ refuse 23
+list-too-long s h = rw (decode-too-long s h)
 
 pub decode-versionless : (s : List ℕ) → length s ≤ 2 ^ 30 → (getD s 0 0 ≡ 1 → ⊥) → decode s ≡ refuse 21
 unfolding decode unitList

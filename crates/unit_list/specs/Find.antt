@@ -19,7 +19,7 @@ use Rattle.unit_list.specs.declared.find.Seen.{Seen}
 -- whether a unit in an array of type t is wanted
 abbrev pub wants : Wanted → ℕ → Bool
 wants Every t = true
-wants (OfType x) t = eqb x t
+wants (OfType x) t = eqb t x
 
 -- the wanted ones among typed units
 unfoldable pub wantedUnits : Wanted → List TypedUnit → List Span

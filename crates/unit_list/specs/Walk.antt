@@ -63,6 +63,11 @@ abbrev pub started : List ℕ → ListStart → Outcome (List TypedUnit)
 started s (At c) = leftOf s c
 started s (Refused e) = refuse (numberOf e)
 
+-- and of its arrays
+abbrev pub arraysStarted : List ℕ → ListStart → Outcome (List (Array Span))
+arraysStarted s (At c) = arraysFrom s (c .end)
+arraysStarted s (Refused e) = refuse (numberOf e)
+
 abbrev pub StartFits : List ℕ → ListStart → Type 0
 StartFits s (At c) = Fits s c
 StartFits s (Refused e) = Unit {0}

@@ -28,7 +28,7 @@ fn wanted(w: Wanted, t: u8) -> bool
 {
     match w {
         Wanted::Every => true,
-        Wanted::OfType(x) => x == t,
+        Wanted::OfType(x) => t == x,
     }
 }
 

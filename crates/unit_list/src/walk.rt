@@ -12,7 +12,8 @@ ghost use mathlib.Core.Path.{_≡_};
 ghost use Prim.Native.Nat.{_≤_, _^_};
 ghost use lib.ListN.{length, take};
 ghost use Rattle.boxes.specs.Bytes.{chunk as chunkOf};
-ghost use Rattle.unit_list.specs.Walk.{Fits, StartFits, chunkStepped, unitsFrom, unitsStepped, UnitStepFits, arraysFrom, arraysStepped, ArrayStepFits, typedList, started, leftOf, stepped, StepFits};
+ghost use Rattle.unit_list.specs.UnitList.{decode};
+ghost use Rattle.unit_list.specs.Walk.{Fits, StartFits, chunkStepped, unitsFrom, unitsStepped, UnitStepFits, arraysFrom, arraysStepped, ArrayStepFits, typedList, started, arraysStarted, leftOf, stepped, StepFits};
 
 // A length of `width` bytes and that many bytes, all before `end`.
 pub fn chunk(s: &[u8], at: usize, end: usize, width: usize) -> ChunkRead
@@ -32,7 +33,7 @@ pub fn chunk(s: &[u8], at: usize, end: usize, width: usize) -> ChunkRead
 
 // The cursor behind the version, in front of the first array. Refusals: 23, 21 for no byte or another version.
 pub fn start(list: &[u8]) -> ListStart
-    ensures { λ r. ⌜ (started (now (list .entry)) r ≡ typedList (now (list .entry))) × StartFits (now (list .entry)) r ⌝ }
+    ensures { λ r. ⌜ (started (now (list .entry)) r ≡ typedList (now (list .entry))) × (arraysStarted (now (list .entry)) r ≡ decode (now (list .entry))) × StartFits (now (list .entry)) r ⌝ }
 {
     if 0x4000_0000 < list.len() {
         return ListStart::Refused(Refusal::InputTooLong);

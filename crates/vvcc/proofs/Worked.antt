@@ -22,7 +22,7 @@ use Rattle.ptl_record.specs.Read.{octets, vvcPtlRecord}
 use Rattle.ptl_record.specs.Write.{withFlags, flagByte, levelBytes, subProfiles, ptlBytes, ptlFits}
 use Rattle.full.specs.Read.{FullParsed, headWithPtl, plainHead, vvcHead, recordArray, vvcRecord, parseFull}
 use Rattle.full.specs.Write.{ptlPart, headBytes, arrayBytes, arraysBytes, fullBytes, ptlPartFits, headFits, unitsFit, arrayFits, arraysFit, recordFits, writeFull, serializeFull}
-use Rattle.vvcc.specs.Expand.{Picture, FullHead, havingType, without, firsts, grouped, multiLayerVps, ptlOfSets, expandUnits, toFull}
+use Rattle.expand.specs.Expand.{Picture, FullHead, havingType, without, firsts, grouped, multiLayerVps, ptlOfSets, expandUnits, toFull}
 
 -- an SPS and a PPS
 abbrev pub P : List ℕ

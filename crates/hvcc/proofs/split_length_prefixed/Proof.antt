@@ -4,14 +4,14 @@ use borrow.Author.Needs.{needs}
 use Rattle.hvcc.proofs.split_length_prefixed.Statement.{statement}
 use Rattle.hvcc.proofs.split_length_prefixed.Tie as tie
 
-item-unit-requires : tie.Need-item-unit-requires
-item-unit-requires c κs = search needs
+item-span-requires : tie.Need-item-span-requires
+item-span-requires c κs = search needs
 
 part-requires : tie.Need-part-requires
 part-requires c κs = search needs
 
 returns : tie.Need-returns
-returns c = rw (← c .before .item-unit .ensures .0) (c .part .ensures)
+returns c = rw (← c .before .item-span .ensures .0) (c .part .ensures)
 
 pub split-length-prefixed-spec : {M : Type 1} → statement M
-split-length-prefixed-spec = tie.close (tie.spec item-unit-requires part-requires returns)
+split-length-prefixed-spec = tie.close (tie.spec item-span-requires part-requires returns)

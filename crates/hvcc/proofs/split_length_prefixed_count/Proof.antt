@@ -6,7 +6,7 @@ use borrow.Author.Needs.{needs}
 use borrow.Author.Tests.{ltb-true, ltb-false}
 use Rattle.boxes.specs.Walk.{countFound}
 use Rattle.hvcc.specs.Answers.{leftOf}
-use Rattle.hvcc.proofs.Items.{split-too-long, split-size, split-left}
+use Rattle.hvcc.proofs.Items.{split-too-long, split-lent, items-size, items-left}
 use Rattle.hvcc.proofs.split_length_prefixed_count.Statement.{statement}
 use Rattle.hvcc.proofs.split_length_prefixed_count.Tie as tie
 
@@ -18,21 +18,21 @@ returns c =
 returns-2 : tie.Need-returns-2
 returns-2 c =
     let a = c .before .before .before .args in
-    ap countFound (sym (split-size (a .length-size) (a .item .now) (omega arith)
+    ap countFound (sym (split-lent (a .length-size) (a .item .now) (omega arith) ∙ items-size (a .length-size) (a .item .now)
     (⊎-elim (λ h. inl (h .taken)) (λ h. inr (ltb-true 4 (a .length-size) (h .1 .taken))) (c .if2 .came))))
 
 wide-requires : tie.Need-wide-requires
 wide-requires c κs = search needs
 
-count-units-requires : tie.Need-count-units-requires
-count-units-requires c κs = (omega (arith, c .before .before .if2 .left), omega (arith, ltb-false), omega arith)
+item-count-requires : tie.Need-item-count-requires
+item-count-requires c κs = (omega (arith, c .before .before .if2 .left), omega (arith, ltb-false), omega arith)
 
 returns-3 : tie.Need-returns-3
 returns-3 c =
     let a = c .before .before .before .before .before .before .args in
     let w : c .before .wide .result ≡ a .length-size = c .before .wide .ensures .0 in
-    rw (split-left (a .length-size) (a .item .now) (omega arith) (omega (arith, c .before .before .before .if2 .left)) (omega (arith, ltb-false)), ← w) (c .count-units .ensures)
+    rw (split-lent (a .length-size) (a .item .now) (omega arith), items-left (a .length-size) (a .item .now) (omega (arith, c .before .before .before .if2 .left)) (omega (arith, ltb-false)), ← w) (c .item-count .ensures)
 
 pub split-length-prefixed-count-spec : {M : Type 1} → statement M
 split-length-prefixed-count-spec =
-    tie.close (tie.spec returns returns-2 wide-requires count-units-requires returns-3)
+    tie.close (tie.spec returns returns-2 wide-requires item-count-requires returns-3)

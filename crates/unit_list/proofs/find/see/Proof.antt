@@ -1,39 +1,40 @@
-use Prim.Native.Nat.{ℕ, zero, suc, _+_, _*_, _-_, _/_, _%_, _^_, _≤_, _<_}
-use mathlib.Core.Path.{_≡_, refl, sym, ap, _∙_, subst}
-use mathlib.Core.List.{List, [], _∷_, _++_}
-use mathlib.Core.Logic.{⊎-elim}
-use native.Mathlib.Omega.{arith}
-use lib.ListN.{length, getD, take, drop}
+-- `find::see` counts one more unit, if it is wanted, and keeps number k.
+use mathlib.Core.Path.{_≡_, refl, sym, _∙_}
+use mathlib.Core.Bool.{Bool, true, false}
 use borrow.Author.Needs.{needs}
+use borrow.Author.Tests.{eq-eqb, ne-eqb, not-true, not-false}
+use Rattle.unit_list.specs.Find.{wants}
 use Rattle.unit_list.proofs.find.see.Statement.{statement}
 use Rattle.unit_list.proofs.find.see.Tie as tie
-use Rattle.unit_list.proofs.find.see.Reads as reads
-use Rattle.unit_list.proofs.find.see.Lts as lts
-use Rattle.unit_list.proofs.find.wanted.Reads as wanted-reads
 
--- src/find.rt:40:9
 wanted-requires : tie.Need-wanted-requires
 wanted-requires c κs = search needs
 
--- src/find.rt:41:9
 returns : tie.Need-returns
-returns c = ?
+returns c =
+    let a = c .before .before .args in
+    let e : wants (a .w) (a .t) ≡ false = sym (c .before .wanted .ensures) ∙ not-true (c .before .wanted .result) (c .if1 .taken) in
+    rw e
 
--- src/find.rt:45:30
 add-t9 : tie.Need-add-t9
 add-t9 c = search needs
 
--- src/find.rt:45:9
 returns-2 : tie.Need-returns-2
-returns-2 c = ?
+returns-2 c =
+    let i = c .before .before .before .before in
+    let a = i .before .before .args in
+    let e : wants (a .w) (a .t) ≡ true = sym (i .before .wanted .ensures) ∙ not-false (i .before .wanted .result) (i .if1 .left) in
+    rw (e, eq-eqb (a .seen .count) (a .k) (c .before .if2 .taken))
 
--- src/find.rt:47:19
 add-t10 : tie.Need-add-t10
 add-t10 c = search needs
 
--- src/find.rt:36:1
 returns-3 : tie.Need-returns-3
-returns-3 c = ?
+returns-3 c =
+    let i = c .before .before .before .before in
+    let a = i .before .before .args in
+    let e : wants (a .w) (a .t) ≡ true = sym (i .before .wanted .ensures) ∙ not-false (i .before .wanted .result) (i .if1 .left) in
+    rw (e, ne-eqb (a .seen .count) (a .k) (c .before .if2 .left))
 
 pub see-spec : {M : Type 1} → statement M
 see-spec = tie.close (tie.spec wanted-requires returns add-t9 returns-2 add-t10 returns-3)

@@ -5,7 +5,7 @@ use mathlib.Core.List.{List, [], _∷_}
 use native.Mathlib.Omega.{arith}
 use lib.ListN.{length, getD}
 use borrow.Author.Needs.{needs}
-use Rattle.unit_list.proofs.Left.{list-too-long, list-versionless, left-start}
+use Rattle.unit_list.proofs.Left.{decode-too-long, list-too-long, decode-versionless, list-versionless, decode-arrays, left-start}
 use Rattle.unit_list.proofs.walk.start.Statement.{statement}
 use Rattle.unit_list.proofs.walk.start.Tie as tie
 
@@ -15,21 +15,24 @@ has-byte [] e = absurd (omega arith)
 has-byte (b ∷ s) e = omega arith
 
 returns : tie.Need-returns
-returns c = (sym (list-too-long (c .before .before .args .list .now) (omega arith)), tt)
+returns c =
+    let s = c .before .before .args .list .now in
+    (sym (list-too-long s (omega arith)), sym (decode-too-long s (omega arith)), tt)
 
 byte-requires : tie.Need-byte-requires
 byte-requires c κs = search needs
 
 returns-2 : tie.Need-returns-2
 returns-2 c =
-    let s = c .before .before .before .before .args .list .now in
-    (sym (list-versionless s (omega arith) (λ e. c .if2 .taken (c .before .byte .ensures ∙ e))), tt)
+    let s : List ℕ = c .before .before .before .before .args .list .now in
+    let n : getD s 0 0 ≡ 1 → ⊥ = λ e. c .if2 .taken (c .before .byte .ensures ∙ e) in
+    (sym (list-versionless s (omega arith) n), sym (decode-versionless s (omega arith) n), tt)
 
 returns-3 : tie.Need-returns-3
 returns-3 c =
     let s : List ℕ = c .before .before .before .before .args .list .now in
     let e : getD s 0 0 ≡ 1 = sym (c .before .byte .ensures) ∙ c .if2 .left in
-    (left-start s (omega arith) e, record { before = omega arith; within = has-byte s e; lent = omega arith })
+    (left-start s (omega arith) e, sym (decode-arrays s (omega arith) e), record { before = omega arith; within = has-byte s e; lent = omega arith })
 
 pub start-spec : {M : Type 1} → statement M
 start-spec = tie.close (tie.spec returns byte-requires returns-2 returns-3)

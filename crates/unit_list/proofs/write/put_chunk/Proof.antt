@@ -1,36 +1,27 @@
-use Prim.Native.Nat.{ℕ, zero, suc, _+_, _*_, _-_, _/_, _%_, _^_, _≤_, _<_}
-use mathlib.Core.Path.{_≡_, refl, sym, ap, _∙_, subst}
-use mathlib.Core.List.{List, [], _∷_, _++_}
-use mathlib.Core.Logic.{⊎-elim}
-use native.Mathlib.Omega.{arith}
-use lib.ListN.{length, getD, take, drop}
+-- `write::put_chunk` leaves the length and the bytes from the place on.
 use borrow.Author.Needs.{needs}
+use Rattle.unit_list.proofs.Written.{chunk-written}
 use Rattle.unit_list.proofs.write.put_chunk.Statement.{statement}
 use Rattle.unit_list.proofs.write.put_chunk.Tie as tie
-use Rattle.unit_list.proofs.write.put_chunk.Reads as reads
-use Rattle.unit_list.proofs.write.put_chunk.Lts as lts
-use Rattle.boxes.proofs.place.copy.Reads as copy-reads
-use Rattle.boxes.proofs.place.put_number.Reads as put-number-reads
 
--- src/write.rt:26:5
 put-number-requires : tie.Need-put-number-requires
 put-number-requires c κs = search needs
 
--- src/write.rt:27:27
 add-copy : tie.Need-add-copy
 add-copy c = search needs
 
--- src/write.rt:27:5
 copy-requires : tie.Need-copy-requires
 copy-requires c κs = search needs
 
--- src/write.rt:22:1
 same-length : tie.Need-same-length
 same-length c = search needs
 
--- src/write.rt:22:1
 returns : tie.Need-returns
-returns c = ?
+returns c =
+    let a = c .before .before .before .before .before .before .before .before .before .before .args in
+    let n = c .before .before .before .before .before .before .put-number in
+    let y = c .before .before .copy in
+    chunk-written (a .out .now) (n .last .0) (y .last .1 .0) (a .src .now) (a .at) (a .width) (n .ensures) (y .ensures)
 
 pub put-chunk-spec : {M : Type 1} → statement M
 put-chunk-spec =

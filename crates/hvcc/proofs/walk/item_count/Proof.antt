@@ -1,4 +1,4 @@
--- `walk::count_units` counts the units of an item. The loop's invariant: those passed and those left are all.
+-- `walk::item_count` counts the units of an item. The loop's invariant: those passed and those left are all.
 use Prim.Native.Nat.{ℕ, _+_, _-_, _≤_, _<_}
 use mathlib.Core.Path.{_≡_}
 use native.Mathlib.Omega.{arith}
@@ -9,8 +9,8 @@ use Rattle.boxes.proofs.Walk.{plus, plus-zero}
 use Rattle.hvcc.specs.Answers.{leftOf}
 use Rattle.hvcc.proofs.Walks.{count-on, count-end, count-refused}
 use Rattle.hvcc.proofs.Items.{Turn, found-unit, found-end, found-refusal}
-use Rattle.hvcc.proofs.walk.count_units.Statement.{statement}
-use Rattle.hvcc.proofs.walk.count_units.Tie as tie
+use Rattle.hvcc.proofs.walk.item_count.Statement.{statement}
+use Rattle.hvcc.proofs.walk.item_count.Tie as tie
 
 abbrev Inv-walk : tie.InvT-walk
 Inv-walk item size at₀ n₀ at n = (at ≤ length item) × (n ≤ at) × (plus n (countFound (leftOf size item at)) ≡ countFound (leftOf size item 0))
@@ -60,8 +60,8 @@ returns-2 c =
     count-end _ _ _ (c .before .before .before .walk .inv .2)
     (found-end _ _ _ _ (c .before .before .item-step .ensures) (c .enum-told .given .1))
 
-pub count-units-spec : {M : Type 1} → statement M
-count-units-spec =
+pub item-count-spec : {M : Type 1} → statement M
+item-count-spec =
     tie.close
     (tie.spec
     Inv-walk

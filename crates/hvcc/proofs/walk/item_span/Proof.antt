@@ -1,4 +1,4 @@
--- `item_unit` gives the place of unit k of an item: counted first, so that a refusal further on is met.
+-- `walk::item_span` gives the place of unit k of an item: counted first, so that a refusal further on is met.
 use mathlib.Core.Path.{_≡_, sym, ap, _∙_}
 use native.Mathlib.Omega.{arith}
 use borrow.Author.Needs.{needs}
@@ -6,8 +6,8 @@ use Rattle.error.specs.Answers.{countOf}
 use Rattle.hvcc.specs.Item.{splitItem}
 use Rattle.hvcc.proofs.Walks.{past-last, past-refusal}
 use Rattle.hvcc.proofs.Items.{Sound, split-sound}
-use Rattle.hvcc.proofs.item_unit.Statement.{statement}
-use Rattle.hvcc.proofs.item_unit.Tie as tie
+use Rattle.hvcc.proofs.walk.item_span.Statement.{statement}
+use Rattle.hvcc.proofs.walk.item_span.Tie as tie
 
 split-length-prefixed-count-requires : tie.Need-split-length-prefixed-count-requires
 split-length-prefixed-count-requires c κs = search needs
@@ -37,21 +37,21 @@ sound : (c : tie.Else1)
     (c .before .before .counted .given .0 .0)
 sound c = split-sound _ _ _ (sym (c .before .before .before .before .split-length-prefixed-count .ensures) ∙ ap countOf (c .before .before .counted .given .1))
 
-unit-at-requires : tie.Need-unit-at-requires
-unit-at-requires c κs =
+item-unit-requires : tie.Need-item-unit-requires
+item-unit-requires c κs =
     let s = sound (c .before) in
     let w = c .wide .ensures .0 in
-    rw w (s .some, s .four, s .lent, omega arith)
+    rw w (s .some, s .four, s .lent, record { count = _; counted = s .counted; within = omega arith })
 
 returns-3 : tie.Need-returns-3
 returns-3 c =
     let a = c .before .before .before .before .before .before .before .before .args in
     let s = sound (c .before .before) in
     let w : c .before .wide .result ≡ a .length-size = c .before .wide .ensures .0 in
-    (rw (s .whole, ← w) (c .unit-at .ensures .0), c .unit-at .ensures .1)
+    (rw (s .whole, ← w) (c .item-unit .ensures .0), c .item-unit .ensures .1)
 
-pub item-unit-spec : {M : Type 1} → statement M
-item-unit-spec =
+pub item-span-spec : {M : Type 1} → statement M
+item-span-spec =
     tie.close
     (tie.spec
     split-length-prefixed-count-requires
@@ -60,5 +60,5 @@ item-unit-spec =
     returns
     returns-2
     wide-requires
-    unit-at-requires
+    item-unit-requires
     returns-3)

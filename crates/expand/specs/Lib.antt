@@ -1,3 +1,2 @@
 pub mod Expand
-pub mod AccessUnit
 pub mod Answers

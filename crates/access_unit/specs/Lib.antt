@@ -1,0 +1,2 @@
+pub mod AccessUnit
+pub mod Answers

@@ -1,0 +1,21 @@
+-- `refusal` gives the refusal of a refused part: by cases.
+use mathlib.Core.Path.{sym, ap}
+use borrow.Author.Needs.{needs}
+use Rattle.params.specs.Sections.{partRefusal}
+use Rattle.params.proofs.sps.refusal.Statement.{statement}
+use Rattle.params.proofs.sps.refusal.Tie as tie
+
+enum-known-answer : tie.Need-enum-known-answer
+enum-known-answer c = search needs
+
+enum-told : tie.Need-enum-told
+enum-told c = search needs
+
+returns : tie.Need-returns
+returns c = sym (ap partRefusal (c .before .answer .given .1))
+
+returns-2 : tie.Need-returns-2
+returns-2 c = sym (ap partRefusal (c .enum-told .given .1))
+
+pub refusal-spec : {M : Type 1} → statement M
+refusal-spec = tie.close (tie.spec enum-known-answer enum-told returns returns-2)

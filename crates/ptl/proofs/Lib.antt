@@ -1,0 +1,5 @@
+pub mod Parts
+pub mod Arrays
+pub mod ConstraintInfo
+pub mod SublayerLevels
+pub mod SubProfileValues

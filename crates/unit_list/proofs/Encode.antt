@@ -1,0 +1,211 @@
+-- A list decoded after encoding: the same arrays, lying where they were written.
+use Prim.Native.Nat.{ℕ, _+_, _^_, _≤_, _<_}
+use mathlib.Core.Path.{_≡_, refl, sym, ap, _∙_}
+use mathlib.Core.List.{List, [], _∷_, _++_, map, append-nil, append-assoc}
+use native.Mathlib.Omega.{arith}
+use lib.ListN.{length, getD, take, length-append}
+use lib.Seq.{take-at, getD-at}
+use Rattle.error.specs.Outcome.{Outcome, accept}
+use Rattle.error.specs.Parse.{Parsed, value, bind, many, outcomeOr}
+use Rattle.boxes.specs.Bytes.{toBe, chunk, toChunk}
+use Rattle.boxes.specs.Parts.{held}
+use Rattle.boxes.specs.declared.Span.{Span}
+use Rattle.boxes.proofs.Numbers.{length-toBe}
+use Rattle.boxes.proofs.Many.{many-nil, many-step}
+use Rattle.boxes.proofs.Fields.{chunk-toChunk, held-toChunk, chunk-advances}
+use Rattle.unit_list.specs.UnitList.{Array, array, decode, unitsOf, unitsOfType, heldArray, heldArrays, encodeUnits, encodeArray, encodeArrays, encode}
+use Rattle.unit_list.specs.Answers.{listUnits, listUnitsOfType}
+use Rattle.unit_list.proofs.Arrays.{Sound, sound-none, sound-more, array-reads, array-advances}
+use Rattle.unit_list.proofs.Left.{decode-arrays}
+use Rattle.unit_list.proofs.Units.{units-held, units-of-type-held}
+
+-- where the units of an array that is written from p on lie, and where its array's do
+unfoldable pub placedUnits : ℕ → ℕ → List (List ℕ) → List Span
+placedUnits w p [] = []
+placedUnits w p (u ∷ us) = record { start = p + w; len = length u } ∷ placedUnits w (p + w + length u) us
+
+abbrev pub placedArray : ℕ → ℕ → Array (List ℕ) → Array Span
+placedArray w p a = record { complete = a .complete; unitType = a .unitType; units = placedUnits w (p + w + 2) (a .units) }
+
+unfoldable pub placedArrays : ℕ → ℕ → List (Array (List ℕ)) → List (Array Span)
+placedArrays w p [] = []
+placedArrays w p (a ∷ xs) = placedArray w p a ∷ placedArrays w (p + length (encodeArray w a)) xs
+
+pub length-toChunk : (w : ℕ) (u : List ℕ) → length (toChunk w u) ≡ w + length u
+unfolding toChunk
+length-toChunk w u = length-append (toBe w (length u)) u ∙ rw (length-toBe w (length u))
+
+module _ (w : ℕ) (some : 1 ≤ w) (s : List ℕ) where
+  -- units that stand behind others at the end of s
+  units-written : (us : List (List ℕ)) (pre : List ℕ) (p : ℕ) → s ≡ pre ++ encodeUnits w us → length pre ≡ p → length (encodeUnits w us) < 256 ^ w
+      → many (chunk w) s p ≡ value (placedUnits w p us) (length s)
+  unfolding encodeUnits placedUnits
+  units-written [] pre p e l f =
+      let n : length s ≡ p = ap length (e ∙ append-nil pre) ∙ l in
+      many-nil (chunk w) s p (omega arith) ∙ rw (sym n)
+  units-written (u ∷ us) pre p e l f =
+      let k = length-append (toChunk w u) (encodeUnits w us) in
+      let j = length-toChunk w u in
+      let n = ap length e ∙ length-append pre (toChunk w u ++ encodeUnits w us) in
+      let c : chunk w s p ≡ value (record { start = p + w; len = length u }) (p + w + length u) =
+          rw (e, ← l) (chunk-toChunk w pre u (encodeUnits w us) (omega arith)) in
+      let m : length (pre ++ toChunk w u) ≡ p + w + length u = omega (arith, length-append pre (toChunk w u)) in
+      many-step (chunk w) s (chunk-advances w s some) p (record { start = p + w; len = length u }) (p + w + length u) (omega arith) c
+      ∙ rw (units-written us (pre ++ toChunk w u) (p + w + length u) (e ∙ sym (append-assoc pre (toChunk w u) (encodeUnits w us))) m (omega arith))
+
+module _ (w : ℕ) (s : List ℕ) where
+  -- units that stand anywhere in s hold their bytes
+  units-hold : (us : List (List ℕ)) (pre post : List ℕ) (p : ℕ) → s ≡ pre ++ (encodeUnits w us ++ post) → length pre ≡ p → length (encodeUnits w us) < 256 ^ w
+      → map (held s) (placedUnits w p us) ≡ us
+  unfolding encodeUnits placedUnits
+  units-hold [] pre post p e l f = refl
+  units-hold (u ∷ us) pre post p e l f =
+      let k = length-append (toChunk w u) (encodeUnits w us) in
+      let j = length-toChunk w u in
+      let g : s ≡ pre ++ (toChunk w u ++ (encodeUnits w us ++ post)) = e ∙ ap (λ (x : List ℕ). pre ++ x) (append-assoc (toChunk w u) (encodeUnits w us) post) in
+      let h : held s (record { start = p + w; len = length u }) ≡ u = rw (g, ← l) (held-toChunk w pre u (encodeUnits w us ++ post) (omega arith)) in
+      let m : length (pre ++ toChunk w u) ≡ p + w + length u = omega (arith, length-append pre (toChunk w u)) in
+      rw (h, units-hold us (pre ++ toChunk w u) post (p + w + length u) (g ∙ sym (append-assoc pre (toChunk w u) (encodeUnits w us ++ post))) m (omega arith))
+
+-- what stands behind an array's length, and what stands before its units
+abbrev restOf : ℕ → Array (List ℕ) → List ℕ
+restOf w a = a .complete ∷ a .unitType ∷ encodeUnits w (a .units)
+
+abbrev headOf : ℕ → Array (List ℕ) → List ℕ
+headOf w a = toBe w (length (restOf w a)) ++ (a .complete ∷ a .unitType ∷ [])
+
+-- one array behind others and in front of others
+module _ (w : ℕ) (s : List ℕ) (a : Array (List ℕ)) (pre post : List ℕ) (p : ℕ) (e : s ≡ pre ++ (encodeArray w a ++ post)) (l : length pre ≡ p)
+  (f : length (encodeArray w a) < 256 ^ w) where
+  length-array : length (encodeArray w a) ≡ w + length (restOf w a)
+  unfolding encodeArray
+  length-array = length-toChunk w (restOf w a)
+
+  length-head : length (pre ++ headOf w a) ≡ p + w + 2
+  length-head =
+      length-append pre (headOf w a) ∙ rw (length-append (toBe w (length (restOf w a))) (a .complete ∷ a .unitType ∷ []), length-toBe w (length (restOf w a)), l) (omega arith)
+
+  units-behind : pre ++ encodeArray w a ≡ (pre ++ headOf w a) ++ encodeUnits w (a .units)
+  unfolding encodeArray toChunk
+  units-behind =
+      ap (λ (x : List ℕ). pre ++ x) (sym (append-assoc (toBe w (length (restOf w a))) (a .complete ∷ a .unitType ∷ []) (encodeUnits w (a .units))))
+      ∙ sym (append-assoc pre (headOf w a) (encodeUnits w (a .units)))
+
+  split : s ≡ (pre ++ headOf w a) ++ (encodeUnits w (a .units) ++ post)
+  split =
+      e ∙ sym (append-assoc pre (encodeArray w a) post) ∙ ap (λ (x : List ℕ). x ++ post) units-behind
+      ∙ append-assoc (pre ++ headOf w a) (encodeUnits w (a .units)) post
+
+  pub array-held : heldArray s (placedArray w p a) ≡ a
+  array-held =
+      let k = length-array in
+      ap (λ (us : List (List ℕ)). record { complete = a .complete; unitType = a .unitType; units = us })
+      (units-hold w s (a .units) (pre ++ headOf w a) post (p + w + 2) split length-head (omega arith))
+
+  -- its bytes from complete on
+  bytes-at : s ≡ (pre ++ toBe w (length (restOf w a))) ++ (restOf w a ++ post)
+  unfolding encodeArray toChunk
+  bytes-at =
+      e ∙ ap (λ (x : List ℕ). pre ++ x) (append-assoc (toBe w (length (restOf w a))) (restOf w a) post)
+      ∙ sym (append-assoc pre (toBe w (length (restOf w a))) (restOf w a ++ post))
+
+  before : length (pre ++ toBe w (length (restOf w a))) ≡ p + w
+  before = length-append pre (toBe w (length (restOf w a))) ∙ rw (length-toBe w (length (restOf w a)), l)
+
+  complete-at : getD s (p + w) 0 ≡ a .complete
+  complete-at = rw bytes-at (getD-at (pre ++ toBe w (length (restOf w a))) (a .complete) (a .unitType ∷ (encodeUnits w (a .units) ++ post)) 0 (p + w) before)
+
+  type-at : getD s (p + w + 1) 0 ≡ a .unitType
+  type-at =
+      let m : length ((pre ++ toBe w (length (restOf w a))) ++ (a .complete ∷ [])) ≡ p + w + 1 =
+          length-append (pre ++ toBe w (length (restOf w a))) (a .complete ∷ []) ∙ rw before (omega arith) in
+      rw bytes-at
+      (ap (λ (x : List ℕ). getD x (p + w + 1) 0) (sym (append-assoc (pre ++ toBe w (length (restOf w a))) (a .complete ∷ []) (a .unitType ∷ (encodeUnits w (a .units) ++ post))))
+      ∙ getD-at ((pre ++ toBe w (length (restOf w a))) ++ (a .complete ∷ [])) (a .unitType) (encodeUnits w (a .units) ++ post) 0 (p + w + 1) m)
+
+  rest-at : take (p + w + length (restOf w a)) s ≡ (pre ++ headOf w a) ++ encodeUnits w (a .units)
+  rest-at =
+      let k = length-array in
+      let m : length (pre ++ encodeArray w a) ≡ p + w + length (restOf w a) = length-append pre (encodeArray w a) ∙ rw l (omega arith) in
+      rw (e, ← append-assoc pre (encodeArray w a) post) (take-at (pre ++ encodeArray w a) post (p + w + length (restOf w a)) m) ∙ units-behind
+
+  module _ (some : 1 ≤ w) (one : a .complete ≤ 1) (small : a .unitType ≤ 31) where
+    pub array-written : array w s p ≡ value (placedArray w p a) (p + length (encodeArray w a))
+    array-written =
+        let k = length-array in
+        let c : chunk w s p ≡ value (record { start = p + w; len = length (restOf w a) }) (p + w + length (restOf w a)) =
+            unfold encodeArray in rw (e, ← l) (chunk-toChunk w pre (restOf w a) post (omega arith)) in
+        let u = units-written w some (take (p + w + length (restOf w a)) s) (a .units) (pre ++ headOf w a) (p + w + 2) rest-at length-head (omega arith) in
+        let m : length (take (p + w + length (restOf w a)) s) ≡ p + length (encodeArray w a) =
+            ap length rest-at ∙ length-append (pre ++ headOf w a) (encodeUnits w (a .units)) ∙ rw length-head (omega arith) in
+        array-reads w s p (record { start = p + w; len = length (restOf w a) }) c (omega arith) (rw complete-at one) (rw type-at small)
+        ∙ rw (u, m, complete-at, type-at)
+
+-- arrays one behind the other
+module _ (w : ℕ) (s : List ℕ) where
+  arrays-written : 1 ≤ w → {xs : List (Array (List ℕ))} → Sound xs → (pre : List ℕ) (p : ℕ) → s ≡ pre ++ encodeArrays w xs → length pre ≡ p
+      → length (encodeArrays w xs) < 256 ^ w → many (array w) s p ≡ value (placedArrays w p xs) (length s)
+  unfolding encodeArrays placedArrays
+  arrays-written some sound-none pre p e l f =
+      let n : length s ≡ p = ap length (e ∙ append-nil pre) ∙ l in
+      many-nil (array w) s p (omega arith) ∙ rw (sym n)
+  arrays-written some (sound-more {a = a} {xs = xs} one small h) pre p e l f =
+      let k = length-append (encodeArray w a) (encodeArrays w xs) in
+      let n = ap length e ∙ length-append pre (encodeArray w a ++ encodeArrays w xs) in
+      let g : length (encodeArray w a) < 256 ^ w = omega arith in
+      let j = length-array w s a pre (encodeArrays w xs) p e l g in
+      let c = array-written w s a pre (encodeArrays w xs) p e l g some one small in
+      let m : length (pre ++ encodeArray w a) ≡ p + length (encodeArray w a) = length-append pre (encodeArray w a) ∙ rw l in
+      many-step (array w) s (array-advances w s some) p (placedArray w p a) (p + length (encodeArray w a)) (omega arith) c
+      ∙ rw (arrays-written some h (pre ++ encodeArray w a) (p + length (encodeArray w a)) (e ∙ sym (append-assoc pre (encodeArray w a) (encodeArrays w xs))) m (omega arith))
+
+  arrays-held : (xs : List (Array (List ℕ))) (pre : List ℕ) (p : ℕ) → s ≡ pre ++ encodeArrays w xs → length pre ≡ p
+      → length (encodeArrays w xs) < 256 ^ w → heldArrays s (placedArrays w p xs) ≡ xs
+  unfolding encodeArrays placedArrays
+  arrays-held [] pre p e l f = refl
+  arrays-held (a ∷ xs) pre p e l f =
+      let k = length-append (encodeArray w a) (encodeArrays w xs) in
+      let m : length (pre ++ encodeArray w a) ≡ p + length (encodeArray w a) = length-append pre (encodeArray w a) ∙ rw l in
+      let h = array-held w s a pre (encodeArrays w xs) p e l (omega arith) in
+      let t = arrays-held xs (pre ++ encodeArray w a) (p + length (encodeArray w a)) (e ∙ sym (append-assoc pre (encodeArray w a) (encodeArrays w xs))) m (omega arith) in
+      rw (h, t)
+
+-- what is read of s: where it lies, and the bytes that it holds
+pub record UnitsRead (s : List ℕ) (o : Outcome (List Span)) (us : List (List ℕ)) : Type 0 where
+  pub spans : List Span
+  pub read : o ≡ accept spans
+  pub bytes : map (held s) spans ≡ us
+
+-- a list decoded after encoding: arrays that hold the same bytes
+module _ (xs : List (Array (List ℕ))) (fits : length (encode xs) ≤ 2 ^ 30) where
+  fits-width : length (encodeArrays 4 xs) < 256 ^ 4
+  unfolding encode
+  fits-width = omega arith
+
+  pub held-encode : heldArrays (encode xs) (placedArrays 4 1 xs) ≡ xs
+  unfolding encode
+  held-encode = arrays-held 4 (1 ∷ encodeArrays 4 xs) xs (1 ∷ []) 1 refl refl fits-width
+
+  module _ (sound : Sound xs) where
+    pub decode-encode : decode (encode xs) ≡ accept (placedArrays 4 1 xs)
+    unfolding encode
+    decode-encode =
+        decode-arrays (1 ∷ encodeArrays 4 xs) fits refl
+        ∙ ap (outcomeOr 21) (arrays-written 4 (1 ∷ encodeArrays 4 xs) (omega arith) sound (1 ∷ []) 1 refl refl fits-width)
+
+    -- and so its units do, all of them and those of a type
+    pub units-encode : UnitsRead (encode xs) (listUnits (encode xs)) (unitsOf xs)
+    units-encode =
+        record {
+          spans = unitsOf (placedArrays 4 1 xs);
+          read = rw decode-encode;
+          bytes = units-held (encode xs) (placedArrays 4 1 xs) ∙ ap unitsOf held-encode
+        }
+
+    pub units-of-type-encode : (t : ℕ) → UnitsRead (encode xs) (listUnitsOfType t (encode xs)) (unitsOfType t xs)
+    units-of-type-encode t =
+        record {
+          spans = unitsOfType t (placedArrays 4 1 xs);
+          read = rw decode-encode;
+          bytes = units-of-type-held (encode xs) t (placedArrays 4 1 xs) ∙ ap (unitsOfType t) held-encode
+        }

@@ -1,0 +1,81 @@
+-- The units of a list: all of them and those of a type, by their arrays and by the walk.
+use Prim.Native.Nat.{ℕ}
+use mathlib.Core.Path.{_≡_, refl, ap, _∙_}
+use mathlib.Core.Bool.{Bool, true, false}
+use mathlib.Core.List.{List, [], _∷_, _++_, map, map-append}
+use lib.Dec.{eqb}
+use Rattle.error.specs.Logic.{if_then_else_}
+use Rattle.error.specs.Outcome.{Outcome, accept, refuse, andThen}
+use Rattle.boxes.specs.Parts.{held}
+use Rattle.boxes.specs.declared.Span.{Span}
+use Rattle.unit_list.specs.UnitList.{Array, decode, unitsOf, unitsOfType, heldArray, heldArrays}
+use Rattle.unit_list.specs.Answers.{listUnits, listUnitsOfType}
+use Rattle.unit_list.specs.Walk.{TypedUnit, typed, typedUnits, typedList}
+use Rattle.unit_list.specs.Find.{wants, wantedUnits, wantedList}
+use Rattle.unit_list.specs.declared.Wanted.{Wanted}
+use Rattle.unit_list.specs.declared.Wanted.the-variants.{Every, OfType}
+
+-- one array's units are wanted, or they are not
+wanted-typed : (w : Wanted) (t : ℕ) (us : List Span) (rest : List TypedUnit)
+    → wantedUnits w (typed t us ++ rest) ≡ (if wants w t then us ++ wantedUnits w rest else wantedUnits w rest)
+unfolding typed wantedUnits
+wanted-typed w t us rest = go (wants w t) refl us
+  where
+    go : (b : Bool) → wants w t ≡ b → (us : List Span) → wantedUnits w (typed t us ++ rest) ≡ (if b then us ++ wantedUnits w rest else wantedUnits w rest)
+    go true h [] = refl
+    go false h [] = refl
+    go true h (a ∷ us) = rw h (ap (λ (l : List Span). a ∷ l) (go true h us))
+    go false h (a ∷ us) = rw h (go false h us)
+
+-- the wanted units are all units, or those of the type
+pub wanted-every : (xs : List (Array Span)) → wantedUnits Every (typedUnits xs) ≡ unitsOf xs
+unfolding typedUnits wantedUnits unitsOf
+wanted-every [] = refl
+wanted-every (a ∷ xs) = wanted-typed Every (a .unitType) (a .units) (typedUnits xs) ∙ ap (λ (l : List Span). a .units ++ l) (wanted-every xs)
+
+pub wanted-type : (t : ℕ) (xs : List (Array Span)) → wantedUnits (OfType t) (typedUnits xs) ≡ unitsOfType t xs
+unfolding typedUnits wantedUnits unitsOfType
+wanted-type t [] = refl
+wanted-type t (a ∷ xs) = wanted-typed (OfType t) (a .unitType) (a .units) (typedUnits xs) ∙ rw (wanted-type t xs)
+
+pub units-every : (xs : List TypedUnit) → map (λ (x : TypedUnit). x .unit) xs ≡ wantedUnits Every xs
+unfolding wantedUnits
+units-every [] = refl
+units-every (x ∷ xs) = ap (λ (l : List Span). x .unit ∷ l) (units-every xs)
+
+pub units-typed : (xs : List (Array Span)) → map (λ (x : TypedUnit). x .unit) (typedUnits xs) ≡ unitsOf xs
+units-typed xs = units-every (typedUnits xs) ∙ wanted-every xs
+
+-- the same of a list
+pub list-every : (s : List ℕ) → wantedList Every s ≡ listUnits s
+list-every s = go (decode s)
+  where
+    go : (o : Outcome (List (Array Span)))
+        → andThen (andThen o (λ xs. accept (typedUnits xs))) (λ xs. accept (wantedUnits Every xs)) ≡ andThen o (λ xs. accept (unitsOf xs))
+    go (accept xs) = ap accept (wanted-every xs)
+    go (refuse e) = refl
+
+pub list-type : (t : ℕ) (s : List ℕ) → wantedList (OfType t) s ≡ listUnitsOfType t s
+list-type t s = go (decode s)
+  where
+    go : (o : Outcome (List (Array Span)))
+        → andThen (andThen o (λ xs. accept (typedUnits xs))) (λ xs. accept (wantedUnits (OfType t) xs)) ≡ andThen o (λ xs. accept (unitsOfType t xs))
+    go (accept xs) = ap accept (wanted-type t xs)
+    go (refuse e) = refl
+
+-- the bytes of the units are the units of the arrays with their bytes
+pub units-held : (s : List ℕ) (xs : List (Array Span)) → map (held s) (unitsOf xs) ≡ unitsOf (heldArrays s xs)
+unfolding unitsOf
+units-held s [] = refl
+units-held s (a ∷ xs) = map-append (held s) (a .units) (unitsOf xs) ∙ rw (units-held s xs)
+
+pub units-of-type-held : (s : List ℕ) (t : ℕ) (xs : List (Array Span)) → map (held s) (unitsOfType t xs) ≡ unitsOfType t (heldArrays s xs)
+unfolding unitsOfType
+units-of-type-held s t [] = refl
+units-of-type-held s t (a ∷ xs) = go (eqb (a .unitType) t) (units-of-type-held s t xs)
+  where
+    go : (b : Bool) → map (held s) (unitsOfType t xs) ≡ unitsOfType t (heldArrays s xs)
+        → map (held s) (if b then a .units ++ unitsOfType t xs else unitsOfType t xs)
+        ≡ (if b then map (held s) (a .units) ++ unitsOfType t (heldArrays s xs) else unitsOfType t (heldArrays s xs))
+    go true h = map-append (held s) (a .units) (unitsOfType t xs) ∙ rw h
+    go false h = h

@@ -1,5 +1,5 @@
 -- Laws of items: the unit at a place by cases, the walk from it, and where the units of an accepted item lie.
-use Prim.Native.Nat.{ℕ, zero, suc, _+_, _-_, _^_, _≤_, _<_}
+use Prim.Native.Nat.{ℕ, _+_, _^_, _≤_, _<_}
 use mathlib.Core.Path.{_≡_, refl, sym, ap, _∙_}
 use mathlib.Core.Logic.{_⊎_, ⊎-elim, inl, inr}
 use mathlib.Core.List.{List, [], _∷_}
@@ -74,14 +74,14 @@ module _ (size : ℕ) (s : List ℕ) (p : ℕ) where
       elim (decLe (p + size) (length s)) [
         | no k ↦ never 1 a q (unit-no-length (omega arith)) e
         | yes k ↦
-          elim (decLe (be s p size) 0) [
-            | yes z ↦ never 5 a q (unit-zero k (omega arith)) e
-            | no z ↦
-              elim (decLe (p + size + be s p size) (length s)) [
-                | no b ↦ never 1 a q (unit-no-bytes k (λ w. z (omega arith)) (omega arith)) e
-                | yes b ↦ unit-is a q (λ w. z (omega arith)) b (sym (unit-there k (λ w. z (omega arith)) b) ∙ e)
-              ]
-          ]
+            elim (decLe (be s p size) 0) [
+              | yes z ↦ never 5 a q (unit-zero k (omega arith)) e
+              | no z ↦
+                  elim (decLe (p + size + be s p size) (length s)) [
+                    | no b ↦ never 1 a q (unit-no-bytes k (λ w. z (omega arith)) (omega arith)) e
+                    | yes b ↦ unit-is a q (λ w. z (omega arith)) b (sym (unit-there k (λ w. z (omega arith)) b) ∙ e)
+                  ]
+            ]
       ]
 
 pub unit-advances : (size : ℕ) (s : List ℕ) → Advances (itemUnit size) s
@@ -204,16 +204,16 @@ split-sound size s n e =
     elim (decLe (length s) (2 ^ 30)) [
       | no k ↦ never 23 (split-too-long size s (omega arith))
       | yes k ↦
-        elim (decLe size 0) [
-          | yes z ↦ never 4 (split-lent size s k ∙ items-size size s (inl (omega arith)))
-          | no z ↦
-            elim (decLe size 4) [
-              | no f ↦ never 4 (split-lent size s k ∙ items-size size s (inr (omega arith)))
-              | yes f ↦ (
-                let w = split-lent size s k ∙ items-left size s (omega arith) f in
-                record { some = omega arith; four = f; lent = k; whole = w; counted = rw w at e })
-            ]
-        ]
+          elim (decLe size 0) [
+            | yes z ↦ never 4 (split-lent size s k ∙ items-size size s (inl (omega arith)))
+            | no z ↦
+                elim (decLe size 4) [
+                  | no f ↦ never 4 (split-lent size s k ∙ items-size size s (inr (omega arith)))
+                  | yes f ↦ (
+                      let w = split-lent size s k ∙ items-left size s (omega arith) f in
+                      record { some = omega arith; four = f; lent = k; whole = w; counted = rw w at e })
+                ]
+          ]
     ]
   where
     never : (m : ℕ) → splitItem size s ≡ refuse m → Sound size s n
@@ -227,10 +227,10 @@ module _ (size : ℕ) (s : List ℕ) (xs : List Span) where
       elim (decLe size 0) [
         | yes z ↦ never (inl (omega arith))
         | no z ↦
-          elim (decLe size 4) [
-            | no f ↦ never (inr (omega arith))
-            | yes f ↦ left-apart size s 0 xs (omega arith) (omega arith) (sym (items-left size s (omega arith) f) ∙ e)
-          ]
+            elim (decLe size 4) [
+              | no f ↦ never (inr (omega arith))
+              | yes f ↦ left-apart size s 0 xs (omega arith) (omega arith) (sym (items-left size s (omega arith) f) ∙ e)
+            ]
       ]
     where
       never : (size ≡ 0) ⊎ (4 < size) → Apart (length s) 0 xs

@@ -4,3 +4,4 @@ pub mod Items
 pub mod Trim
 pub mod Streams
 pub mod RoundTrip
+pub mod Examples

@@ -1,22 +1,19 @@
 -- Splitting what was put together gives the units back: of a stream of units behind start codes, and of an item of one unit.
-use Prim.Native.Nat.{ℕ, zero, suc, _+_, _-_, _^_, _≤_, _<_}
+use Prim.Native.Nat.{ℕ, suc, _+_, _-_, _^_, _≤_, _<_}
 use mathlib.Core.Path.{_≡_, refl, sym, ap, _∙_}
 use mathlib.Core.List.{List, [], _∷_, _++_, map, append-assoc, append-nil}
 use native.Mathlib.Omega.{arith}
 use lib.ListN.{length, getD, take, drop, length-append}
 use lib.Seq.{take-at, drop-at, take-append-add, take-length, drop-append-add, drop-append-seam}
-use borrow.Author.Tests.{ne-eqb, le-ltb}
-use Rattle.error.specs.Outcome.{Outcome, accept, refuse}
+use Rattle.error.specs.Outcome.{accept}
 use Rattle.boxes.specs.Bytes.{be, toBe, toChunk}
 use Rattle.boxes.specs.Parts.{held}
-use Rattle.boxes.specs.declared.Span.{Span}
 use Rattle.boxes.proofs.Numbers.{be-toBe, length-toBe}
 use Rattle.nal.specs.StartCode.{isStartCode, scan, startCodeFrom}
 use Rattle.nal.proofs.StartCodes.{scan-none, scan-then-code, scan-then-four}
 use Rattle.nal.proofs.Checks.{Splittable}
 use Rattle.hvcc.specs.Item.{itemUnits}
 use Rattle.hvcc.specs.Stream.{trim, unitsFrom, annexB}
-use Rattle.hvcc.specs.Answers.{leftOf}
 use Rattle.hvcc.proofs.Trim.{trim-zero, trim-whole}
 use Rattle.hvcc.proofs.Streams.{scan-stays, units-scan, units-end, step-unit}
 use Rattle.hvcc.proofs.Items.{left-more, left-end, items-left}
@@ -57,7 +54,7 @@ unit-between StartCode.four u (v ∷ us) h =
     (trim-zero u ∙ trim-whole u (h .some) (h .ends))
 
 module _ (s u t : List ℕ) (q : ℕ) (here : scan (drop q s) ≡ 0) (inside : q < length s) (follows : drop (q + 3) s ≡ u ++ t)
-  (between : trim (take (scan (u ++ t)) (u ++ t)) ≡ u) (some : 0 < length u) where
+    (between : trim (take (scan (u ++ t)) (u ++ t)) ≡ u) (some : 0 < length u) where
   -- the unit behind a start code
   unit-first : unitsFrom s q ≡ record { start = q + 3; len = length u } ∷ unitsFrom s (q + 3 + length u)
   unit-first =
@@ -105,7 +102,7 @@ module _ (code : List ℕ) (c : StartCode code) where
   split-behind [] h pre = rw (append-nil pre, units-end pre (length pre) (omega arith))
   split-behind (u ∷ us) h pre =
       let rest : map (held ((pre ++ (code ++ u)) ++ annexB code us)) (unitsFrom ((pre ++ (code ++ u)) ++ annexB code us) (length (pre ++ (code ++ u)))) ≡ us
-          = split-behind us (λ k l. h (suc k) (omega arith)) (pre ++ (code ++ u)) in
+      = split-behind us (λ k l. h (suc k) (omega arith)) (pre ++ (code ++ u)) in
       let first = h 0 (omega arith) in
       rw (one-unit pre u us first, holds-unit pre u us first)
       (ap (λ (l : List (List ℕ)). u ∷ l) (rw (← regroup pre u us first, length-done pre u us first) at rest))

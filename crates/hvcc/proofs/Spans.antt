@@ -3,9 +3,7 @@ use Prim.Native.Nat.{ℕ, zero, suc, _+_, _≤_, _<_}
 use mathlib.Core.List.{List, [], _∷_}
 use native.Mathlib.Omega.{arith}
 use lib.ListN.{length, getD}
-use Rattle.error.specs.Outcome.{Outcome, accept, refuse}
 use Rattle.boxes.specs.Parts.{nowhere}
-use Rattle.boxes.specs.Walk.{found}
 use Rattle.boxes.specs.declared.Span.{Span}
 
 -- each starts behind place p and behind the one before it, and the last ends at e or before

@@ -2,7 +2,7 @@
 use Prim.Native.Nat.{ℕ, zero, suc, _+_, _-_, _^_, _≤_, _<_}
 use mathlib.Core.Path.{_≡_, refl, sym, ap, _∙_}
 use mathlib.Core.List.{List, [], _∷_}
-use mathlib.Core.Option.{Option, none, some}
+use mathlib.Core.Option.{none, some}
 use mathlib.Core.Logic.{_⊎_, ⊎-elim, inl, inr}
 use native.Mathlib.Omega.{arith}
 use native.Mathlib.Decide.{decLe}
@@ -20,7 +20,7 @@ use Rattle.boxes.specs.Walk.{more, found}
 use Rattle.boxes.specs.declared.Span.{Span}
 use Rattle.boxes.proofs.Many.{Advances, many-nil, many-step, many-induction}
 use Rattle.nal.specs.StartCode.{scan, startCodeFrom}
-use Rattle.nal.proofs.StartCodes.{CodeAt, scan-le, scan-found, scan-first, scan-skip, scan-hit, drop-code}
+use Rattle.nal.proofs.StartCodes.{scan-le, scan-found, scan-first, scan-skip, scan-hit, drop-code}
 use Rattle.hvcc.specs.Stream.{trim, segment, nonEmpty, allRead, unitsFrom, splitStream}
 use Rattle.hvcc.specs.Answers.{UnitAhead, Next, first, nextOf, nextGiven}
 use Rattle.hvcc.specs.declared.NextUnit.{NextUnit}
@@ -128,7 +128,7 @@ module _ (s : List ℕ) where
 
   -- the same with the numbers that the code found
   module _ (q : ℕ) (here : scan (drop q s) ≡ 0) (inside : q < length s) (next len : ℕ) (stops : next ≡ startCodeFrom s (q + 3))
-    (cuts : len ≡ length (trim (take (next - (q + 3)) (drop (q + 3) s)))) where
+      (cuts : len ≡ length (trim (take (next - (q + 3)) (drop (q + 3) s)))) where
     same-len : len ≡ segmentLen q here inside
     same-len = cuts ∙ rw stops
 
@@ -159,11 +159,11 @@ module _ (s : List ℕ) where
       elim (decLe (segmentLen q z i) 0) [
         | yes k ↦ earlier q (startCodeFrom s (q + 3)) (omega arith) (units-empty q z i (omega arith)) (later (startCodeFrom s (q + 3)) (omega arith))
         | no k ↦ (
-          let r = code-room q z i in
-          let l = segment-le q z i in
-          let m = scan-le (drop (q + 3) s) in
-          let n = length-drop (q + 3) s in
-          View.unit (record { start = q + 3; len = segmentLen q z i }) (record { some = omega arith; ahead = omega arith; behind = refl; inside = omega arith }) (units-unit q z i (omega arith)))
+            let r = code-room q z i in
+            let l = segment-le q z i in
+            let m = scan-le (drop (q + 3) s) in
+            let n = length-drop (q + 3) s in
+            View.unit (record { start = q + 3; len = segmentLen q z i }) (record { some = omega arith; ahead = omega arith; behind = refl; inside = omega arith }) (units-unit q z i (omega arith)))
       ]
 
   view-within : (f p : ℕ) → length s ≤ p + f → View p

@@ -6,7 +6,6 @@ use boxes::place;
 use error::Counted;
 use error::Refusal;
 use nal::start_code;
-
 ghost use mathlib.Core.Path.{_≡_};
 ghost use Rattle.error.specs.Answers.{countOf};
 ghost use Rattle.boxes.specs.Parts.{PartOf};
@@ -69,7 +68,10 @@ pub fn next_unit(stream: &[u8], from: usize) -> NextUnit
         code = start_code::start_code(stream, start);
         let len = walk::trimmed(stream, start, code);
         if 0 < len {
-            let unit = Span { start: start, len: len };
+            let unit = Span {
+                start: start,
+                len: len,
+            };
             let behind = start + len;
             return NextUnit::Unit(unit, behind);
         }

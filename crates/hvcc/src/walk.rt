@@ -5,7 +5,6 @@ use boxes::Span;
 use boxes::place;
 use error::Counted;
 use error::Refusal;
-
 ghost use mathlib.Core.Path.{_≡_};
 ghost use Prim.Native.Nat.{_+_, _-_, _≤_, _<_, _^_};
 ghost use lib.ListN.{length, take, drop};
@@ -35,7 +34,10 @@ pub fn item_step(item: &[u8], size: usize, at: usize) -> ItemStep
     if left - size < len {
         return ItemStep::Refused(Refusal::Truncated);
     }
-    let unit = Span { start: start, len: len };
+    let unit = Span {
+        start: start,
+        len: len,
+    };
     ItemStep::Unit(unit, start + len)
 }
 

@@ -3,9 +3,12 @@ use Prim.Native.Nat.{ℕ}
 use mathlib.Core.List.{List}
 use mathlib.Core.Option.{Option, none, some}
 use Rattle.error.specs.Outcome.{Outcome, accept, refuse, lentInput, handsBack}
+use Rattle.error.specs.Parse.{Parsed, outcome}
 use Rattle.error.specs.Refusals.{numberOf}
 use Rattle.ptl.specs.Ptl.{zeroPtl}
 use Rattle.params.specs.Heads.{parseSps, vpsFirstPtl, opiOlsIdx, zeroSps}
+use Rattle.ptl.specs.declared.PtlAnswer.{PtlAnswer}
+use Rattle.ptl.specs.declared.PtlAnswer.the-variants as P
 use Rattle.ptl.specs.declared.VvcPtlRecord.{VvcPtlRecord}
 use Rattle.params.specs.declared.SpsHead.{SpsHead}
 use Rattle.params.specs.declared.ParamsAnswer.{ParamsAnswer}
@@ -20,6 +23,10 @@ abbrev pub readOf : {A : Type 0} → ParamsAnswer → A → Outcome A
 readOf A.Read a = accept a
 readOf (A.Refused e) a = refuse (numberOf e)
 
+-- what reading gives, with zeros beside a refusal
+abbrev pub readOr : {A : Type 0} → A → Parsed A → Outcome A × A
+readOr zeros x = handsBack (λ a. a) zeros (outcome x)
+
 -- an SPS head and what stands in the struct, on a refusal too
 abbrev pub spsOf : SpsRead → Outcome SpsHead × SpsHead
 spsOf r = (readOf (r .answer) (r .head), r .head)
@@ -33,6 +40,11 @@ spsGiven unit = handsBack (λ h. h) zeroSps (parseSps unit)
 
 abbrev pub ptlGiven : List ℕ → Outcome VvcPtlRecord × VvcPtlRecord
 ptlGiven unit = handsBack (λ p. p) zeroPtl (vpsFirstPtl unit)
+
+-- the answer of a PTL's bits, without the position
+abbrev pub answerOf : PtlAnswer → ParamsAnswer
+answerOf (P.Read q) = A.Read
+answerOf (P.Refused e) = A.Refused e
 
 -- an operating point, or that it is absent
 abbrev pub olsIdxOf : OlsIdx → Outcome (Option ℕ)

@@ -13,6 +13,7 @@ use Rattle.ptl.specs.declared.PtlAnswer.{PtlAnswer}
 use Rattle.ptl.specs.declared.PtlAnswer.the-variants as A
 use Rattle.ptl.specs.declared.VvcPtlRecord.{VvcPtlRecord}
 use Rattle.params.specs.Heads.{Window, window, noWindow}
+use Rattle.params.specs.declared.SpsHead.{SpsHead}
 use Rattle.params.specs.declared.sps.SpsIds.{SpsIds}
 use Rattle.params.specs.declared.sps.SpsSize.{SpsSize}
 use Rattle.params.specs.declared.sps.ConfWindow.{ConfWindow}
@@ -65,6 +66,25 @@ depth = do
   d ← ue
   refuseIf (ltb 8 d) 14
   give d
+
+-- the head that the sections make up
+abbrev pub headOf : SpsIds → VvcPtlRecord → SpsSize → Window → ℕ → SpsHead
+headOf i p z w d = record {
+    «sps_id» = i .«sps_id»;
+    «vps_id» = i .«vps_id»;
+    «max_sublayers_minus1» = i .«max_sublayers_minus1»;
+    «chroma_format_idc» = i .«chroma_format_idc»;
+    «log2_ctu_size» = i .«log2_ctu_size»;
+    «ptl_present_flag» = i .«ptl_present_flag»;
+    ptl = p;
+    «pic_width» = z .«pic_width»;
+    «pic_height» = z .«pic_height»;
+    «conformance_window_flag» = z .«conformance_window_flag»;
+    «conf_win_left_offset» = w .left;
+    «conf_win_right_offset» = w .right;
+    «conf_win_top_offset» = w .top;
+    «conf_win_bottom_offset» = w .bottom;
+    «bit_depth» = d + 8 }
 
 -- the refusal of a refused part; one that was read has none, and some refusal stands for that
 abbrev pub partRefusal : PtlAnswer → Refusal

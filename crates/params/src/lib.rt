@@ -1,8 +1,17 @@
 // What a still's parameter sets say: profile, tier and level, the SPS's head, the VPS's first PTL, an OPI's operating point.
+pub mod cropped;
+pub mod opi;
 pub mod sps;
+pub mod vps;
 
 use error::Refusal;
+use nal::NAL_SPS;
+use nal::NAL_VPS;
+use nal::header;
 use ptl::VvcPtlRecord;
+ghost use mathlib.Core.Path.{_≡_};
+ghost use Rattle.params.specs.Cropped.{croppedSize};
+ghost use Rattle.params.specs.Answers.{spsOf, spsGiven, ptlOf, ptlGiven, olsIdxOf, olsIdxGiven};
 
 // An SPS up to its bit depth (H.266 7.3.2.4). The window's four values are 0 without its flag, the PTL all zeros without its.
 pub struct SpsHead {
@@ -52,4 +61,56 @@ pub enum OlsIdx {
 pub struct PictureSize {
     pub width: u32,
     pub height: u32,
+}
+
+impl SpsHead {
+    // The head of an SPS unit, two-byte header included. Refusals: 23, 10, then in bit order 11, 12, 13, 14.
+    pub fn parse_nal(nal: &[u8]) -> SpsRead
+        ensures { λ r. ⌜ spsOf r ≡ spsGiven (now (nal .entry)) ⌝ }
+    {
+        if 0x4000_0000 < nal.len() {
+            return sps::no_sps(Refusal::InputTooLong);
+        }
+        if header::type_or_31(nal) != NAL_SPS {
+            return sps::no_sps(Refusal::WrongUnitType);
+        }
+        sps::parse_payload(&nal[2..])
+    }
+
+    // The size inside the conformance window.
+    pub fn cropped_size(self) -> PictureSize
+        ensures { λ r. ⌜ r ≡ croppedSize self ⌝ }
+    {
+        if !self.conformance_window_flag {
+            return PictureSize { width: self.pic_width, height: self.pic_height };
+        }
+        let unit_width = cropped::sub_width(self.chroma_format_idc);
+        let unit_height = cropped::sub_height(self.chroma_format_idc);
+        let width = cropped::cropped_side(self.pic_width, unit_width, self.conf_win_left_offset, self.conf_win_right_offset);
+        let height = cropped::cropped_side(self.pic_height, unit_height, self.conf_win_top_offset, self.conf_win_bottom_offset);
+        PictureSize { width, height }
+    }
+}
+
+// The first PTL of a VPS unit. Refusals: 23, 10, then in bit order 11, 15.
+pub fn vps_first_ptl(nal: &[u8]) -> PtlRead
+    ensures { λ r. ⌜ ptlOf r ≡ ptlGiven (now (nal .entry)) ⌝ }
+{
+    if 0x4000_0000 < nal.len() {
+        return vps::no_ptl(Refusal::InputTooLong);
+    }
+    if header::type_or_31(nal) != NAL_VPS {
+        return vps::no_ptl(Refusal::WrongUnitType);
+    }
+    vps::parse_payload(&nal[2..])
+}
+
+// The operating point of an OPI unit; absent where it does not read. Refusal: 23.
+pub fn opi_ols_idx(nal: &[u8]) -> OlsIdx
+    ensures { λ r. ⌜ olsIdxOf r ≡ olsIdxGiven (now (nal .entry)) ⌝ }
+{
+    if 0x4000_0000 < nal.len() {
+        return OlsIdx::Refused(Refusal::InputTooLong);
+    }
+    opi::ols_idx(nal)
 }

@@ -13,8 +13,8 @@ ghost use mathlib.Core.Path.{_≡_};
 ghost use Prim.Native.Nat.{_+_, _%_, _≤_, _<_, _^_};
 ghost use lib.ListN.{length};
 ghost use Rattle.error.specs.Logic.{if_then_else_};
-ghost use Rattle.error.specs.Outcome.{refuse, handsBack};
-ghost use Rattle.error.specs.Parse.{value, give, outcome};
+ghost use Rattle.error.specs.Outcome.{refuse};
+ghost use Rattle.error.specs.Parse.{give};
 ghost use Rattle.error.specs.Refusals.{numberOf};
 ghost use Rattle.rbsp.specs.Rbsp.{rbsp};
 ghost use Rattle.rbsp.specs.Bits.{u, isSet};
@@ -22,8 +22,8 @@ ghost use Rattle.rbsp.specs.Answers.{parsed};
 ghost use Rattle.ptl.specs.Answers.{ptlOf, orZeroPtl};
 ghost use Rattle.ptl.specs.Sections.{partOf};
 ghost use Rattle.params.specs.Heads.{window, noWindow, spsHead, zeroSps};
-ghost use Rattle.params.specs.Answers.{spsOf};
-ghost use Rattle.params.specs.Sections.{ids, ptlWhere, size, windowWhere, windowOf, depth, partRefusal};
+ghost use Rattle.params.specs.Answers.{readOr, spsOf};
+ghost use Rattle.params.specs.Sections.{ids, ptlWhere, size, windowWhere, windowOf, depth, headOf, partRefusal};
 
 // The fields in front of the PTL.
 pub struct SpsIds {
@@ -264,4 +264,101 @@ fn read_depth(rbsp: &[u8], at: BitPosition) -> BitsRead
         return BitsRead::Refused(Refusal::BitDepth);
     }
     r2
+}
+
+// A refusal, with all zeros beside it.
+pub fn no_sps(e: Refusal) -> SpsRead
+    ensures { λ r. ⌜ spsOf r ≡ (refuse (numberOf e), zeroSps) ⌝ }
+{
+    let zeros = ptl::bits::zero_ptl();
+    let head = SpsHead {
+        sps_id: 0,
+        vps_id: 0,
+        max_sublayers_minus1: 0,
+        chroma_format_idc: 0,
+        log2_ctu_size: 0,
+        ptl_present_flag: false,
+        ptl: zeros,
+        pic_width: 0,
+        pic_height: 0,
+        conformance_window_flag: false,
+        conf_win_left_offset: 0,
+        conf_win_right_offset: 0,
+        conf_win_top_offset: 0,
+        conf_win_bottom_offset: 0,
+        bit_depth: 0,
+    };
+    let answer = ParamsAnswer::Refused(e);
+    SpsRead { answer, head }
+}
+
+// The head that the sections make up.
+fn head_of(ids: SpsIds, ptl: VvcPtlRecord, size: SpsSize, window: ConfWindow, depth: u32) -> SpsHead
+    requires { ⌜ depth ≤ 8 ⌝ }
+    ensures { λ r. ⌜ r ≡ headOf ids ptl size (windowOf window) depth ⌝ }
+{
+    SpsHead {
+        sps_id: ids.sps_id,
+        vps_id: ids.vps_id,
+        max_sublayers_minus1: ids.max_sublayers_minus1,
+        chroma_format_idc: ids.chroma_format_idc,
+        log2_ctu_size: ids.log2_ctu_size,
+        ptl_present_flag: ids.ptl_present_flag,
+        ptl,
+        pic_width: size.pic_width,
+        pic_height: size.pic_height,
+        conformance_window_flag: size.conformance_window_flag,
+        conf_win_left_offset: window.left,
+        conf_win_right_offset: window.right,
+        conf_win_top_offset: window.top,
+        conf_win_bottom_offset: window.bottom,
+        bit_depth: depth as u8 + 8,
+    }
+}
+
+// An SPS's head from the first bytes of its RBSP. Refusals in bit order: 11, 12, 13, 14.
+fn parse_rbsp(rbsp: &[u8]) -> SpsRead
+    requires { ⌜ length (now rbsp) ≤ 1132 ⌝ }
+    ensures { λ r. ⌜ spsOf r ≡ readOr zeroSps (spsHead (now (rbsp .entry)) 0) ⌝ }
+{
+    let r1 = read_ids(rbsp, BitPosition(0));
+    let a1 = r1.answer;
+    let ids = r1.part;
+    let PtlAnswer::Read(p1) = a1 else {
+        return no_sps(refusal(a1));
+    };
+    let r2 = read_ptl(rbsp, p1, ids.ptl_present_flag, ids.max_sublayers_minus1);
+    let a2 = r2.answer;
+    let record = r2.ptl;
+    let PtlAnswer::Read(p2) = a2 else {
+        return no_sps(refusal(a2));
+    };
+    let r3 = read_size(rbsp, p2);
+    let a3 = r3.answer;
+    let size = r3.part;
+    let PtlAnswer::Read(p3) = a3 else {
+        return no_sps(refusal(a3));
+    };
+    let r4 = read_window(rbsp, p3, size.conformance_window_flag);
+    let a4 = r4.answer;
+    let window = r4.part;
+    let PtlAnswer::Read(p4) = a4 else {
+        return no_sps(refusal(a4));
+    };
+    let r5 = read_depth(rbsp, p4);
+    let BitsRead::Value(depth, _) = r5 else {
+        return no_sps(bits::refusal(r5));
+    };
+    let head = head_of(ids, record, size, window, depth);
+    let answer = ParamsAnswer::Read;
+    SpsRead { answer, head }
+}
+
+// An SPS's head from its payload, of whose RBSP 1,132 bytes are enough. Refusals in bit order: 11, 12, 13, 14.
+pub fn parse_payload(payload: &[u8]) -> SpsRead
+    ensures { λ r. ⌜ spsOf r ≡ readOr zeroSps (spsHead (rbsp (now (payload .entry))) 0) ⌝ }
+{
+    let mut buf = [0u8; 1132];
+    let n = rbsp::fill::fill_rbsp(payload, &mut buf);
+    parse_rbsp(&buf[..n])
 }

@@ -3,3 +3,4 @@ pub mod Arrays
 pub mod ConstraintInfo
 pub mod SublayerLevels
 pub mod SubProfileValues
+pub mod Whole

@@ -37,6 +37,11 @@ module _ {A B : Type 0} {x : Parsed A} {r : PtlAnswer} (a : A) (f : A → ℕ �
 pub refused-part : {A : Type 0} {x : Parsed A} {r : PtlAnswer} {e : Refusal} (a : A) → r ≡ Ans.Refused e → x ≡ refused (numberOf e) → partOf r a ≡ x
 refused-part a h k = ap (λ s. partOf s a) h ∙ sym k
 
+-- an answer beside a struct that the part stands in
+pub part-in : {A B : Type 0} (g : A → B) (r : PtlAnswer) (a : A) → partOf r (g a) ≡ bind (partOf r a) (λ x q. value (g x) q)
+part-in g (Ans.Read q) a = refl
+part-in g (Ans.Refused e) a = refl
+
 -- ---- an answer of bits passed over, whose value 0 the definition lacks
 module _ (x : Parsed (Unit {0})) {r : BitsRead} (h : parsed r ≡ bind x (λ _ t. value 0 t)) where
   pub passed-told : {v : ℕ} {q : BitPosition} → r ≡ Value v q → x ≡ value tt (q .0)

@@ -8,6 +8,7 @@ use Rattle.error.specs.Parse.{Parsed, value, refused, Parser, _>>=_, _>>_, give
 use Rattle.error.specs.Refusals.{numberOf}
 use Rattle.rbsp.specs.Bits.{u, isSet}
 use Rattle.ptl.specs.Ptl.{padded, presentFlags, levels, generalConstraintsInfo, constraintBytes}
+use Rattle.ptl.specs.declared.VvcPtlRecord.{VvcPtlRecord}
 use Rattle.ptl.specs.declared.PtlAnswer.{PtlAnswer}
 use Rattle.ptl.specs.declared.PtlAnswer.the-variants as A
 use Rattle.ptl.specs.declared.bits.General.{General}
@@ -55,3 +56,19 @@ subProfiles = do
   n ← u 8
   subs ← times n (u 32)
   give (record { «num_sub_profiles» = n; «general_sub_profile_idc» = padded 255 0 subs })
+
+-- the record of the four sections, s sublayers minus 1
+abbrev pub joined : ℕ → General → Constraints → Sublayers → SubProfiles → VvcPtlRecord
+joined s g c l u = record {
+    «general_profile_idc» = g .«general_profile_idc»;
+    «general_tier_flag» = g .«general_tier_flag»;
+    «general_level_idc» = g .«general_level_idc»;
+    «ptl_frame_only_constraint_flag» = c .«ptl_frame_only_constraint_flag»;
+    «ptl_multilayer_enabled_flag» = c .«ptl_multilayer_enabled_flag»;
+    «num_bytes_constraint_info» = c .«num_bytes_constraint_info»;
+    «general_constraint_info» = c .«general_constraint_info»;
+    «num_sublayer_levels» = s;
+    «sublayer_level_present_flag» = l .«sublayer_level_present_flag»;
+    «sublayer_level_idc» = l .«sublayer_level_idc»;
+    «num_sub_profiles» = u .«num_sub_profiles»;
+    «general_sub_profile_idc» = u .«general_sub_profile_idc» }

@@ -122,11 +122,13 @@ pub fn read_constraints(rbsp: &[u8], at: BitPosition) -> ConstraintsRead
     };
     let from = bits::byte_offset(at);
     let to = bits::byte_offset(p3);
+    let num_bytes = to.0 - from.0;
+    let info = constraint_bytes(rbsp, from, to);
     let part = Constraints {
         ptl_frame_only_constraint_flag: frame_only == 1,
         ptl_multilayer_enabled_flag: multilayer == 1,
-        num_bytes_constraint_info: to.0 - from.0,
-        general_constraint_info: constraint_bytes(rbsp, from, to),
+        num_bytes_constraint_info: num_bytes,
+        general_constraint_info: info,
     };
     let answer = PtlAnswer::Read(p3);
     ConstraintsRead { answer, part }

@@ -1,6 +1,6 @@
 -- `next_unit` gives the first unit from a place on. The loop's invariant: `code` is a start code or the end, and no unit stands before it.
 use Prim.Native.Nat.{ℕ, _+_, _-_, _≤_, _<_}
-use mathlib.Core.Path.{_≡_, refl, sym, ap, _∙_}
+use mathlib.Core.Path.{_≡_, sym, _∙_}
 use mathlib.Core.List.{List}
 use native.Mathlib.Omega.{arith}
 use borrow.Author.Needs.{needs}
@@ -70,10 +70,11 @@ walk-again c =
     let q : ℕ = k .walk .code in
     let n = c .before .before .start-code2 in
     let l = c .before .trimmed in
-    let i : q < length s = omega arith in
-    (n .ensures .1,
-     next-settled s q (k .walk .inv .1) i (n .result) (l .result) (n .ensures .0) (l .ensures .0),
-     step-empty s q (k .walk .inv .1) i (n .result) (l .result) (n .ensures .0) (l .ensures .0) (c .if3 .left) ∙ k .walk .inv .2)
+    let i : q < length s = omega arith in (
+      n .ensures .1,
+      next-settled s q (k .walk .inv .1) i (n .result) (l .result) (n .ensures .0) (l .ensures .0),
+      step-empty s q (k .walk .inv .1) i (n .result) (l .result) (n .ensures .0) (l .ensures .0) (c .if3 .left) ∙ k .walk .inv .2,
+    )
 
 returns-4 : tie.Need-returns-4 Inv-walk μ-walk
 returns-4 c =

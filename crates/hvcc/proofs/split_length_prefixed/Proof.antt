@@ -1,5 +1,4 @@
 -- `split_length_prefixed` is the part at the place of unit k.
-use mathlib.Core.Path.{sym}
 use borrow.Author.Needs.{needs}
 use Rattle.hvcc.proofs.split_length_prefixed.Statement.{statement}
 use Rattle.hvcc.proofs.split_length_prefixed.Tie as tie

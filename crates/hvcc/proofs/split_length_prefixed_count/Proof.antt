@@ -5,7 +5,6 @@ use native.Mathlib.Omega.{arith}
 use borrow.Author.Needs.{needs}
 use borrow.Author.Tests.{ltb-true, ltb-false}
 use Rattle.boxes.specs.Walk.{countFound}
-use Rattle.hvcc.specs.Answers.{leftOf}
 use Rattle.hvcc.proofs.Items.{split-too-long, split-lent, items-size, items-left}
 use Rattle.hvcc.proofs.split_length_prefixed_count.Statement.{statement}
 use Rattle.hvcc.proofs.split_length_prefixed_count.Tie as tie

@@ -1,5 +1,5 @@
 -- `walk::item_unit` finds unit k of an item. The loop's invariant: what is left has more than `skip` units, and unit `skip` of it is unit k.
-use Prim.Native.Nat.{ℕ, _+_, _-_, _≤_, _<_}
+use Prim.Native.Nat.{_-_, _≤_, _<_}
 use mathlib.Core.Path.{_≡_, refl}
 use native.Mathlib.Omega.{arith}
 use borrow.Author.Needs.{needs}

@@ -7,7 +7,7 @@ use lib.ListN.{length, getD, take, drop}
 use borrow.Author.Needs.{needs}
 use Rattle.rbsp.proofs.Chain.{went, ended, read-of}
 use Rattle.params.specs.Sections.{ids}
-use Rattle.params.proofs.Parts.{part-refused}
+use Rattle.ptl.proofs.Parts.{refused-part}
 use Rattle.params.proofs.sps.read_ids.Statement.{statement}
 use Rattle.params.proofs.sps.read_ids.Tie as tie
 
@@ -29,8 +29,7 @@ no-ids-requires c κs = search needs
 returns : tie.Need-returns
 unfolding ids
 returns c =
-    part-refused _ (c .no-ids .ensures)
-    ∙ sym (ended _ (c .before .before .before .before .read-bits .ensures) (c .before .before .enum-told .given .1) (c .before .refusal .ensures))
+    refused-part _ (c .no-ids .ensures) (ended _ (c .before .before .before .before .read-bits .ensures) (c .before .before .enum-told .given .1) (c .before .refusal .ensures))
 
 read-bits-requires-2 : tie.Need-read-bits-requires-2
 read-bits-requires-2 c κs = search needs
@@ -51,8 +50,7 @@ returns-2 : tie.Need-returns-2
 unfolding ids
 returns-2 c =
     let k1 = c .before .before .before .before .before .before in
-    part-refused _ (c .no-ids2 .ensures)
-    ∙ sym (went _ (k1 .before .before .read-bits .ensures) (k1 .r1 .given .1)
+    refused-part _ (c .no-ids2 .ensures) (went _ (k1 .before .before .read-bits .ensures) (k1 .r1 .given .1)
     ∙ ended _ (c .before .before .before .before .read-bits2 .ensures) (c .before .before .enum-told2 .given .1) (c .before .refusal2 .ensures))
 
 read-bits-requires-3 : tie.Need-read-bits-requires-3
@@ -75,8 +73,7 @@ unfolding ids
 returns-3 c =
     let k2 = c .before .before .before .before .before .before in
     let k1 = k2 .before .before .before .before in
-    part-refused _ (c .no-ids3 .ensures)
-    ∙ sym (went _ (k1 .before .before .read-bits .ensures) (k1 .r1 .given .1)
+    refused-part _ (c .no-ids3 .ensures) (went _ (k1 .before .before .read-bits .ensures) (k1 .r1 .given .1)
     ∙ went _ (k2 .before .before .read-bits2 .ensures) (k2 .r2 .given .1)
     ∙ ended _ (c .before .before .before .before .read-bits3 .ensures) (c .before .before .enum-told3 .given .1) (c .before .refusal3 .ensures))
 
@@ -101,8 +98,7 @@ returns-4 c =
     let k3 = c .before .before .before .before .before .before in
     let k2 = k3 .before .before .before .before in
     let k1 = k2 .before .before .before .before in
-    part-refused _ (c .no-ids4 .ensures)
-    ∙ sym (went _ (k1 .before .before .read-bits .ensures) (k1 .r1 .given .1)
+    refused-part _ (c .no-ids4 .ensures) (went _ (k1 .before .before .read-bits .ensures) (k1 .r1 .given .1)
     ∙ went _ (k2 .before .before .read-bits2 .ensures) (k2 .r2 .given .1)
     ∙ went _ (k3 .before .before .read-bits3 .ensures) (k3 .r3 .given .1)
     ∙ ended _ (c .before .before .before .before .read-bits4 .ensures) (c .before .before .enum-told4 .given .1) (c .before .refusal4 .ensures))
@@ -129,8 +125,7 @@ returns-5 c =
     let k3 = k4 .before .before .before .before in
     let k2 = k3 .before .before .before .before in
     let k1 = k2 .before .before .before .before in
-    part-refused _ (c .no-ids5 .ensures)
-    ∙ sym (went _ (k1 .before .before .read-bits .ensures) (k1 .r1 .given .1)
+    refused-part _ (c .no-ids5 .ensures) (went _ (k1 .before .before .read-bits .ensures) (k1 .r1 .given .1)
     ∙ went _ (k2 .before .before .read-bits2 .ensures) (k2 .r2 .given .1)
     ∙ went _ (k3 .before .before .read-bits3 .ensures) (k3 .r3 .given .1)
     ∙ went _ (k4 .before .before .read-bits4 .ensures) (k4 .r4 .given .1)
@@ -159,8 +154,7 @@ returns-6 c =
     let k3 = k4 .before .before .before .before in
     let k2 = k3 .before .before .before .before in
     let k1 = k2 .before .before .before .before in
-    part-refused _ (c .no-ids6 .ensures)
-    ∙ sym (went _ (k1 .before .before .read-bits .ensures) (k1 .r1 .given .1)
+    refused-part _ (c .no-ids6 .ensures) (went _ (k1 .before .before .read-bits .ensures) (k1 .r1 .given .1)
     ∙ went _ (k2 .before .before .read-bits2 .ensures) (k2 .r2 .given .1)
     ∙ went _ (k3 .before .before .read-bits3 .ensures) (k3 .r3 .given .1)
     ∙ went _ (k4 .before .before .read-bits4 .ensures) (k4 .r4 .given .1)

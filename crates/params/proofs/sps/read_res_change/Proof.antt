@@ -1,27 +1,17 @@
-use Prim.Native.Nat.{ℕ, zero, suc, _+_, _*_, _-_, _/_, _%_, _^_, _≤_, _<_}
-use mathlib.Core.Path.{_≡_, refl, sym, ap, _∙_, subst}
-use mathlib.Core.List.{List, [], _∷_, _++_}
-use mathlib.Core.Logic.{⊎-elim}
-use native.Mathlib.Omega.{arith}
-use lib.ListN.{length, getD, take, drop}
+-- `read_res_change` reads a bit exactly where the flag is 1.
+use borrow.Author.Tests.{eq-eqb, ne-eqb}
 use borrow.Author.Needs.{needs}
 use Rattle.params.proofs.sps.read_res_change.Statement.{statement}
 use Rattle.params.proofs.sps.read_res_change.Tie as tie
-use Rattle.params.proofs.sps.read_res_change.Reads as reads
-use Rattle.params.proofs.sps.read_res_change.Lts as lts
-use Rattle.rbsp.proofs.bits.read_bits.Reads as read-bits-reads
 
--- src/sps.rt:154:9
 read-bits-requires : tie.Need-read-bits-requires
 read-bits-requires c κs = search needs
 
--- src/sps.rt:154:9
 returns : tie.Need-returns
-returns c = search needs
+returns c = rw (eq-eqb _ 1 (c .before .if1 .taken)) (c .read-bits .ensures)
 
--- src/sps.rt:149:1
 returns-2 : tie.Need-returns-2
-returns-2 c = search needs
+returns-2 c = rw (ne-eqb _ 1 (c .if1 .left))
 
 pub read-res-change-spec : {M : Type 1} → statement M
 read-res-change-spec = tie.close (tie.spec read-bits-requires returns returns-2)

@@ -5,157 +5,119 @@ use mathlib.Core.Logic.{⊎-elim}
 use native.Mathlib.Omega.{arith}
 use lib.ListN.{length, getD, take, drop}
 use borrow.Author.Needs.{needs}
+use Rattle.rbsp.proofs.Chain.{went, ended}
+use Rattle.ptl.proofs.Parts.{refused-part}
+use Rattle.params.specs.Sections.{size}
 use Rattle.params.proofs.sps.read_size.Statement.{statement}
 use Rattle.params.proofs.sps.read_size.Tie as tie
-use Rattle.params.proofs.sps.read_size.Reads as reads
-use Rattle.params.proofs.sps.read_size.Lts as lts
-use Rattle.params.proofs.sps.no_size.Reads as no-size-reads
-use Rattle.params.proofs.sps.read_res_change.Reads as read-res-change-reads
-use Rattle.rbsp.proofs.bits.exp_golomb.Reads as exp-golomb-reads
-use Rattle.rbsp.proofs.bits.read_bits.Reads as read-bits-reads
-use Rattle.rbsp.proofs.bits.refusal.Reads as refusal-reads
 
--- src/sps.rt:173:9
 read-bits-requires : tie.Need-read-bits-requires
 read-bits-requires c κs = search needs
 
--- src/sps.rt:174:28
 enum-known-r1 : tie.Need-enum-known-r1
 enum-known-r1 c = search needs
 
--- src/sps.rt:175:24
 enum-told : tie.Need-enum-told
 enum-told c = search needs
 
--- src/sps.rt:175:24
 refusal-requires : tie.Need-refusal-requires
 refusal-requires c κs = search needs
 
--- src/sps.rt:175:9
 no-size-requires : tie.Need-no-size-requires
 no-size-requires c κs = search needs
 
--- src/sps.rt:175:9
 returns : tie.Need-returns
 unfolding size
 returns c =
-    part-refused (c .no-size .ensures)
-    ∙ sym (ended _ (c .before .before .before .before .read-bits .ensures) (c .before .before .enum-told .given .1) (c .before .refusal .ensures))
+    refused-part _ (c .no-size .ensures) (ended _ (c .before .before .before .before .read-bits .ensures) (c .before .before .enum-told .given .1) (c .before .refusal .ensures))
 
--- src/sps.rt:177:9
 read-bits-requires-2 : tie.Need-read-bits-requires-2
 read-bits-requires-2 c κs = search needs
 
--- src/sps.rt:178:25
 enum-known-r2 : tie.Need-enum-known-r2
 enum-known-r2 c = search needs
 
--- src/sps.rt:179:24
 enum-told-2 : tie.Need-enum-told-2
 enum-told-2 c = search needs
 
--- src/sps.rt:179:24
 refusal-requires-2 : tie.Need-refusal-requires-2
 refusal-requires-2 c κs = search needs
 
--- src/sps.rt:179:9
 no-size-requires-2 : tie.Need-no-size-requires-2
 no-size-requires-2 c κs = search needs
 
--- src/sps.rt:179:9
 returns-2 : tie.Need-returns-2
 unfolding size
 returns-2 c =
     let k1 = c .before .before .before .before .before .before in
-    part-refused (c .no-size2 .ensures)
-    ∙ sym (went _ (k1 .before .before .read-bits .ensures) (k1 .r1 .given .1)
+    refused-part _ (c .no-size2 .ensures) (went _ (k1 .before .before .read-bits .ensures) (k1 .r1 .given .1)
     ∙ ended _ (c .before .before .before .before .read-bits2 .ensures) (c .before .before .enum-told2 .given .1) (c .before .refusal2 .ensures))
 
--- src/sps.rt:181:9
 read-res-change-requires : tie.Need-read-res-change-requires
 read-res-change-requires c κs = search needs
 
--- src/sps.rt:182:28
 enum-known-r3 : tie.Need-enum-known-r3
 enum-known-r3 c = search needs
 
--- src/sps.rt:183:24
 enum-told-3 : tie.Need-enum-told-3
 enum-told-3 c = search needs
 
--- src/sps.rt:183:24
 refusal-requires-3 : tie.Need-refusal-requires-3
 refusal-requires-3 c κs = search needs
 
--- src/sps.rt:183:9
 no-size-requires-3 : tie.Need-no-size-requires-3
 no-size-requires-3 c κs = search needs
 
--- src/sps.rt:183:9
 returns-3 : tie.Need-returns-3
 unfolding size
 returns-3 c =
     let k2 = c .before .before .before .before .before .before in
     let k1 = k2 .before .before .before .before in
-    part-refused (c .no-size3 .ensures)
-    ∙ sym (went _ (k1 .before .before .read-bits .ensures) (k1 .r1 .given .1)
+    refused-part _ (c .no-size3 .ensures) (went _ (k1 .before .before .read-bits .ensures) (k1 .r1 .given .1)
     ∙ went _ (k2 .before .before .read-bits2 .ensures) (k2 .r2 .given .1)
     ∙ ended _ (c .before .before .before .before .read-res-change .ensures) (c .before .before .enum-told3 .given .1) (c .before .refusal3 .ensures))
 
--- src/sps.rt:185:9
 exp-golomb-requires : tie.Need-exp-golomb-requires
 exp-golomb-requires c κs = search needs
 
--- src/sps.rt:186:25
 enum-known-r4 : tie.Need-enum-known-r4
 enum-known-r4 c = search needs
 
--- src/sps.rt:187:24
 enum-told-4 : tie.Need-enum-told-4
 enum-told-4 c = search needs
 
--- src/sps.rt:187:24
 refusal-requires-4 : tie.Need-refusal-requires-4
 refusal-requires-4 c κs = search needs
 
--- src/sps.rt:187:9
 no-size-requires-4 : tie.Need-no-size-requires-4
 no-size-requires-4 c κs = search needs
 
--- src/sps.rt:187:9
 returns-4 : tie.Need-returns-4
 unfolding size
 returns-4 c =
     let k3 = c .before .before .before .before .before .before in
     let k2 = k3 .before .before .before .before in
     let k1 = k2 .before .before .before .before in
-    part-refused (c .no-size4 .ensures)
-    ∙ sym (went _ (k1 .before .before .read-bits .ensures) (k1 .r1 .given .1)
+    refused-part _ (c .no-size4 .ensures) (went _ (k1 .before .before .read-bits .ensures) (k1 .r1 .given .1)
     ∙ went _ (k2 .before .before .read-bits2 .ensures) (k2 .r2 .given .1)
     ∙ went _ (k3 .before .before .read-res-change .ensures) (k3 .r3 .given .1)
     ∙ ended _ (c .before .before .before .before .exp-golomb .ensures) (c .before .before .enum-told4 .given .1) (c .before .refusal4 .ensures))
 
--- src/sps.rt:189:9
 exp-golomb-requires-2 : tie.Need-exp-golomb-requires-2
 exp-golomb-requires-2 c κs = search needs
 
--- src/sps.rt:190:25
 enum-known-r5 : tie.Need-enum-known-r5
 enum-known-r5 c = search needs
 
--- src/sps.rt:191:24
 enum-told-5 : tie.Need-enum-told-5
 enum-told-5 c = search needs
 
--- src/sps.rt:191:24
 refusal-requires-5 : tie.Need-refusal-requires-5
 refusal-requires-5 c κs = search needs
 
--- src/sps.rt:191:9
 no-size-requires-5 : tie.Need-no-size-requires-5
 no-size-requires-5 c κs = search needs
 
--- src/sps.rt:191:9
 returns-5 : tie.Need-returns-5
 unfolding size
 returns-5 c =
@@ -163,34 +125,27 @@ returns-5 c =
     let k3 = k4 .before .before .before .before in
     let k2 = k3 .before .before .before .before in
     let k1 = k2 .before .before .before .before in
-    part-refused (c .no-size5 .ensures)
-    ∙ sym (went _ (k1 .before .before .read-bits .ensures) (k1 .r1 .given .1)
+    refused-part _ (c .no-size5 .ensures) (went _ (k1 .before .before .read-bits .ensures) (k1 .r1 .given .1)
     ∙ went _ (k2 .before .before .read-bits2 .ensures) (k2 .r2 .given .1)
     ∙ went _ (k3 .before .before .read-res-change .ensures) (k3 .r3 .given .1)
     ∙ went _ (k4 .before .before .exp-golomb .ensures) (k4 .r4 .given .1)
     ∙ ended _ (c .before .before .before .before .exp-golomb2 .ensures) (c .before .before .enum-told5 .given .1) (c .before .refusal5 .ensures))
 
--- src/sps.rt:193:9
 read-bits-requires-3 : tie.Need-read-bits-requires-3
-read-bits-requires-3 c κs = search needs
+read-bits-requires-3 c κs = (omega arith, omega (arith, c .before .before .before .before .before .before .before .before .before .before .before .before .before .before .before .before .before .before .before .before .before .pre))
 
--- src/sps.rt:194:25
 enum-known-r6 : tie.Need-enum-known-r6
 enum-known-r6 c = search needs
 
--- src/sps.rt:195:24
 enum-told-6 : tie.Need-enum-told-6
 enum-told-6 c = search needs
 
--- src/sps.rt:195:24
 refusal-requires-6 : tie.Need-refusal-requires-6
 refusal-requires-6 c κs = search needs
 
--- src/sps.rt:195:9
 no-size-requires-6 : tie.Need-no-size-requires-6
 no-size-requires-6 c κs = search needs
 
--- src/sps.rt:195:9
 returns-6 : tie.Need-returns-6
 unfolding size
 returns-6 c =
@@ -199,15 +154,13 @@ returns-6 c =
     let k3 = k4 .before .before .before .before in
     let k2 = k3 .before .before .before .before in
     let k1 = k2 .before .before .before .before in
-    part-refused (c .no-size6 .ensures)
-    ∙ sym (went _ (k1 .before .before .read-bits .ensures) (k1 .r1 .given .1)
+    refused-part _ (c .no-size6 .ensures) (went _ (k1 .before .before .read-bits .ensures) (k1 .r1 .given .1)
     ∙ went _ (k2 .before .before .read-bits2 .ensures) (k2 .r2 .given .1)
     ∙ went _ (k3 .before .before .read-res-change .ensures) (k3 .r3 .given .1)
     ∙ went _ (k4 .before .before .exp-golomb .ensures) (k4 .r4 .given .1)
     ∙ went _ (k5 .before .before .exp-golomb2 .ensures) (k5 .r5 .given .1)
     ∙ ended _ (c .before .before .before .before .read-bits3 .ensures) (c .before .before .enum-told6 .given .1) (c .before .refusal6 .ensures))
 
--- src/sps.rt:169:1
 returns-7 : tie.Need-returns-7
 unfolding size
 returns-7 c =

@@ -1,101 +1,91 @@
-use Prim.Native.Nat.{ℕ, zero, suc, _+_, _*_, _-_, _/_, _%_, _^_, _≤_, _<_}
-use mathlib.Core.Path.{_≡_, refl, sym, ap, _∙_, subst}
-use mathlib.Core.List.{List, [], _∷_, _++_}
-use mathlib.Core.Logic.{⊎-elim}
+-- `read_general` gives the section: three reads.
+use mathlib.Core.Path.{_≡_, sym, _∙_}
 use native.Mathlib.Omega.{arith}
-use lib.ListN.{length, getD, take, drop}
+use Rattle.error.specs.Parse.{value}
+use Rattle.rbsp.specs.Bits.{u}
+use Rattle.rbsp.proofs.Chain.{told, read-of, went, ended}
+use Rattle.ptl.specs.Sections.{general}
+use Rattle.ptl.proofs.Parts.{refused-part}
 use borrow.Author.Needs.{needs}
 use Rattle.ptl.proofs.bits.read_general.Statement.{statement}
 use Rattle.ptl.proofs.bits.read_general.Tie as tie
-use Rattle.ptl.proofs.bits.read_general.Reads as reads
-use Rattle.ptl.proofs.bits.read_general.Lts as lts
-use Rattle.ptl.proofs.bits.no_general.Reads as no-general-reads
-use Rattle.rbsp.proofs.bits.read_bits.Reads as read-bits-reads
-use Rattle.rbsp.proofs.bits.refusal.Reads as refusal-reads
 
--- src/bits.rt:45:9
 read-bits-requires : tie.Need-read-bits-requires
 read-bits-requires c κs = search needs
 
--- src/bits.rt:46:25
 enum-known-r1 : tie.Need-enum-known-r1
 enum-known-r1 c = search needs
 
--- src/bits.rt:47:27
 enum-told : tie.Need-enum-told
 enum-told c = search needs
 
--- src/bits.rt:47:27
 refusal-requires : tie.Need-refusal-requires
 refusal-requires c κs = search needs
 
--- src/bits.rt:47:9
 no-general-requires : tie.Need-no-general-requires
 no-general-requires c κs = search needs
 
--- src/bits.rt:47:9
 returns : tie.Need-returns
-returns c = search needs
+unfolding general
+returns c = refused-part _ (c .no-general .ensures) (ended _ (c .before .before .before .before .read-bits .ensures) (c .before .before .enum-told .given .1) (c .before .refusal .ensures))
 
--- src/bits.rt:49:9
 read-bits-requires-2 : tie.Need-read-bits-requires-2
 read-bits-requires-2 c κs = search needs
 
--- src/bits.rt:50:25
 enum-known-r2 : tie.Need-enum-known-r2
 enum-known-r2 c = search needs
 
--- src/bits.rt:51:27
 enum-told-2 : tie.Need-enum-told-2
 enum-told-2 c = search needs
 
--- src/bits.rt:51:27
 refusal-requires-2 : tie.Need-refusal-requires-2
 refusal-requires-2 c κs = search needs
 
--- src/bits.rt:51:9
 no-general-requires-2 : tie.Need-no-general-requires-2
 no-general-requires-2 c κs = search needs
 
--- src/bits.rt:51:9
 returns-2 : tie.Need-returns-2
-returns-2 c = search needs
+unfolding general
+returns-2 c =
+    refused-part _ (c .no-general2 .ensures)
+    (went _ (c .before .before .before .before .before .before .before .before .read-bits .ensures) (c .before .before .before .before .before .before .r1 .given .1)
+    ∙ ended _ (c .before .before .before .before .read-bits2 .ensures) (c .before .before .enum-told2 .given .1) (c .before .refusal2 .ensures))
 
--- src/bits.rt:53:9
 read-bits-requires-3 : tie.Need-read-bits-requires-3
 read-bits-requires-3 c κs = search needs
 
--- src/bits.rt:54:25
 enum-known-r3 : tie.Need-enum-known-r3
 enum-known-r3 c = search needs
 
--- src/bits.rt:55:27
 enum-told-3 : tie.Need-enum-told-3
 enum-told-3 c = search needs
 
--- src/bits.rt:55:27
 refusal-requires-3 : tie.Need-refusal-requires-3
 refusal-requires-3 c κs = search needs
 
--- src/bits.rt:55:9
 no-general-requires-3 : tie.Need-no-general-requires-3
 no-general-requires-3 c κs = search needs
 
--- src/bits.rt:55:9
 returns-3 : tie.Need-returns-3
-returns-3 c = search needs
+unfolding general
+returns-3 c =
+    refused-part _ (c .no-general3 .ensures)
+    (went _ (c .before .before .before .before .before .before .before .before .before .before .before .before .read-bits .ensures) (c .before .before .before .before .before .before .before .before .before .before .r1 .given .1)
+    ∙ went _ (c .before .before .before .before .before .before .before .before .read-bits2 .ensures) (c .before .before .before .before .before .before .r2 .given .1)
+    ∙ ended _ (c .before .before .before .before .read-bits3 .ensures) (c .before .before .enum-told3 .given .1) (c .before .refusal3 .ensures))
 
--- src/bits.rt:58:30
-cast-t17 : tie.Need-cast-t17
-cast-t17 c = search needs
+cast-general-profile-idc : tie.Need-cast-general-profile-idc
+cast-general-profile-idc c = let r = read-of (c .before .before .before .before .before .before .before .before .before .before .before .read-bits .ensures) (c .before .before .before .before .before .before .before .before .before .r1 .given .1) in omega (arith, r .low)
 
--- src/bits.rt:60:28
-cast-t19 : tie.Need-cast-t19
-cast-t19 c = search needs
+cast-general-level-idc : tie.Need-cast-general-level-idc
+cast-general-level-idc c = let r = read-of (c .before .before .before .read-bits3 .ensures) (c .before .r3 .given .1) in omega (arith, r .low)
 
--- src/bits.rt:41:1
 returns-4 : tie.Need-returns-4
-returns-4 c = search needs
+unfolding general
+returns-4 c =
+    sym (went _ (c .before .before .before .before .before .before .before .before .before .before .before .read-bits .ensures) (c .before .before .before .before .before .before .before .before .before .r1 .given .1)
+    ∙ went _ (c .before .before .before .before .before .before .before .read-bits2 .ensures) (c .before .before .before .before .before .r2 .given .1)
+    ∙ went _ (c .before .before .before .read-bits3 .ensures) (c .before .r3 .given .1))
 
 pub read-general-spec : {M : Type 1} → statement M
 read-general-spec =
@@ -119,6 +109,6 @@ read-general-spec =
     refusal-requires-3
     no-general-requires-3
     returns-3
-    cast-t17
-    cast-t19
+    cast-general-profile-idc
+    cast-general-level-idc
     returns-4)

@@ -89,8 +89,8 @@ byte-offset-requires-2 c κs = info-read _ _ _ (info (c .before)) .whole
 run : (c : tie.After-byte-offset2) → Run (c .before .before .before .before .before .before .before .before .before .before .before .before .before .before .before .args .rbsp .now) (c .before .byte-offset .result .0) (c .byte-offset2 .result .0)
 run c = let k = c .before .before in run-of _ _ _ _ _ _ _ _ _ (frame-only (k .before .before .before .before .before .before .before .before)) (multilayer (k .before .before .before .before)) (info k) (c .before .byte-offset .ensures) (c .byte-offset2 .ensures)
 
-sub-t20 : tie.Need-sub-t20
-sub-t20 c = let r = run (c .before .before) in omega arith
+sub-num-bytes : tie.Need-sub-num-bytes
+sub-num-bytes c = let r = run (c .before .before) in omega arith
 
 constraint-bytes-requires : tie.Need-constraint-bytes-requires
 constraint-bytes-requires c κs = let r = run (c .before .before) in omega arith
@@ -124,6 +124,6 @@ read-constraints-spec =
     returns-3
     byte-offset-requires
     byte-offset-requires-2
-    sub-t20
+    sub-num-bytes
     constraint-bytes-requires
     returns-4)

@@ -1,48 +1,36 @@
-use Prim.Native.Nat.{ℕ, zero, suc, _+_, _*_, _-_, _/_, _%_, _^_, _≤_, _<_}
-use mathlib.Core.Path.{_≡_, refl, sym, ap, _∙_, subst}
-use mathlib.Core.List.{List, [], _∷_, _++_}
-use mathlib.Core.Logic.{⊎-elim}
+-- `present_flags` takes the flags from the top of the byte: those of the sublayers below i stand in what is left of it.
 use native.Mathlib.Omega.{arith}
+use Rattle.ptl.proofs.SublayerLevels.{Flagged, flags-start, flags-on, flags-end}
 use borrow.Author.Needs.{needs}
-use lib.ListN.{length, getD, take, drop}
 use Rattle.ptl.proofs.sublayers.present_flags.Statement.{statement}
 use Rattle.ptl.proofs.sublayers.present_flags.Tie as tie
-use Rattle.ptl.proofs.sublayers.present_flags.Reads as reads
-use Rattle.ptl.proofs.sublayers.present_flags.Lts as lts
 
 abbrev Inv-loop : tie.InvT-loop
-Inv-loop flags m present₀ byte₀ i₀ present byte i = ?
+Inv-loop flags m present₀ byte₀ i₀ present byte i = Flagged flags m present byte i
 
 abbrev μ-loop : tie.MeasureT-loop
-μ-loop flags m present₀ byte₀ i₀ present byte i = ?
+μ-loop flags m present₀ byte₀ i₀ present byte i = i
 
--- src/sublayers.rt:55:5
 loop-holds : tie.Need-loop-holds Inv-loop μ-loop
-loop-holds c = search needs
+loop-holds c = flags-start _ _ (omega arith)
 
--- src/sublayers.rt:56:9
 sub-i : tie.Need-sub-i Inv-loop μ-loop
 sub-i c = search needs
 
--- src/sublayers.rt:57:9
 array-write-present : tie.Need-array-write-present Inv-loop μ-loop
 array-write-present c = search needs
 
--- src/sublayers.rt:58:16
 mul-byte : tie.Need-mul-byte Inv-loop μ-loop
 mul-byte c = search needs
 
--- src/sublayers.rt:55:5
 loop-less : tie.Need-loop-less Inv-loop μ-loop
 loop-less c = search needs
 
--- src/sublayers.rt:55:5
 loop-again : tie.Need-loop-again Inv-loop μ-loop
-loop-again c = search needs
+loop-again c = flags-on _ _ _ _ _ (c .before .loop .inv) (omega arith) (omega arith)
 
--- src/sublayers.rt:48:1
 returns : tie.Need-returns Inv-loop μ-loop
-returns c = search needs
+returns c = flags-end _ _ _ _ _ (c .before .loop .inv) (omega arith) (omega arith)
 
 pub present-flags-spec : {M : Type 1} → statement M
 present-flags-spec =

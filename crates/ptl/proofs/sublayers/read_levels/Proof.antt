@@ -1,79 +1,64 @@
-use Prim.Native.Nat.{ℕ, zero, suc, _+_, _*_, _-_, _/_, _%_, _^_, _≤_, _<_}
-use mathlib.Core.Path.{_≡_, refl, sym, ap, _∙_, subst}
-use mathlib.Core.List.{List, [], _∷_, _++_}
-use mathlib.Core.Logic.{⊎-elim}
+-- `read_levels` reads the levels from the highest down: those below i are still to be read, in front of those that stand.
+use mathlib.Core.Path.{sym}
+use Prim.Native.Nat.{_/_}
 use native.Mathlib.Omega.{arith}
+use Rattle.rbsp.specs.Bits.{isSet}
+use Rattle.rbsp.proofs.Chain.{told}
+use Rattle.ptl.proofs.Parts.{refused-part, refusal-told}
+use Rattle.ptl.proofs.SublayerLevels.{byte-if, Levelled, levels-start, levels-on, levels-out, levels-end}
 use borrow.Author.Needs.{needs}
-use lib.ListN.{length, getD, take, drop}
 use Rattle.ptl.proofs.sublayers.read_levels.Statement.{statement}
 use Rattle.ptl.proofs.sublayers.read_levels.Tie as tie
-use Rattle.ptl.proofs.sublayers.read_levels.Reads as reads
-use Rattle.ptl.proofs.sublayers.read_levels.Lts as lts
-use Rattle.ptl.proofs.sublayers.level.Reads as level-reads
-use Rattle.ptl.proofs.sublayers.no_levels.Reads as no-levels-reads
-use Rattle.rbsp.proofs.bits.refusal.Reads as refusal-reads
 
 abbrev Inv-loop : tie.InvT-loop
-Inv-loop rbsp flags m part₀ p₀ byte₀ i₀ part p byte i = ?
+Inv-loop rbsp flags m part₀ p₀ byte₀ i₀ part p byte i = Levelled rbsp p₀ flags m part p byte i
 
 abbrev μ-loop : tie.MeasureT-loop
-μ-loop rbsp flags m part₀ p₀ byte₀ i₀ part p byte i = ?
+μ-loop rbsp flags m part₀ p₀ byte₀ i₀ part p byte i = i
 
--- src/sublayers.rt:91:5
 loop-holds : tie.Need-loop-holds Inv-loop μ-loop
-loop-holds c = search needs
+loop-holds c = levels-start _ _ _ _ (omega arith)
 
--- src/sublayers.rt:92:9
 sub-i : tie.Need-sub-i Inv-loop μ-loop
 sub-i c = search needs
 
--- src/sublayers.rt:93:13
 level-requires : tie.Need-level-requires Inv-loop μ-loop
 level-requires c κs = search needs
 
--- src/sublayers.rt:94:29
 enum-known-r : tie.Need-enum-known-r Inv-loop μ-loop
 enum-known-r c = search needs
 
--- src/sublayers.rt:95:30
 enum-told : tie.Need-enum-told Inv-loop μ-loop
 enum-told c = search needs
 
--- src/sublayers.rt:95:30
 refusal-requires : tie.Need-refusal-requires Inv-loop μ-loop
 refusal-requires c κs = search needs
 
--- src/sublayers.rt:95:13
 no-levels-requires : tie.Need-no-levels-requires Inv-loop μ-loop
 no-levels-requires c κs = search needs
 
--- src/sublayers.rt:95:13
 returns : tie.Need-returns Inv-loop μ-loop
-returns c = search needs
+returns c =
+    refused-part _ (c .no-levels .ensures)
+    (levels-out _ _ _ _ _ _ _ _ (c .before .before .before .before .before .before .loop .inv) (omega arith) _ (omega arith) (refusal-told (c .before .before .before .before .level .ensures) (c .before .before .enum-told .given .1) (c .before .refusal .ensures)))
 
--- src/sublayers.rt:97:19
 cast-part : tie.Need-cast-part Inv-loop μ-loop
-cast-part c = search needs
+cast-part c = omega (arith, byte-if (isSet (c .before .before .before .before .before .loop .byte / 128)) (c .before .before .before .before .before .before .before .args .rbsp .now) (c .before .before .before .before .before .loop .p) (c .before .r .given .0 .0) (c .before .r .given .0 .1 .0 .0) (told (c .before .before .before .level .ensures) (c .before .r .given .1)))
 
--- src/sublayers.rt:97:9
 array-write-part : tie.Need-array-write-part Inv-loop μ-loop
 array-write-part c = search needs
 
--- src/sublayers.rt:99:16
 mul-byte : tie.Need-mul-byte Inv-loop μ-loop
 mul-byte c = search needs
 
--- src/sublayers.rt:91:5
 loop-less : tie.Need-loop-less Inv-loop μ-loop
 loop-less c = search needs
 
--- src/sublayers.rt:91:5
 loop-again : tie.Need-loop-again Inv-loop μ-loop
-loop-again c = search needs
+loop-again c = levels-on _ _ _ _ _ _ _ _ (c .before .before .before .before .before .loop .inv) (omega arith) _ _ (omega arith) (told (c .before .before .before .level .ensures) (c .before .r .given .1))
 
--- src/sublayers.rt:83:1
 returns-2 : tie.Need-returns-2 Inv-loop μ-loop
-returns-2 c = search needs
+returns-2 c = sym (levels-end _ _ _ _ _ _ _ _ (c .before .loop .inv) (omega arith) (omega arith))
 
 pub read-levels-spec : {M : Type 1} → statement M
 read-levels-spec =

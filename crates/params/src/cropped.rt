@@ -30,7 +30,8 @@ pub fn sub_width(chroma_format_idc: u8) -> u32
     ensures { λ r. ⌜ r ≡ subWidth «chroma_format_idc» ⌝ }
 {
     match chroma_format_idc {
-        1 | 2 => 2,
+        1 => 2,
+        2 => 2,
         _ => 1,
     }
 }

@@ -1,13 +1,12 @@
 -- Arrays with zeros past the values: filled from the front, and filled from the back down.
-use mathlib.Core.Path.{_≡_, refl, ap, sym, _∙_}
+use mathlib.Core.Path.{_≡_, refl, sym, _∙_}
 use mathlib.Core.List.{List, [], _∷_, _++_, append-assoc}
-use Prim.Native.Nat.{ℕ, zero, suc, _+_, _-_, _%_, _≤_, _<_}
+use Prim.Native.Nat.{ℕ, zero, suc, _+_, _-_, _≤_, _<_}
 use native.Mathlib.Nat.{sub-zero, zero-sub, suc-sub-suc, not-suc-le-zero, le-of-suc-le-suc}
-use native.Mathlib.Numerals.{add-one}
 use native.Mathlib.Omega.{arith}
-use lib.ListN.{length, getD, take, drop, set, replicate, length-append, length-replicate, List·getD-append, List·getD-eq-default, getD-replicate}
-use lib.Seq.{set-at, getD-append-add, length-take-le, take-suc}
-use Rattle.ptl.specs.Ptl.{padded, withoutFlags}
+use lib.ListN.{length, getD, drop, set, replicate, length-append, length-replicate}
+use lib.Seq.{set-at, getD-append-add}
+use Rattle.ptl.specs.Ptl.{padded}
 
 module _ {A : Type 0} where
   pub length-padded : (N : ℕ) (z : A) (xs : List A) → length xs ≤ N → length (padded N z xs) ≡ N

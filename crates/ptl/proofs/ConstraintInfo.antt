@@ -1,19 +1,18 @@
 -- general_constraints_info( ): where it ends, and the bytes that it stands in.
-use mathlib.Core.Path.{_≡_, refl, ap, sym, _∙_}
+use mathlib.Core.Path.{_≡_, refl, _∙_}
 use mathlib.Core.Bool.{Bool, true, false}
-use mathlib.Core.List.{List, [], _∷_, _++_}
-use Prim.Native.Nat.{ℕ, zero, suc, _+_, _-_, _*_, _/_, _%_, _≤_, _<_}
+use mathlib.Core.List.{List, [], _∷_}
+use Prim.Native.Nat.{ℕ, _+_, _-_, _*_, _/_, _%_, _≤_, _<_}
 use native.Mathlib.Numerals.{add-one}
 use native.Mathlib.Omega.{arith}
-use lib.ListN.{length, getD, take, drop, set, replicate, length-drop}
+use lib.ListN.{length, getD, take, drop, set, length-drop}
 use lib.Seq.{length-take-le, take-suc, getD-drop}
 use Rattle.error.specs.Logic.{if_then_else_}
-use Rattle.error.specs.Parse.{Parsed, value, refused, bind, give}
+use Rattle.error.specs.Parse.{Parsed, value, refused, give}
 use Rattle.rbsp.specs.Bits.{u, isSet, skip, align}
 use Rattle.rbsp.proofs.Numbers.{u-read, skip-read, align-read}
 use Rattle.ptl.specs.Ptl.{padded, withoutFlags, constraintBits, generalConstraintsInfo, constraintBytes}
 use Rattle.ptl.specs.Sections.{constraints}
-use Rattle.ptl.specs.declared.constraints.Constraints.{Constraints}
 use Rattle.ptl.proofs.Parts.{first}
 use Rattle.ptl.proofs.Arrays.{padded-more}
 

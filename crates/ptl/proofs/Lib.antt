@@ -4,3 +4,5 @@ pub mod ConstraintInfo
 pub mod SublayerLevels
 pub mod SubProfileValues
 pub mod Whole
+pub mod Bounds
+pub mod Local

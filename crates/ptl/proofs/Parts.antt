@@ -9,7 +9,7 @@ use Rattle.rbsp.specs.Answers.{parsed, refusalOf}
 use Rattle.rbsp.specs.declared.BitsRead.{BitsRead}
 use Rattle.rbsp.specs.declared.BitsRead.the-variants.{Value, Refused}
 use Rattle.rbsp.specs.declared.BitPosition.{BitPosition}
-use Rattle.rbsp.proofs.Chain.{told, told-refused}
+use Rattle.rbsp.proofs.Chain.{told-refused}
 use Rattle.ptl.specs.Sections.{partOf}
 use Rattle.ptl.specs.declared.PtlAnswer.{PtlAnswer}
 use Rattle.ptl.specs.declared.PtlAnswer.the-variants as Ans
@@ -26,6 +26,9 @@ first (value a q) f e k = k a q refl e
 first (refused n) f e k = let z : _≡_ {A = ℕ} 0 1 = cc in absurd (omega arith)
 
 -- ---- an answer of a section
+pub part-told : {A : Type 0} {x : Parsed A} {r : PtlAnswer} {q : BitPosition} (a : A) → partOf r a ≡ x → r ≡ Ans.Read q → x ≡ value a (q .0)
+part-told a h e = sym h ∙ ap (λ s. partOf s a) e
+
 module _ {A B : Type 0} {x : Parsed A} {r : PtlAnswer} (a : A) (f : A → ℕ → Parsed B) (h : partOf r a ≡ x) where
   pub went-part : {q : BitPosition} → r ≡ Ans.Read q → bind x f ≡ f a (q .0)
   went-part e = ap (λ y. bind y f) (sym h ∙ ap (λ s. partOf s a) e)

@@ -2,7 +2,7 @@
 use mathlib.Core.Path.{_≡_, refl, ap, sym, _∙_}
 use mathlib.Core.Bool.{Bool, true, false}
 use mathlib.Core.List.{List, [], _∷_, _++_}
-use Prim.Native.Nat.{ℕ, zero, suc, _+_, _-_, _*_, _/_, _%_, _≤_, _<_}
+use Prim.Native.Nat.{ℕ, zero, suc, _-_, _*_, _/_, _%_, _≤_, _<_}
 use native.Mathlib.Omega.{arith}
 use lib.Dec.{ltb}
 use lib.ListN.{length, drop, set, replicate, length-set, length-append}
@@ -36,27 +36,21 @@ pub record Flagged (flags m : ℕ) (present : List Bool) (byte i : ℕ) : Type 0
   pub long : length present ≡ 7
   pub done : presentFlags i byte ++ drop i present ≡ padded 7 false (presentFlags m flags)
 
-pub flags-start : (flags m : ℕ) → flags < 256 → Flagged flags m (replicate 7 false) flags m
-flags-start flags m h = record {
-  low = omega arith;
-  small = h;
-  long = refl;
-  done = rw (drop-replicate m 7 false, flags-length m flags);
-}
+pub flags-start : (flags m i : ℕ) → flags < 256 → i ≡ m → Flagged flags m (replicate 7 false) flags i
+flags-start flags m i h e = rw e (record { low = omega arith; small = h; long = refl; done = rw (drop-replicate m 7 false, flags-length m flags) })
 
 module _ (flags m : ℕ) (present : List Bool) (byte i : ℕ) (f : Flagged flags m present byte i) (few : m ≤ 7) where
-  pub flags-on : 0 < i → Flagged flags m (set present (i - 1) (isSet (byte / 128))) (byte % 128 * 2) (i - 1)
+  pub flags-on : (j j′ : ℕ) → i ≡ suc j → j′ ≡ j → Flagged flags m (set present j (isSet (byte / 128))) (byte % 128 * 2) j′
   unfolding presentFlags
-  flags-on h =
-      let e : i ≡ suc (i - 1) = omega arith in
-      let g : presentFlags (suc (i - 1)) byte ++ drop (suc (i - 1)) present ≡ padded 7 false (presentFlags m flags) =
-        ap (λ j. presentFlags j byte ++ drop j present) (sym e) ∙ f .done in
-      record {
+  flags-on j j′ e d =
+      let g : presentFlags (suc j) byte ++ drop (suc j) present ≡ padded 7 false (presentFlags m flags) = ap (λ k. presentFlags k byte ++ drop k present) (sym e) ∙ f .done in
+      rw d
+      (record {
         low = omega arith;
         small = omega arith;
-        long = length-set present (i - 1) (isSet (byte / 128)) ∙ f .long;
-        done = sym (snoc-store (presentFlags (i - 1) (byte % 128 * 2)) (i - 1) present (isSet (byte / 128)) (omega arith)) ∙ g;
-      }
+        long = length-set present j (isSet (byte / 128)) ∙ f .long;
+        done = sym (snoc-store (presentFlags j (byte % 128 * 2)) j present (isSet (byte / 128)) (omega arith)) ∙ g;
+      })
 
   pub flags-end : i ≡ 0 → present ≡ padded 7 false (presentFlags m flags)
   unfolding presentFlags
@@ -96,17 +90,17 @@ asArray x = bind x (λ ls q. value (padded 7 0 ls) q)
 abbrev pub inFrontOf : List ℕ → Parsed (List ℕ) → Parsed (List ℕ)
 inFrontOf l x = bind x (λ below t. value (below ++ l) t)
 
-pub record Levelled (s : List ℕ) (p₀ flags m : ℕ) (part : List ℕ) (p byte i : ℕ) : Type 0 where
+pub record Levelled (L : Parser ℕ) (s : List ℕ) (p₀ flags m : ℕ) (part : List ℕ) (p byte i : ℕ) : Type 0 where
   pub low : i ≤ m
   pub small : byte < 256
   pub long : length part ≡ 7
-  pub done : asArray (levels (u 8) m flags s p₀) ≡ inFrontOf (drop i part) (levels (u 8) i byte s p)
+  pub done : asArray (levels L m flags s p₀) ≡ inFrontOf (drop i part) (levels L i byte s p)
 
-pub levels-start : (s : List ℕ) (p flags m : ℕ) → flags < 256 → Levelled s p flags m (replicate 7 0) p flags m
-levels-start s p flags m h = record { low = omega arith; small = h; long = refl; done = go (levels (u 8) m flags s p) refl }
+pub levels-start : (L : Parser ℕ) (s : List ℕ) (p flags m i : ℕ) → flags < 256 → i ≡ m → Levelled L s p flags m (replicate 7 0) p flags i
+levels-start L s p flags m i h n = rw n (record { low = omega arith; small = h; long = refl; done = go (levels L m flags s p) refl })
   where
-    go : (x : Parsed (List ℕ)) → levels (u 8) m flags s p ≡ x → asArray x ≡ inFrontOf (drop m (replicate 7 0)) x
-    go (value ls q) e = rw (drop-replicate {A = ℕ} m 7 0, levels-length (u 8) s m flags p ls q e)
+    go : (x : Parsed (List ℕ)) → levels L m flags s p ≡ x → asArray x ≡ inFrontOf (drop m (replicate 7 0)) x
+    go (value ls q) e = rw (drop-replicate {A = ℕ} m 7 0, levels-length L s m flags p ls q e)
     go (refused r) e = refl
 
 regroup : (x : Parsed (List ℕ)) (v : ℕ) (l l′ : List ℕ) → ((xs : List ℕ) → (xs ++ (v ∷ [])) ++ l ≡ xs ++ l′)
@@ -114,26 +108,26 @@ regroup : (x : Parsed (List ℕ)) (v : ℕ) (l l′ : List ℕ) → ((xs : List 
 regroup (value a q) v l l′ h = ap (λ (k : List ℕ). value k q) (h a)
 regroup (refused r) v l l′ h = refl
 
-module _ (s : List ℕ) (p₀ flags m : ℕ) (part : List ℕ) (p byte i : ℕ) (f : Levelled s p₀ flags m part p byte i) (few : m ≤ 7) where
-  pub levels-on : (v q : ℕ) → 0 < i → byteIf (isSet (byte / 128)) s p ≡ value v q → Levelled s p₀ flags m (set part (i - 1) v) q (byte % 128 * 2) (i - 1)
-  levels-on v q h e =
-      let n : i ≡ suc (i - 1) = omega arith in
-      let k : i - 1 < length part = omega arith in
-      record {
+module _ (L : Parser ℕ) (s : List ℕ) (p₀ flags m : ℕ) (part : List ℕ) (p byte i : ℕ) (f : Levelled L s p₀ flags m part p byte i) (few : m ≤ 7) where
+  pub levels-on : (v q j j′ : ℕ) → i ≡ suc j → j′ ≡ j → (if isSet (byte / 128) then L else give 0) s p ≡ value v q → Levelled L s p₀ flags m (set part j v) q (byte % 128 * 2) j′
+  levels-on v q j j′ e d h =
+      let k : j < length part = omega arith in
+      rw d
+      (record {
         low = omega arith;
         small = omega arith;
-        long = length-set part (i - 1) v ∙ f .long;
+        long = length-set part j v ∙ f .long;
         done = f .done
-          ∙ ap (inFrontOf (drop i part)) (levels-more (u 8) s byte p i (i - 1) n v q e)
-          ∙ ap (λ (j : ℕ). inFrontOf (drop j part) (inFrontOf (v ∷ []) (levels (u 8) (i - 1) (byte % 128 * 2) s q))) n
-          ∙ regroup (levels (u 8) (i - 1) (byte % 128 * 2) s q) v (drop (suc (i - 1)) part) (drop (i - 1) (set part (i - 1) v)) (λ xs. snoc-store xs (i - 1) part v k);
-      }
+          ∙ ap (inFrontOf (drop i part)) (levels-more L s byte p i j e v q h)
+          ∙ ap (λ (n : ℕ). inFrontOf (drop n part) (inFrontOf (v ∷ []) (levels L j (byte % 128 * 2) s q))) e
+          ∙ regroup (levels L j (byte % 128 * 2) s q) v (drop (suc j) part) (drop j (set part j v)) (λ xs. snoc-store xs j part v k);
+      })
 
-  pub levels-out : (r : ℕ) → 0 < i → byteIf (isSet (byte / 128)) s p ≡ refused r → asArray (levels (u 8) m flags s p₀) ≡ refused r
-  levels-out r h e = f .done ∙ ap (inFrontOf (drop i part)) (levels-refused (u 8) s byte p i (i - 1) (omega arith) r e)
+  pub levels-out : (r : ℕ) → 0 < i → (if isSet (byte / 128) then L else give 0) s p ≡ refused r → asArray (levels L m flags s p₀) ≡ refused r
+  levels-out r h e = f .done ∙ ap (inFrontOf (drop i part)) (levels-refused L s byte p i (i - 1) (omega arith) r e)
 
-  pub levels-end : i ≡ 0 → asArray (levels (u 8) m flags s p₀) ≡ value part p
-  levels-end e = f .done ∙ ap (inFrontOf (drop i part)) (levels-none (u 8) s byte p i e) ∙ ap (λ (j : ℕ). value (drop j part) p) e
+  pub levels-end : i ≡ 0 → asArray (levels L m flags s p₀) ≡ value part p
+  levels-end e = f .done ∙ ap (inFrontOf (drop i part)) (levels-none L s byte p i e) ∙ ap (λ (j : ℕ). value (drop j part) p) e
 
 -- ---- the section
 abbrev pub flagged : List Bool → Parsed (List ℕ) → Parsed Sublayers

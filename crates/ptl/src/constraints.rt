@@ -73,7 +73,7 @@ fn general_constraints_info(rbsp: &[u8], at: BitPosition) -> BitsRead
 }
 
 // The bytes between two offsets at the front of an array, the top two bits of the first cleared.
-fn constraint_bytes(rbsp: &[u8], from: ByteOffset, to: ByteOffset) -> [u8; 63]
+pub fn constraint_bytes(rbsp: &[u8], from: ByteOffset, to: ByteOffset) -> [u8; 63]
     requires { ⌜ (to .0 ≤ length (now rbsp)) × (from .0 ≤ to .0) × (to .0 - from .0 ≤ 63) ⌝ }
     ensures { λ r. ⌜ r ≡ padded 63 0 (withoutFlags (take (to .0 - from .0) (drop (from .0) (now (rbsp .entry))))) ⌝ }
 {

@@ -45,17 +45,18 @@ fn flags_byte(rbsp: &[u8], at: BitPosition, m: usize) -> BitsRead
 }
 
 // The flags in the top bits of a byte, from the highest of m sublayers down.
-fn present_flags(flags: u32, m: usize) -> [bool; 7]
+pub fn present_flags(flags: u32, m: usize) -> [bool; 7]
     requires { ⌜ (m ≤ 7) × (flags < 256) ⌝ }
     ensures { λ r. ⌜ r ≡ padded 7 false (presentFlags m flags) ⌝ }
 {
     let mut present = [false; 7];
     let mut byte = flags;
-    let mut i = m;
-    while 0 < i {
-        i -= 1;
+    let mut k: usize = 0;
+    while k < m {
+        let i = m - 1 - k;
         present[i] = byte / 128 == 1;
         byte = byte % 128 * 2;
+        k += 1;
     }
     present
 }
@@ -65,10 +66,10 @@ fn level(rbsp: &[u8], at: BitPosition, flag: u32) -> BitsRead
     requires { ⌜ length (now rbsp) ≤ 2 ^ 20 ⌝ }
     ensures { λ r. ⌜ parsed r ≡ (if isSet flag then u 8 else give 0) (now (rbsp .entry)) (at .0) ⌝ }
 {
-    if flag == 1 {
-        return bits::read_bits(rbsp, at, 8);
+    if flag != 1 {
+        return BitsRead::Value(0, at);
     }
-    BitsRead::Value(0, at)
+    bits::read_bits(rbsp, at, 8)
 }
 
 // The refusal of a read, with nothing beside it.
@@ -87,9 +88,9 @@ fn read_levels(rbsp: &[u8], at: BitPosition, flags: u32, m: usize) -> LevelsRead
     let mut part = [0u8; 7];
     let mut p = at.0;
     let mut byte = flags;
-    let mut i = m;
-    while 0 < i {
-        i -= 1;
+    let mut done: usize = 0;
+    while done < m {
+        let i = m - 1 - done;
         let r = level(rbsp, BitPosition(p), byte / 128);
         let BitsRead::Value(v, q) = r else {
             return no_levels(bits::refusal(r));
@@ -97,6 +98,7 @@ fn read_levels(rbsp: &[u8], at: BitPosition, flags: u32, m: usize) -> LevelsRead
         part[i] = v as u8;
         p = q.0;
         byte = byte % 128 * 2;
+        done += 1;
     }
     let answer = PtlAnswer::Read(BitPosition(p));
     LevelsRead { answer, part }

@@ -1,4 +1,7 @@
 // VvcPTLRecord of ISO/IEC 14496-15 11.2.4.2 as bytes: read and written.
+pub mod read;
+pub mod write;
+
 use error::Refusal;
 use ptl::VvcPtlRecord;
 

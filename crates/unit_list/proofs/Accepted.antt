@@ -1,19 +1,17 @@
 -- What holds of a list that decodes: how long it is, and that its units lie in it.
-use Prim.Native.Nat.{ℕ, _+_, _*_, _^_, _≤_, _<_}
-use mathlib.Core.Path.{_≡_, refl, sym, ap, _∙_}
-use mathlib.Core.List.{List, [], _∷_, map}
+use Prim.Native.Nat.{ℕ, _+_, _*_, _^_, _≤_}
+use mathlib.Core.Path.{_≡_, refl, sym, _∙_}
+use mathlib.Core.List.{List, [], _∷_}
 use native.Mathlib.Omega.{arith}
 use native.Mathlib.Decide.{decLe}
 use lib.ListN.{length, getD, length-drop}
 use lib.Seq.{length-take-le}
-use Rattle.error.specs.Outcome.{Outcome, accept, refuse}
+use Rattle.error.specs.Outcome.{accept, refuse}
 use Rattle.error.specs.Parse.{Parsed, value, refused, many, outcomeOr}
 use Rattle.boxes.specs.Parts.{held, nowhere}
-use Rattle.boxes.specs.Walk.{found}
 use Rattle.boxes.specs.declared.Span.{Span}
 use Rattle.unit_list.specs.UnitList.{Array, array, decode, unitsOf, heldArrays}
-use Rattle.unit_list.specs.Walk.{arraysFrom}
-use Rattle.unit_list.proofs.Arrays.{Sound, sound-none, sound-more, room, Lies, arrays-lie, arrays-sound}
+use Rattle.unit_list.proofs.Arrays.{Sound, sound-none, sound-more, room, arrays-lie, arrays-sound}
 use Rattle.unit_list.proofs.Left.{decode-too-long, decode-versionless, decode-arrays}
 
 -- the lengths of units together
@@ -46,16 +44,16 @@ accepted s xs e =
     elim (decLe (length s) (2 ^ 30)) [
       | no h ↦ absurd (refuses 23 (decode-too-long s (omega arith)) e)
       | yes h ↦
-        elim (decLe (getD s 0 0) 1) [
-          | no g ↦ absurd (refuses 21 (decode-versionless s h (λ v. omega arith)) e)
-          | yes g ↦
-            elim (decLe 1 (getD s 0 0)) [
-              | no f ↦ absurd (refuses 21 (decode-versionless s h (λ v. omega arith)) e)
-              | yes f ↦
-                let v : getD s 0 0 ≡ 1 = omega arith in
-                go s h v (many (array 4) s 1) refl (sym (decode-arrays s h v) ∙ e)
-            ]
-        ]
+          elim (decLe (getD s 0 0) 1) [
+            | no g ↦ absurd (refuses 21 (decode-versionless s h (λ v. omega arith)) e)
+            | yes g ↦
+                elim (decLe 1 (getD s 0 0)) [
+                  | no f ↦ absurd (refuses 21 (decode-versionless s h (λ v. omega arith)) e)
+                  | yes f ↦
+                      let v : getD s 0 0 ≡ 1 = omega arith in
+                      go s h v (many (array 4) s 1) refl (sym (decode-arrays s h v) ∙ e)
+                ]
+          ]
     ]
   where
     refuses : (n : ℕ) → decode s ≡ refuse n → decode s ≡ accept xs → ⊥

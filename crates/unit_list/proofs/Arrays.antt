@@ -4,10 +4,10 @@ use mathlib.Core.Path.{_≡_, refl, sym, ap, _∙_}
 use mathlib.Core.List.{List, [], _∷_, _++_}
 use native.Mathlib.Omega.{arith}
 use native.Mathlib.Decide.{decLe}
-use lib.ListN.{length, getD, take, length-take}
+use lib.ListN.{length, getD, take}
 use lib.Seq.{getD-take, length-take-le}
 use borrow.Author.Tests.{lt-ltb, le-ltb}
-use Rattle.error.specs.Outcome.{Outcome, accept, refuse, andThen}
+use Rattle.error.specs.Outcome.{accept, refuse, andThen}
 use Rattle.error.specs.Parse.{Parsed, value, refused, bind, Parser, many, outcomeOr}
 use Rattle.boxes.specs.Bytes.{be, uint, chunk, inside}
 use Rattle.boxes.specs.Parts.{nowhere}
@@ -37,21 +37,18 @@ module _ {A : Type 0} (P : Parser A) (s : List ℕ) (p : ℕ) (n : ℕ) (more-le
       go (refused m) e h = rw (many-bad P s p m more-left e)
 
   pub run-step : Advances P s → (a : A) (q : ℕ) → P s p ≡ value a q → outcomeOr n (many P s p) ≡ more a (outcomeOr n (many P s q))
-  run-step adv a q e = many-step P s adv p a q more-left e ∙> go (many P s q)
+  run-step adv a q e = ap (outcomeOr n) (many-step P s adv p a q more-left e) ∙ go (many P s q)
     where
       go : (x : Parsed (List A)) → outcomeOr n (bind x (λ rest r. value (a ∷ rest) r)) ≡ more a (outcomeOr n x)
       go (value rest r) = refl
       go (refused m) = refl
-      infixr 5 _∙>_
-      _∙>_ : {x y : Parsed (List A)} {z : Outcome (List A)} → x ≡ y → outcomeOr n y ≡ z → outcomeOr n x ≡ z
-      f ∙> g = ap (outcomeOr n) f ∙ g
 
 pub run-nil : {A : Type 0} (P : Parser A) (s : List ℕ) (p n : ℕ) → length s ≤ p → outcomeOr n (many P s p) ≡ accept []
 run-nil P s p n h = rw (many-nil P s p h)
 
 -- what holds at the end of a run, and before each thing read where it holds behind it, holds of every run that reads
 module _ {A : Type 0} (P : Parser A) (s : List ℕ) (adv : Advances P s) (N : ℕ → List A → ℕ → Type 0) (nil : (p : ℕ) → length s ≤ p → N p [] p)
-  (step : (p : ℕ) (a : A) (q : ℕ) (xs : List A) (r : ℕ) → P s p ≡ value a q → N q xs r → N p (a ∷ xs) r) where
+    (step : (p : ℕ) (a : A) (q : ℕ) (xs : List A) (r : ℕ) → P s p ≡ value a q → N q xs r → N p (a ∷ xs) r) where
   pub run-value : (p : ℕ) (xs : List A) (r : ℕ) → many P s p ≡ value xs r → N p xs r
   run-value =
       many-induction P s adv (λ p. (xs : List A) (r : ℕ) → many P s p ≡ value xs r → N p xs r)
@@ -64,6 +61,7 @@ module _ {A : Type 0} (P : Parser A) (s : List ℕ) (adv : Advances P s) (N : �
           let x : [] ≡ xs = cc in
           let y : p ≡ r = cc in
           rw (← x, ← y) (nil p h)
+
       go : (p : ℕ) (a : A) (q : ℕ) → P s p ≡ value a q → ((xs : List A) (r : ℕ) → many P s q ≡ value xs r → N q xs r)
           → (o : Parsed (List A)) → many P s q ≡ o → (xs : List A) (r : ℕ) → bind o (λ rest r. value (a ∷ rest) r) ≡ value xs r → N p xs r
       go p a q x m (refused n) f xs r e = absurd (let z : _≡_ {A = ℕ} 0 1 = cc in omega arith)
@@ -98,7 +96,7 @@ pub lies-append : (w n p q : ℕ) (us vs : List Span) → Lies w q p us → q �
 lies-append w n p q us vs a h b =
     record {
       together = rw (room-append w us vs) (let x = a .together in let y = b .together in omega arith);
-      each = each-append n us vs (λ k. let x = a .each k in omega arith) (b .each)
+      each = each-append n us vs (λ k. let x = a .each k in omega arith) (b .each);
     }
 
 pub lies-nil : (w n p : ℕ) → p ≤ n → Lies w n p []
@@ -117,7 +115,7 @@ module _ (w : ℕ) (s : List ℕ) (some : 1 ≤ w) where
       let c = chunk-read w s p a q e in
       record {
         end = h .end;
-        lies = record { together = let x = h .lies .together in omega arith; each = go }
+        lies = record { together = let x = h .lies .together in omega arith; each = go };
       }
     where
       go : (k : ℕ) → getD (a ∷ us) k nowhere .start + getD (a ∷ us) k nowhere .len ≤ length s
@@ -177,10 +175,10 @@ module _ (w : ℕ) (s : List ℕ) (p : ℕ) where
         elim (decLe (a .len) 0) [
           | yes k ↦ rw (e, byte-short (a .start) (omega arith)) tt
           | no k ↦
-            elim (decLe (getD s (a .start) 0) 1) [
-              | yes j ↦ rw (e, byte-there (a .start) (omega arith), le-ltb 1 (getD s (a .start) 0) j, byte-short (a .start + 1) (omega arith)) tt
-              | no j ↦ array-complete (omega arith)
-            ]
+              elim (decLe (getD s (a .start) 0) 1) [
+                | yes j ↦ rw (e, byte-there (a .start) (omega arith), le-ltb 1 (getD s (a .start) 0) j, byte-short (a .start + 1) (omega arith)) tt
+                | no j ↦ array-complete (omega arith)
+              ]
         ]
 
     module _ (two : 2 ≤ a .len) (complete : getD s (a .start) 0 ≤ 1) where
@@ -244,15 +242,15 @@ module _ (w : ℕ) (s : List ℕ) (some : 1 ≤ w) where
           elim (decLe 2 (a .len)) [
             | no k ↦ absurd (not-refused (array w s p) x q e (array-short w s p a c (omega arith)))
             | yes two ↦
-              elim (decLe (getD s (a .start) 0) 1) [
-                | no k ↦ absurd (not-refused (array w s p) x q e (array-complete w s p a c (omega arith)))
-                | yes one ↦
-                  elim (decLe (getD s (a .start + 1) 0) 31) [
-                    | no k ↦ absurd (not-refused (array w s p) x q e (array-type w s p a c two one (omega arith)))
-                    | yes small ↦
-                      units a c two one small (many (chunk w) (take (a .start + a .len) s) (a .start + 2)) refl (sym (array-reads w s p a c two one small) ∙ e)
-                  ]
-              ]
+                elim (decLe (getD s (a .start) 0) 1) [
+                  | no k ↦ absurd (not-refused (array w s p) x q e (array-complete w s p a c (omega arith)))
+                  | yes one ↦
+                      elim (decLe (getD s (a .start + 1) 0) 31) [
+                        | no k ↦ absurd (not-refused (array w s p) x q e (array-type w s p a c two one (omega arith)))
+                        | yes small ↦
+                            units a c two one small (many (chunk w) (take (a .start + a .len) s) (a .start + 2)) refl (sym (array-reads w s p a c two one small) ∙ e)
+                      ]
+                ]
           ]
 
       chunked : (o : Parsed Span) → chunk w s p ≡ o → ArrayRead p x q
@@ -267,20 +265,20 @@ module _ (w : ℕ) (s : List ℕ) (some : 1 ≤ w) where
 
   -- the arrays from one on whose head is good: its units, and the arrays behind it
   module _ (p n : ℕ) (left : p < length s) (a : Span) (c : chunk w s p ≡ value a (a .start + a .len)) (two : 2 ≤ a .len)
-    (one : getD s (a .start) 0 ≤ 1) (small : getD s (a .start + 1) 0 ≤ 31) where
+      (one : getD s (a .start) 0 ≤ 1) (small : getD s (a .start + 1) 0 ≤ 31) where
     pub arrays-step : outcomeOr n (many (array w) s p)
         ≡ andThen (outcomeOr n (many (chunk w) (take (a .start + a .len) s) (a .start + 2)))
-          (λ us. more (record { complete = getD s (a .start) 0; unitType = getD s (a .start + 1) 0; units = us }) (outcomeOr n (many (array w) s (a .start + a .len))))
+        (λ us. more (record { complete = getD s (a .start) 0; unitType = getD s (a .start + 1) 0; units = us }) (outcomeOr n (many (array w) s (a .start + a .len))))
     arrays-step = go (many (chunk w) (take (a .start + a .len) s) (a .start + 2)) refl
       where
         go : (o : Parsed (List Span)) → many (chunk w) (take (a .start + a .len) s) (a .start + 2) ≡ o → outcomeOr n (many (array w) s p)
             ≡ andThen (outcomeOr n o)
-              (λ us. more (record { complete = getD s (a .start) 0; unitType = getD s (a .start + 1) 0; units = us }) (outcomeOr n (many (array w) s (a .start + a .len))))
+            (λ us. more (record { complete = getD s (a .start) 0; unitType = getD s (a .start + 1) 0; units = us }) (outcomeOr n (many (array w) s (a .start + a .len))))
         go (refused m) f = run-refused (array w) s p n left (rw (array-reads w s p a c two one small, f) tt)
         go (value us r) f =
             let h = units-run p a c two us r f in
             let g : array w s p ≡ value (record { complete = getD s (a .start) 0; unitType = getD s (a .start + 1) 0; units = us }) (a .start + a .len) =
-                array-reads w s p a c two one small ∙ rw (f, h .0) in
+            array-reads w s p a c two one small ∙ rw (f, h .0) in
             run-step (array w) s p n left array-advances (record { complete = getD s (a .start) 0; unitType = getD s (a .start + 1) 0; units = us }) (a .start + a .len) g
 
   -- the arrays of a run lie before the end

@@ -6,7 +6,7 @@ use native.Mathlib.Omega.{arith}
 use lib.ListN.{length, getD, take, length-append}
 use lib.Seq.{take-at, getD-at}
 use Rattle.error.specs.Outcome.{Outcome, accept}
-use Rattle.error.specs.Parse.{Parsed, value, bind, many, outcomeOr}
+use Rattle.error.specs.Parse.{value, many, outcomeOr}
 use Rattle.boxes.specs.Bytes.{toBe, chunk, toChunk}
 use Rattle.boxes.specs.Parts.{held}
 use Rattle.boxes.specs.declared.Span.{Span}
@@ -48,7 +48,7 @@ module _ (w : ℕ) (some : 1 ≤ w) (s : List ℕ) where
       let j = length-toChunk w u in
       let n = ap length e ∙ length-append pre (toChunk w u ++ encodeUnits w us) in
       let c : chunk w s p ≡ value (record { start = p + w; len = length u }) (p + w + length u) =
-          rw (e, ← l) (chunk-toChunk w pre u (encodeUnits w us) (omega arith)) in
+      rw (e, ← l) (chunk-toChunk w pre u (encodeUnits w us) (omega arith)) in
       let m : length (pre ++ toChunk w u) ≡ p + w + length u = omega (arith, length-append pre (toChunk w u)) in
       many-step (chunk w) s (chunk-advances w s some) p (record { start = p + w; len = length u }) (p + w + length u) (omega arith) c
       ∙ rw (units-written us (pre ++ toChunk w u) (p + w + length u) (e ∙ sym (append-assoc pre (toChunk w u) (encodeUnits w us))) m (omega arith))
@@ -76,7 +76,7 @@ headOf w a = toBe w (length (restOf w a)) ++ (a .complete ∷ a .unitType ∷ []
 
 -- one array behind others and in front of others
 module _ (w : ℕ) (s : List ℕ) (a : Array (List ℕ)) (pre post : List ℕ) (p : ℕ) (e : s ≡ pre ++ (encodeArray w a ++ post)) (l : length pre ≡ p)
-  (f : length (encodeArray w a) < 256 ^ w) where
+    (f : length (encodeArray w a) < 256 ^ w) where
   length-array : length (encodeArray w a) ≡ w + length (restOf w a)
   unfolding encodeArray
   length-array = length-toChunk w (restOf w a)
@@ -118,7 +118,7 @@ module _ (w : ℕ) (s : List ℕ) (a : Array (List ℕ)) (pre post : List ℕ) (
   type-at : getD s (p + w + 1) 0 ≡ a .unitType
   type-at =
       let m : length ((pre ++ toBe w (length (restOf w a))) ++ (a .complete ∷ [])) ≡ p + w + 1 =
-          length-append (pre ++ toBe w (length (restOf w a))) (a .complete ∷ []) ∙ rw before (omega arith) in
+      length-append (pre ++ toBe w (length (restOf w a))) (a .complete ∷ []) ∙ rw before (omega arith) in
       rw bytes-at
       (ap (λ (x : List ℕ). getD x (p + w + 1) 0) (sym (append-assoc (pre ++ toBe w (length (restOf w a))) (a .complete ∷ []) (a .unitType ∷ (encodeUnits w (a .units) ++ post))))
       ∙ getD-at ((pre ++ toBe w (length (restOf w a))) ++ (a .complete ∷ [])) (a .unitType) (encodeUnits w (a .units) ++ post) 0 (p + w + 1) m)
@@ -134,10 +134,10 @@ module _ (w : ℕ) (s : List ℕ) (a : Array (List ℕ)) (pre post : List ℕ) (
     array-written =
         let k = length-array in
         let c : chunk w s p ≡ value (record { start = p + w; len = length (restOf w a) }) (p + w + length (restOf w a)) =
-            unfold encodeArray in rw (e, ← l) (chunk-toChunk w pre (restOf w a) post (omega arith)) in
+        unfold encodeArray in rw (e, ← l) (chunk-toChunk w pre (restOf w a) post (omega arith)) in
         let u = units-written w some (take (p + w + length (restOf w a)) s) (a .units) (pre ++ headOf w a) (p + w + 2) rest-at length-head (omega arith) in
         let m : length (take (p + w + length (restOf w a)) s) ≡ p + length (encodeArray w a) =
-            ap length rest-at ∙ length-append (pre ++ headOf w a) (encodeUnits w (a .units)) ∙ rw length-head (omega arith) in
+        ap length rest-at ∙ length-append (pre ++ headOf w a) (encodeUnits w (a .units)) ∙ rw length-head (omega arith) in
         array-reads w s p (record { start = p + w; len = length (restOf w a) }) c (omega arith) (rw complete-at one) (rw type-at small)
         ∙ rw (u, m, complete-at, type-at)
 
@@ -199,7 +199,7 @@ module _ (xs : List (Array (List ℕ))) (fits : length (encode xs) ≤ 2 ^ 30) w
         record {
           spans = unitsOf (placedArrays 4 1 xs);
           read = rw decode-encode;
-          bytes = units-held (encode xs) (placedArrays 4 1 xs) ∙ ap unitsOf held-encode
+          bytes = units-held (encode xs) (placedArrays 4 1 xs) ∙ ap unitsOf held-encode;
         }
 
     pub units-of-type-encode : (t : ℕ) → UnitsRead (encode xs) (listUnitsOfType t (encode xs)) (unitsOfType t xs)
@@ -207,5 +207,5 @@ module _ (xs : List (Array (List ℕ))) (fits : length (encode xs) ≤ 2 ^ 30) w
         record {
           spans = unitsOfType t (placedArrays 4 1 xs);
           read = rw decode-encode;
-          bytes = units-of-type-held (encode xs) t (placedArrays 4 1 xs) ∙ ap (unitsOfType t) held-encode
+          bytes = units-of-type-held (encode xs) t (placedArrays 4 1 xs) ∙ ap (unitsOfType t) held-encode;
         }

@@ -4,22 +4,20 @@ use mathlib.Core.Path.{_≡_, refl, sym, ap, _∙_, subst}
 use mathlib.Core.List.{List, [], _∷_, _++_}
 use native.Mathlib.Omega.{arith}
 use lib.ListN.{length, getD, take, length-take}
-use lib.Seq.{take-length}
 use borrow.Author.Tests.{le-leb, lt-leb, eq-eqb, ne-eqb}
 use Rattle.error.specs.Outcome.{Outcome, accept, refuse, andThen}
-use Rattle.error.specs.Parse.{Parsed, value, refused, many, outcomeOr}
 use Rattle.boxes.specs.Bytes.{chunk}
 use Rattle.boxes.specs.Walk.{more}
 use Rattle.boxes.specs.declared.Span.{Span}
-use Rattle.boxes.proofs.Fields.{uint-there, uint-short, chunk-read, chunk-advances}
-use Rattle.unit_list.specs.UnitList.{Array, array, unitList, decode}
+use Rattle.boxes.proofs.Fields.{uint-there, uint-short}
+use Rattle.unit_list.specs.UnitList.{Array, unitList, decode}
 use Rattle.unit_list.specs.Walk.{typed, typedUnits, typedList, leftOf, unitsFrom, arraysFrom, arraysStepped, unitsStepped, stepped, Fits, Entered, ArrayStepFits, UnitStepFits, StepFits}
 use Rattle.unit_list.specs.declared.ListCursor.{ListCursor}
 use Rattle.unit_list.specs.declared.ListStep.{ListStep}
 use Rattle.unit_list.specs.declared.ListStep.the-variants as L
 use Rattle.unit_list.specs.declared.ArrayStep.{ArrayStep}
 use Rattle.unit_list.specs.declared.ArrayStep.the-variants as A
-use Rattle.unit_list.proofs.Arrays.{be-one, run-nil, run-step, run-refused}
+use Rattle.unit_list.proofs.Arrays.{be-one, run-nil}
 
 -- the start: too long, another version or none, and behind the version
 pub decode-too-long : (s : List ℕ) → 2 ^ 30 < length s → decode s ≡ refuse 23
@@ -100,13 +98,10 @@ module _ (s : List ℕ) (c here : ListCursor) (inv : Fits s here × (leftOf s he
       entered : (arraysStepped s (A.Array b d) ≡ arraysFrom s (here .end)) × Entered s (here .end) b d
       entered = subst (λ (r : ArrayStep). (arraysStepped s r ≡ arraysFrom s (here .end)) × ArrayStepFits s (here .end) r) g f
 
-      pub turn-less : length s - d .end < length s - here .end
-      turn-less = let h = entered .1 in omega (arith, h .first, h .fits .before, h .fits .within)
-
-      pub turn-again : Fits s d × (leftOf s d ≡ leftOf s c) × (c .at ≤ d .at)
-      turn-again =
+      pub turn-entered : (length s - d .end < length s - here .end) × (Fits s d × (leftOf s d ≡ leftOf s c) × (c .at ≤ d .at))
+      turn-entered =
           let h = entered .1 in
-          (h .fits, left-entered s here e b d (entered .0) ∙ inv .1, omega (arith, inv .2, h .first))
+          (omega (arith, h .first, h .fits .before, h .fits .within), (h .fits, left-entered s here e b d (entered .0) ∙ inv .1, omega (arith, inv .2, h .first)))
 
     pub turn-end : r ≡ A.End → accept [] ≡ leftOf s c
     turn-end g = left-end s here e (sym (ap (arraysStepped s) g) ∙ f .0) ∙ inv .1

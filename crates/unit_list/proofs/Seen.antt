@@ -1,5 +1,5 @@
 -- Laws of the walk over the wanted units: what has been seen and what is left make the whole.
-use Prim.Native.Nat.{ℕ, _+_, _^_, _≤_, _<_}
+use Prim.Native.Nat.{ℕ, _+_, _-_, _^_, _≤_, _<_}
 use mathlib.Core.Path.{_≡_, refl, sym, ap, _∙_, subst}
 use mathlib.Core.Bool.{Bool, true, false}
 use mathlib.Core.List.{List, [], _∷_, _++_, append-nil, append-assoc}
@@ -11,7 +11,6 @@ use lib.Seq.{getD-at}
 use borrow.Author.Tests.{eq-eqb, ne-eqb}
 use Rattle.error.specs.Logic.{if_then_else_}
 use Rattle.error.specs.Outcome.{Outcome, accept, refuse}
-use Rattle.error.specs.Answers.{countOf}
 use Rattle.error.specs.declared.Counted.the-variants.{Count, Refused}
 use Rattle.error.specs.declared.Refusal.{Refusal}
 use Rattle.error.specs.declared.Refusal.the-variants.{UnitList}
@@ -51,12 +50,12 @@ getD-last done a k =
     elim (decLe (length done) k) [
       | no h ↦ rw (ne-eqb (length done) k (λ e. omega arith)) (List·getD-append done (a ∷ []) nowhere k (omega arith))
       | yes h ↦
-        elim (decLe k (length done)) [
-          | yes g ↦ let e : length done ≡ k = omega arith in rw (eq-eqb (length done) k e) (getD-at done a [] nowhere k e)
-          | no g ↦
-            rw (ne-eqb (length done) k (λ e. omega arith), List·getD-eq-default done nowhere {n = k} h)
-            (List·getD-eq-default (done ++ (a ∷ [])) nowhere {n = k} (omega arith))
-        ]
+          elim (decLe k (length done)) [
+            | yes g ↦ let e : length done ≡ k = omega arith in rw (eq-eqb (length done) k e) (getD-at done a [] nowhere k e)
+            | no g ↦
+                rw (ne-eqb (length done) k (λ e. omega arith), List·getD-eq-default done nowhere {n = k} h)
+                (List·getD-eq-default (done ++ (a ∷ [])) nowhere {n = k} (omega arith))
+          ]
     ]
 
 -- the first unit is wanted, or it is not
@@ -82,6 +81,12 @@ module _ (s : List ℕ) (c : ListCursor) (w : Wanted) (k : ℕ) where
     pub inside : seen .unit .start + seen .unit .len ≤ length s
     pub left : after done (wantedOf w (leftOf s here)) ≡ wantedOf w (leftOf s c)
 
+  -- one turn: the walk goes on to `next`, and the unit there still counts
+  pub record Turn (here : ListCursor) (seen : Seen) (a : Span) (next : ListCursor) : Type 0 where
+    pub few : seen .count < 2 ^ 30
+    pub less : length s - next .at < length s - here .at
+    pub again : Walked next (seeing w k (next .«unit_type») a seen)
+
   pub walked-start : Fits s c → Walked c (record { count = 0; unit = nowhere })
   walked-start f = record { fits = f; done = []; count = refl; unit = refl; few = omega arith; inside = omega arith; left = after-nil (wantedOf w (leftOf s c)) }
 
@@ -90,20 +95,17 @@ module _ (s : List ℕ) (c : ListCursor) (w : Wanted) (k : ℕ) where
       passed : (stepped s (L.Unit a next) ≡ leftOf s here) × Passed s here a next
       passed = subst (λ (r : ListStep). (stepped s r ≡ leftOf s here) × StepFits s here r) g f
 
-      pub walked-less : here .at < next .at
-      walked-less = let p = passed .1 in omega (arith, p .start, p .next)
+      further : here .at < next .at
+      further = let p = passed .1 in omega (arith, p .start, p .next)
 
-      pub walked-within : next .at ≤ length s
-      walked-within = let p = passed .1 in omega (arith, p .fits .before, p .fits .within)
+      inside-still : next .at ≤ length s
+      inside-still = let p = passed .1 in omega (arith, p .fits .before, p .fits .within)
 
-      pub walked-few : seen .count < 2 ^ 30
-      walked-few = omega (arith, walked-less, walked-within, i .few, i .fits .lent)
-
-      pub walked-again : Walked next (seeing w k (next .«unit_type») a seen)
-      walked-again = go (wants w (next .«unit_type»)) refl
+      again : Walked next (seeing w k (next .«unit_type») a seen)
+      again = go (wants w (next .«unit_type»)) refl
         where
           kept : (b : Bool) → (if b then a else seen .unit) .start + (if b then a else seen .unit) .len ≤ length s
-          kept true = omega (arith, passed .1 .next, walked-within)
+          kept true = omega (arith, passed .1 .next, inside-still)
           kept false = i .inside
 
           go : (b : Bool) → wants w (next .«unit_type») ≡ b → Walked next (seeing w k (next .«unit_type») a seen)
@@ -114,12 +116,12 @@ module _ (s : List ℕ) (c : ListCursor) (w : Wanted) (k : ℕ) where
                 done = i .done ++ (a ∷ []);
                 count = omega (arith, i .count, length-append (i .done) (a ∷ []));
                 unit = rw (i .count, i .unit) (sym (getD-last (i .done) a k));
-                few = omega (arith, walked-less, i .few);
+                few = omega (arith, further, i .few);
                 inside = kept (eqb (seen .count) k);
                 left =
                     after-more (i .done) a (wantedOf w (leftOf s next))
                     ∙ ap (after (i .done)) (sym (wanted-more w (record { unit = a; unitType = next .«unit_type» }) h (leftOf s next)) ∙ ap (wantedOf w) (passed .0))
-                    ∙ i .left
+                    ∙ i .left;
               })
           go false h =
               rw h
@@ -128,19 +130,25 @@ module _ (s : List ℕ) (c : ListCursor) (w : Wanted) (k : ℕ) where
                 done = i .done;
                 count = i .count;
                 unit = i .unit;
-                few = omega (arith, walked-less, i .few);
+                few = omega (arith, further, i .few);
                 inside = i .inside;
                 left =
                     ap (after (i .done)) (sym (wanted-less w (record { unit = a; unitType = next .«unit_type» }) h (leftOf s next)) ∙ ap (wantedOf w) (passed .0))
-                    ∙ i .left
+                    ∙ i .left;
               })
+
+      pub walked-turn : Turn here seen a next
+      walked-turn =
+          let x = further in
+          let y = inside-still in
+          record { few = omega (arith, i .few, i .fits .lent); less = omega arith; again = again }
 
     pub walked-end : r ≡ L.End → Finds s (wantedOf w (leftOf s c)) k (record { counted = Count (seen .count); unit = seen .unit })
     unfolding wantedUnits
     walked-end g =
         let e : accept [] ≡ leftOf s here = sym (ap (stepped s) g) ∙ f .0 in
         let o : accept (i .done) ≡ wantedOf w (leftOf s c) =
-            ap accept (sym (append-nil (i .done))) ∙ ap (λ (x : Outcome (List TypedUnit)). after (i .done) (wantedOf w x)) e ∙ i .left in
+        ap accept (sym (append-nil (i .done))) ∙ ap (λ (x : Outcome (List TypedUnit)). after (i .done) (wantedOf w x)) e ∙ i .left in
         rw (← o) (record { count = ap accept (i .count); unit = i .unit; inside = i .inside })
 
     pub walked-malformed : r ≡ L.Malformed → Finds s (wantedOf w (leftOf s c)) k (record { counted = Refused UnitList; unit = nowhere })

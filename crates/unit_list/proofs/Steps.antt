@@ -5,7 +5,7 @@ use mathlib.Core.List.{List, []}
 use native.Mathlib.Omega.{arith}
 use lib.ListN.{length, getD, take}
 use lib.Seq.{take-length, length-take-le}
-use Rattle.error.specs.Outcome.{Outcome, accept, refuse}
+use Rattle.error.specs.Outcome.{accept, refuse}
 use Rattle.error.specs.Parse.{Parsed, value, refused}
 use Rattle.boxes.specs.Bytes.{be, chunk}
 use Rattle.boxes.specs.Walk.{more}
@@ -108,6 +108,7 @@ module _ (s : List ℕ) (p : ℕ) where
             → (arraysStepped s (A.Array (getD s (a .start) 0) (record { at = a .start + 2; end = a .start + a .len; «unit_type» = getD s (a .start + 1) 0 })) ≡ arraysFrom s p)
             × Entered s p (getD s (a .start) 0) (record { at = a .start + 2; end = a .start + a .len; «unit_type» = getD s (a .start + 1) 0 })
         arrays-entered lent small =
-            let b = chunk-read 4 s p a (a .start + a .len) read in
-            (sym (arrays-step 4 s (omega arith) p 21 left a read two one small),
-            record { first = omega arith; complete = one; unitType = small; fits = record { before = omega arith; within = b .fits; lent = lent } })
+            let b = chunk-read 4 s p a (a .start + a .len) read in (
+              sym (arrays-step 4 s (omega arith) p 21 left a read two one small),
+              record { first = omega arith; complete = one; unitType = small; fits = record { before = omega arith; within = b .fits; lent = lent } },
+            )

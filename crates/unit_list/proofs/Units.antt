@@ -8,7 +8,7 @@ use Rattle.error.specs.Logic.{if_then_else_}
 use Rattle.error.specs.Outcome.{Outcome, accept, refuse, andThen}
 use Rattle.boxes.specs.Parts.{held}
 use Rattle.boxes.specs.declared.Span.{Span}
-use Rattle.unit_list.specs.UnitList.{Array, decode, unitsOf, unitsOfType, heldArray, heldArrays}
+use Rattle.unit_list.specs.UnitList.{Array, decode, unitsOf, unitsOfType, heldArrays}
 use Rattle.unit_list.specs.Answers.{listUnits, listUnitsOfType}
 use Rattle.unit_list.specs.Walk.{TypedUnit, typed, typedUnits, typedList}
 use Rattle.unit_list.specs.Find.{wants, wantedUnits, wantedList}
@@ -46,22 +46,20 @@ units-every (x ∷ xs) = ap (λ (l : List Span). x .unit ∷ l) (units-every xs)
 pub units-typed : (xs : List (Array Span)) → map (λ (x : TypedUnit). x .unit) (typedUnits xs) ≡ unitsOf xs
 units-typed xs = units-every (typedUnits xs) ∙ wanted-every xs
 
--- the same of a list
+-- the same of a list: what holds of the units of all arrays holds of those of a list
+lifted : (f : List TypedUnit → List Span) (g : List (Array Span) → List Span) → ((xs : List (Array Span)) → f (typedUnits xs) ≡ g xs) → (o : Outcome (List (Array Span)))
+    → andThen (andThen o (λ xs. accept (typedUnits xs))) (λ xs. accept (f xs)) ≡ andThen o (λ xs. accept (g xs))
+lifted f g h (accept xs) = ap accept (h xs)
+lifted f g h (refuse e) = refl
+
+pub list-units : (s : List ℕ) → andThen (typedList s) (λ xs. accept (map (λ (x : TypedUnit). x .unit) xs)) ≡ listUnits s
+list-units s = lifted (λ xs. map (λ (x : TypedUnit). x .unit) xs) unitsOf units-typed (decode s)
+
 pub list-every : (s : List ℕ) → wantedList Every s ≡ listUnits s
-list-every s = go (decode s)
-  where
-    go : (o : Outcome (List (Array Span)))
-        → andThen (andThen o (λ xs. accept (typedUnits xs))) (λ xs. accept (wantedUnits Every xs)) ≡ andThen o (λ xs. accept (unitsOf xs))
-    go (accept xs) = ap accept (wanted-every xs)
-    go (refuse e) = refl
+list-every s = lifted (wantedUnits Every) unitsOf wanted-every (decode s)
 
 pub list-type : (t : ℕ) (s : List ℕ) → wantedList (OfType t) s ≡ listUnitsOfType t s
-list-type t s = go (decode s)
-  where
-    go : (o : Outcome (List (Array Span)))
-        → andThen (andThen o (λ xs. accept (typedUnits xs))) (λ xs. accept (wantedUnits (OfType t) xs)) ≡ andThen o (λ xs. accept (unitsOfType t xs))
-    go (accept xs) = ap accept (wanted-type t xs)
-    go (refuse e) = refl
+list-type t s = lifted (wantedUnits (OfType t)) (unitsOfType t) (wanted-type t) (decode s)
 
 -- the bytes of the units are the units of the arrays with their bytes
 pub units-held : (s : List ℕ) (xs : List (Array Span)) → map (held s) (unitsOf xs) ≡ unitsOf (heldArrays s xs)

@@ -8,11 +8,8 @@ use super::walk;
 use boxes::Span;
 use error::Counted;
 use error::Refusal;
-
 ghost use mathlib.Core.Path.{_≡_};
-ghost use Prim.Native.Nat.{_+_, _≤_, _<_, _^_};
-ghost use lib.ListN.{length};
-ghost use Rattle.error.specs.Logic.{if_then_else_};
+ghost use Prim.Native.Nat.{_+_, _<_, _^_};
 ghost use Rattle.unit_list.specs.Walk.{Fits, leftOf};
 ghost use Rattle.unit_list.specs.Find.{wants, Finds, wantedOf, wantedList, seeing};
 
@@ -40,11 +37,19 @@ fn see(seen: Seen, w: Wanted, k: usize, t: u8, a: Span) -> Seen
     if !wanted(w, t) {
         return seen;
     }
+    let number = seen.count;
+    let count = number + 1;
     let unit = seen.unit;
-    if seen.count == k {
-        return Seen { count: seen.count + 1, unit: a };
+    if number == k {
+        return Seen {
+            count: count,
+            unit: a,
+        };
     }
-    Seen { count: seen.count + 1, unit: unit }
+    Seen {
+        count: count,
+        unit: unit,
+    }
 }
 
 // What the units behind a cursor give.
@@ -54,7 +59,10 @@ pub fn find_from(list: &[u8], c: ListCursor, w: Wanted, k: usize) -> Found
 {
     let nowhere = Span { start: 0, len: 0 };
     let mut here = c;
-    let mut seen = Seen { count: 0, unit: nowhere };
+    let mut seen = Seen {
+        count: 0,
+        unit: nowhere,
+    };
     loop {
         match walk::step(list, here) {
             ListStep::Unit(a, next) => {
@@ -63,9 +71,15 @@ pub fn find_from(list: &[u8], c: ListCursor, w: Wanted, k: usize) -> Found
             }
             ListStep::End => {
                 let unit = seen.unit;
-                return Found { counted: Counted::Count(seen.count), unit: unit };
+                return Found {
+                    counted: Counted::Count(seen.count),
+                    unit: unit,
+                };
             }
-            ListStep::Malformed => return Found { counted: Counted::Refused(Refusal::UnitList), unit: nowhere },
+            ListStep::Malformed => return Found {
+                counted: Counted::Refused(Refusal::UnitList),
+                unit: nowhere,
+            },
         }
     }
 }
@@ -76,6 +90,9 @@ pub fn find(list: &[u8], w: Wanted, k: usize) -> Found
 {
     match walk::start(list) {
         ListStart::At(c) => find_from(list, c, w, k),
-        ListStart::Refused(e) => Found { counted: Counted::Refused(e), unit: Span { start: 0, len: 0 } },
+        ListStart::Refused(e) => Found {
+            counted: Counted::Refused(e),
+            unit: Span { start: 0, len: 0 },
+        },
     }
 }

@@ -1,13 +1,12 @@
 // The unit list: the units of a record, grouped into arrays.
-pub mod walk;
 pub mod find;
+pub mod walk;
 pub mod write;
 
 use boxes::Span;
 use boxes::place;
 use error::Counted;
 use error::Refusal;
-
 ghost use mathlib.Core.Path.{_≡_};
 ghost use Rattle.error.specs.Answers.{countOf};
 ghost use Rattle.boxes.specs.Parts.{PartOf};

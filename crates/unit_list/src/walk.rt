@@ -7,7 +7,6 @@ use super::ListStep;
 use boxes::Span;
 use boxes::place;
 use error::Refusal;
-
 ghost use mathlib.Core.Path.{_≡_};
 ghost use Prim.Native.Nat.{_≤_, _^_};
 ghost use lib.ListN.{length, take};
@@ -28,7 +27,10 @@ pub fn chunk(s: &[u8], at: usize, end: usize, width: usize) -> ChunkRead
     if end - start < n {
         return ChunkRead::Short;
     }
-    ChunkRead::Bytes(Span { start: start, len: n })
+    ChunkRead::Bytes(Span {
+        start: start,
+        len: n,
+    })
 }
 
 // The cursor behind the version, in front of the first array. Refusals: 23, 21 for no byte or another version.
@@ -41,7 +43,11 @@ pub fn start(list: &[u8]) -> ListStart
     if place::byte(list, 0) != 1 {
         return ListStart::Refused(Refusal::UnitList);
     }
-    ListStart::At(ListCursor { at: 1, end: 1, unit_type: 0 })
+    ListStart::At(ListCursor {
+        at: 1,
+        end: 1,
+        unit_type: 0,
+    })
 }
 
 // The array at a place: its length, complete and type are read, its units are not.
@@ -67,7 +73,14 @@ pub fn array_step(list: &[u8], at: usize) -> ArrayStep
     if 31 < unit_type {
         return ArrayStep::Malformed;
     }
-    ArrayStep::Array(complete, ListCursor { at: from + 2, end: from + rest.len, unit_type: unit_type })
+    ArrayStep::Array(
+        complete,
+        ListCursor {
+            at: from + 2,
+            end: from + rest.len,
+            unit_type: unit_type,
+        },
+    )
 }
 
 // The unit at a cursor, before its array's end.
@@ -81,7 +94,14 @@ pub fn unit_step(list: &[u8], c: ListCursor) -> ListStep
     let ChunkRead::Bytes(a) = chunk(list, c.at, c.end, 4) else {
         return ListStep::Malformed;
     };
-    ListStep::Unit(a, ListCursor { at: a.start + a.len, end: c.end, unit_type: c.unit_type })
+    ListStep::Unit(
+        a,
+        ListCursor {
+            at: a.start + a.len,
+            end: c.end,
+            unit_type: c.unit_type,
+        },
+    )
 }
 
 // The next unit behind a cursor, past arrays that have none left.

@@ -1,6 +1,5 @@
 // For the crates further down: the pieces of a list, stored at a place of lent memory.
 use boxes::place;
-
 ghost use mathlib.Core.Path.{_≡_};
 ghost use mathlib.Core.List.{[], _∷_, _++_};
 ghost use Prim.Native.Nat.{_+_, _≤_};

@@ -1,5 +1,4 @@
 -- `nal_unit` is the part of the list where number k of the units of a list lies.
-use Prim.Native.Nat.{ℕ}
 use mathlib.Core.Path.{ap, _∙_, subst}
 use mathlib.Core.List.{List}
 use borrow.Author.Needs.{needs}

@@ -1,5 +1,4 @@
 -- `nal_unit_of_type` is the part of the list where number k of the units in arrays of a type lies.
-use Prim.Native.Nat.{ℕ}
 use mathlib.Core.Path.{ap, _∙_, subst}
 use mathlib.Core.List.{List}
 use borrow.Author.Needs.{needs}

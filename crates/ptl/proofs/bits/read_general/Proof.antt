@@ -1,9 +1,7 @@
 -- `read_general` gives the section: three reads.
-use mathlib.Core.Path.{_≡_, sym, _∙_}
+use mathlib.Core.Path.{sym, _∙_}
 use native.Mathlib.Omega.{arith}
-use Rattle.error.specs.Parse.{value}
-use Rattle.rbsp.specs.Bits.{u}
-use Rattle.rbsp.proofs.Chain.{told, read-of, went, ended}
+use Rattle.rbsp.proofs.Chain.{read-of, went, ended}
 use Rattle.ptl.specs.Sections.{general}
 use Rattle.ptl.proofs.Parts.{refused-part}
 use borrow.Author.Needs.{needs}

@@ -1,5 +1,4 @@
 -- `announced_bits` passes over bits exactly where the flag is 1.
-use mathlib.Core.Path.{refl}
 use borrow.Author.Needs.{needs}
 use borrow.Author.Tests.{eq-eqb, ne-eqb}
 use Rattle.ptl.proofs.constraints.announced_bits.Statement.{statement}

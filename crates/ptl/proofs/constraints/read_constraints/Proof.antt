@@ -1,5 +1,5 @@
 -- `read_constraints` gives the section: the two flags, and the bytes between the two aligned places.
-use mathlib.Core.Path.{_≡_, sym, _∙_}
+use mathlib.Core.Path.{_≡_, sym}
 use native.Mathlib.Omega.{arith}
 use borrow.Author.Needs.{needs}
 use Rattle.error.specs.Parse.{value}

@@ -1,5 +1,5 @@
 -- `read_sub_profiles` gives the section: the count, then as many values.
-use mathlib.Core.Path.{_≡_, sym, _∙_}
+use mathlib.Core.Path.{sym, _∙_}
 use native.Mathlib.Omega.{arith}
 use Rattle.rbsp.proofs.Chain.{told, read-of}
 use Rattle.ptl.proofs.Parts.{refused-part, refusal-told}

@@ -1,7 +1,7 @@
 -- `read_values` reads the values one after the other: k of them stand at the front of the array.
-use mathlib.Core.Path.{sym}
 use Prim.Native.Nat.{_-_}
 use native.Mathlib.Omega.{arith}
+use Rattle.rbsp.specs.Bits.{u}
 use Rattle.rbsp.proofs.Chain.{told}
 use Rattle.ptl.proofs.Parts.{refused-part, refusal-told}
 use Rattle.ptl.proofs.SubProfileValues.{Going, going-start, going-on, going-refused, going-end}
@@ -10,13 +10,13 @@ use Rattle.ptl.proofs.sub_profiles.read_values.Statement.{statement}
 use Rattle.ptl.proofs.sub_profiles.read_values.Tie as tie
 
 abbrev Inv-loop : tie.InvT-loop
-Inv-loop rbsp n values₀ p₀ k₀ values p k = Going rbsp n p₀ values p k
+Inv-loop rbsp n values₀ p₀ k₀ values p k = Going (u 32) rbsp n p₀ values p k
 
 abbrev μ-loop : tie.MeasureT-loop
 μ-loop rbsp n values₀ p₀ k₀ values p k = n - k
 
 loop-holds : tie.Need-loop-holds Inv-loop μ-loop
-loop-holds c = going-start _ _ _
+loop-holds c = going-start _ _ _ _
 
 read-bits-requires : tie.Need-read-bits-requires Inv-loop μ-loop
 read-bits-requires c κs = search needs
@@ -36,7 +36,7 @@ no-sub-profiles-requires c κs = search needs
 returns : tie.Need-returns Inv-loop μ-loop
 returns c =
     refused-part _ (c .no-sub-profiles .ensures)
-    (going-refused _ _ _ _ _ _ (c .before .before .before .before .before .before .loop .inv) (omega arith) _ (omega arith) (refusal-told (c .before .before .before .before .read-bits .ensures) (c .before .before .enum-told .given .1) (c .before .refusal .ensures)))
+    (going-refused _ _ _ _ _ _ _ (c .before .before .before .before .before .before .loop .inv) (omega arith) _ (omega arith) (refusal-told (c .before .before .before .before .read-bits .ensures) (c .before .before .enum-told .given .1) (c .before .refusal .ensures)))
 
 mul-values : tie.Need-mul-values Inv-loop μ-loop
 mul-values c = search needs
@@ -51,10 +51,10 @@ loop-less : tie.Need-loop-less Inv-loop μ-loop
 loop-less c = search needs
 
 loop-again : tie.Need-loop-again Inv-loop μ-loop
-loop-again c = going-on _ _ _ _ _ _ (c .before .before .before .before .before .loop .inv) (omega arith) _ _ (omega arith) (told (c .before .before .before .read-bits .ensures) (c .before .r .given .1))
+loop-again c = going-on _ _ _ _ _ _ _ (c .before .before .before .before .before .loop .inv) (omega arith) _ _ (omega arith) (told (c .before .before .before .read-bits .ensures) (c .before .r .given .1))
 
 returns-2 : tie.Need-returns-2 Inv-loop μ-loop
-returns-2 c = going-end _ _ _ _ _ _ (c .before .loop .inv) (omega arith) (omega arith)
+returns-2 c = going-end _ _ _ _ _ _ _ (c .before .loop .inv) (omega arith) (omega arith)
 
 pub read-values-spec : {M : Type 1} → statement M
 read-values-spec =

@@ -1,10 +1,8 @@
 -- `find::find_from` counts the wanted units behind the cursor and finds number k. The loop's invariant: what is seen and what is left make the whole.
 use Prim.Native.Nat.{_-_}
-use mathlib.Core.Path.{sym, subst}
-use native.Mathlib.Omega.{arith}
 use lib.ListN.{length}
 use borrow.Author.Needs.{needs}
-use Rattle.unit_list.proofs.Seen.{Walked, walked-start, walked-less, walked-within, walked-few, walked-again, walked-end, walked-malformed}
+use Rattle.unit_list.proofs.Seen.{Walked, Turn, walked-start, walked-turn, walked-end, walked-malformed}
 use Rattle.unit_list.proofs.find.find_from.Statement.{statement}
 use Rattle.unit_list.proofs.find.find_from.Tie as tie
 
@@ -13,6 +11,15 @@ Inv-loop list w k nowhere c seen₀ here seen = Walked list c w k here seen
 
 abbrev μ-loop : tie.MeasureT-loop
 μ-loop list w k nowhere c seen₀ here seen = length list - here .at
+
+turn-at : (c : tie.After-a Inv-loop μ-loop)
+    → Turn (c .before .before .before .before .before .args .list .now) (c .before .before .before .before .before .args .c) (c .before .before .before .before .before .args .w) (c .before .before .before .before .before .args .k)
+    (c .before .before .before .loop .here) (c .before .before .before .loop .seen) (c .a .given .0 .0) (c .a .given .0 .1 .0)
+turn-at c =
+    let t = c .before .before in
+    let l = t .before in
+    let a = l .before .before .args in
+    walked-turn (a .list .now) (a .c) (a .w) (a .k) (l .loop .here) (l .loop .seen) (l .loop .inv) (t .step .result) (t .step .ensures) (c .a .given .0 .0) (c .a .given .0 .1 .0) (c .a .given .1)
 
 loop-holds : tie.Need-loop-holds Inv-loop μ-loop
 loop-holds c = let a = c .before .args in walked-start (a .list .now) (a .c) (a .w) (a .k) (c .before .pre)
@@ -24,31 +31,13 @@ enum-known-a : tie.Need-enum-known-a Inv-loop μ-loop
 enum-known-a c = search needs
 
 see-requires : tie.Need-see-requires Inv-loop μ-loop
-see-requires c κs =
-    let t = c .before .before .before in
-    let l = t .before in
-    let a = l .before .before .args in
-    let g = c .before .a .given in
-    walked-few (a .list .now) (a .c) (a .w) (a .k) (l .loop .here) (l .loop .seen) (l .loop .inv) (t .step .result) (t .step .ensures) (g .0 .0) (g .0 .1 .0) (g .1)
+see-requires c κs = turn-at (c .before) .few
 
 loop-less : tie.Need-loop-less Inv-loop μ-loop
-loop-less c =
-    let t = c .before .before .before .before in
-    let l = t .before in
-    let a = l .before .before .args in
-    let g = c .before .before .a .given in
-    let x = walked-less (a .list .now) (a .c) (a .w) (a .k) (l .loop .here) (l .loop .seen) (l .loop .inv) (t .step .result) (t .step .ensures) (g .0 .0) (g .0 .1 .0) (g .1) in
-    let y = walked-within (a .list .now) (a .c) (a .w) (a .k) (l .loop .here) (l .loop .seen) (l .loop .inv) (t .step .result) (t .step .ensures) (g .0 .0) (g .0 .1 .0) (g .1) in
-    omega arith
+loop-less c = turn-at (c .before .before) .less
 
 loop-again : tie.Need-loop-again Inv-loop μ-loop
-loop-again c =
-    let t = c .before .before .before .before in
-    let l = t .before in
-    let a = l .before .before .args in
-    let g = c .before .before .a .given in
-    subst (Walked (a .list .now) (a .c) (a .w) (a .k) (g .0 .1 .0)) (sym (c .see .ensures))
-    (walked-again (a .list .now) (a .c) (a .w) (a .k) (l .loop .here) (l .loop .seen) (l .loop .inv) (t .step .result) (t .step .ensures) (g .0 .0) (g .0 .1 .0) (g .1))
+loop-again c = rw (c .see .ensures) (turn-at (c .before .before) .again)
 
 enum-told : tie.Need-enum-told Inv-loop μ-loop
 enum-told c = search needs

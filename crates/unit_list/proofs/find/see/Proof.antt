@@ -1,6 +1,6 @@
 -- `find::see` counts one more unit, if it is wanted, and keeps number k.
-use mathlib.Core.Path.{_≡_, refl, sym, _∙_}
-use mathlib.Core.Bool.{Bool, true, false}
+use mathlib.Core.Path.{_≡_, sym, _∙_}
+use mathlib.Core.Bool.{true, false}
 use borrow.Author.Needs.{needs}
 use borrow.Author.Tests.{eq-eqb, ne-eqb, not-true, not-false}
 use Rattle.unit_list.specs.Find.{wants}
@@ -16,25 +16,22 @@ returns c =
     let e : wants (a .w) (a .t) ≡ false = sym (c .before .wanted .ensures) ∙ not-true (c .before .wanted .result) (c .if1 .taken) in
     rw e
 
-add-t9 : tie.Need-add-t9
-add-t9 c = search needs
+add-count : tie.Need-add-count
+add-count c = search needs
 
 returns-2 : tie.Need-returns-2
 returns-2 c =
-    let i = c .before .before .before .before in
+    let i = c .before .before in
     let a = i .before .before .args in
     let e : wants (a .w) (a .t) ≡ true = sym (i .before .wanted .ensures) ∙ not-false (i .before .wanted .result) (i .if1 .left) in
-    rw (e, eq-eqb (a .seen .count) (a .k) (c .before .if2 .taken))
-
-add-t10 : tie.Need-add-t10
-add-t10 c = search needs
+    rw (e, eq-eqb (a .seen .count) (a .k) (c .if2 .taken))
 
 returns-3 : tie.Need-returns-3
 returns-3 c =
-    let i = c .before .before .before .before in
+    let i = c .before .before in
     let a = i .before .before .args in
     let e : wants (a .w) (a .t) ≡ true = sym (i .before .wanted .ensures) ∙ not-false (i .before .wanted .result) (i .if1 .left) in
-    rw (e, ne-eqb (a .seen .count) (a .k) (c .before .if2 .left))
+    rw (e, ne-eqb (a .seen .count) (a .k) (c .if2 .left))
 
 pub see-spec : {M : Type 1} → statement M
-see-spec = tie.close (tie.spec wanted-requires returns add-t9 returns-2 add-t10 returns-3)
+see-spec = tie.close (tie.spec wanted-requires returns add-count returns-2 returns-3)

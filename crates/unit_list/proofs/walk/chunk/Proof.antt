@@ -1,5 +1,4 @@
 -- `walk::chunk` is the chunk of that width before the end.
-use Prim.Native.Nat.{_≤_}
 use native.Mathlib.Omega.{arith}
 use borrow.Author.Needs.{needs}
 use Rattle.unit_list.proofs.Steps.{chunk-no-length, chunk-cut, chunk-whole}

@@ -1,11 +1,11 @@
 -- `walk::step` gives the next unit behind the cursor. The loop's invariant: behind `here` is left what is left behind `c`.
-use Prim.Native.Nat.{_-_, _≤_}
+use Prim.Native.Nat.{_-_, _≤_, _<_}
 use mathlib.Core.Path.{_≡_, refl}
 use native.Mathlib.Omega.{arith}
 use lib.ListN.{length}
 use borrow.Author.Needs.{needs}
 use Rattle.unit_list.specs.Walk.{Fits, leftOf}
-use Rattle.unit_list.proofs.Left.{turn-less, turn-again, turn-end, turn-malformed, turn-unit}
+use Rattle.unit_list.proofs.Left.{turn-entered, turn-end, turn-malformed, turn-unit}
 use Rattle.unit_list.proofs.walk.step.Statement.{statement}
 use Rattle.unit_list.proofs.walk.step.Tie as tie
 
@@ -14,6 +14,17 @@ Inv-loop list c here = Fits list here × (leftOf list here ≡ leftOf list c) ×
 
 abbrev μ-loop : tie.MeasureT-loop
 μ-loop list c here = length list - here .end
+
+turn-at : (c : tie.After-first Inv-loop μ-loop)
+    → (μ-loop (c .before .before .before .before .before .before .before .args .list .now) (c .before .before .before .before .before .before .before .args .c) (c .first .given .0 .1 .0)
+    < μ-loop (c .before .before .before .before .before .before .before .args .list .now) (c .before .before .before .before .before .before .before .args .c) (c .before .before .before .before .before .loop .here))
+    × Inv-loop (c .before .before .before .before .before .before .before .args .list .now) (c .before .before .before .before .before .before .before .args .c) (c .first .given .0 .1 .0)
+turn-at c =
+    let a = c .before .before in
+    let i = a .before in
+    let l = i .before .before in
+    let g = c .first .given in
+    turn-entered (l .before .before .args .list .now) (l .before .before .args .c) (l .loop .here) (l .loop .inv) (i .if1 .taken) (a .array-step .result) (a .array-step .ensures) (g .0 .0) (g .0 .1 .0) (g .1)
 
 loop-holds : tie.Need-loop-holds Inv-loop μ-loop
 loop-holds c = (c .before .pre, refl, omega arith)
@@ -25,20 +36,10 @@ enum-known-first : tie.Need-enum-known-first Inv-loop μ-loop
 enum-known-first c = search needs
 
 loop-less : tie.Need-loop-less Inv-loop μ-loop
-loop-less c =
-    let a = c .before .before .before in
-    let i = a .before in
-    let l = i .before .before in
-    let g = c .before .first .given in
-    turn-less (l .before .before .args .list .now) (l .before .before .args .c) (l .loop .here) (l .loop .inv) (i .if1 .taken) (a .array-step .result) (a .array-step .ensures) (g .0 .0) (g .0 .1 .0) (g .1)
+loop-less c = turn-at (c .before) .0
 
 loop-again : tie.Need-loop-again Inv-loop μ-loop
-loop-again c =
-    let a = c .before .before .before in
-    let i = a .before in
-    let l = i .before .before in
-    let g = c .before .first .given in
-    turn-again (l .before .before .args .list .now) (l .before .before .args .c) (l .loop .here) (l .loop .inv) (i .if1 .taken) (a .array-step .result) (a .array-step .ensures) (g .0 .0) (g .0 .1 .0) (g .1)
+loop-again c = turn-at (c .before) .1
 
 enum-told : tie.Need-enum-told Inv-loop μ-loop
 enum-told c = search needs

@@ -1,9 +1,8 @@
 -- `walk::unit_step` passes the unit at the cursor: the units up to the array's end are this one and those behind it.
-use Prim.Native.Nat.{ℕ, _+_, _≤_}
+use Prim.Native.Nat.{_+_}
 use mathlib.Core.Path.{_≡_, refl}
-use mathlib.Core.List.{List}
 use native.Mathlib.Omega.{arith}
-use lib.ListN.{length, take}
+use lib.ListN.{take}
 use borrow.Author.Needs.{needs}
 use Rattle.error.specs.Parse.{value}
 use Rattle.boxes.specs.Bytes.{chunk}
@@ -34,7 +33,7 @@ returns-2 : tie.Need-returns-2
 returns-2 c =
     let i = c .before .before .before in
     let b = i .before .before .before in
-    (units-unread (b .args .list .now) (b .args .c) (b .pre) (i .if1 .left) (chunk-refused (c .before .before .chunk .result) _ (c .before .before .chunk .ensures) (c .enum-told .given .1)), tt)
+    (units-unread (b .args .list .now) (b .args .c) (b .pre) (i .if1 .left) (chunk-refused (c .before .before .chunk .result) (chunk 4 (take (b .args .c .end) (b .args .list .now)) (b .args .c .at)) (c .before .before .chunk .ensures) (c .enum-told .given .1)), tt)
 
 add-t6 : tie.Need-add-t6
 add-t6 c =
@@ -48,9 +47,10 @@ returns-3 : tie.Need-returns-3
 returns-3 c =
     let r = c .before .before in
     let i = r .before .before .before in
-    let b = i .before .before .before in
-    (units-next (b .args .list .now) (b .args .c) (b .pre) (i .if1 .left) (r .a .given .0 .0) (read-at r),
-    (unit-passed (b .args .list .now) (b .args .c) (b .pre) (i .if1 .left) (r .a .given .0 .0) (read-at r), refl, refl))
+    let b = i .before .before .before in (
+      units-next (b .args .list .now) (b .args .c) (b .pre) (i .if1 .left) (r .a .given .0 .0) (read-at r),
+      (unit-passed (b .args .list .now) (b .args .c) (b .pre) (i .if1 .left) (r .a .given .0 .0) (read-at r), refl, refl),
+    )
 
 pub unit-step-spec : {M : Type 1} → statement M
 unit-step-spec =

@@ -1,0 +1,120 @@
+// For this crate's calls: the units of a unit list, measured and stored as a compact record.
+use super::CompactVvcConfig;
+use boxes::place;
+use error::Refusal;
+use error::Written;
+use unit_list::ListCursor;
+use unit_list::ListStep;
+use unit_list::walk;
+
+ghost use mathlib.Core.Path.{_≡_};
+ghost use Prim.Native.Nat.{_+_, _-_, _*_, _≤_, _<_, _^_};
+ghost use lib.ListN.{length};
+ghost use lib.Seq.{sets};
+ghost use Rattle.error.specs.Outcome.{lentOutput, counted};
+ghost use Rattle.error.specs.Answers.{writtenOf};
+ghost use Rattle.unit_list.specs.Walk.{Fits};
+ghost use Rattle.compact.specs.Compact.{bit};
+ghost use Rattle.compact.specs.Inside.{adding, summed, nothing, sumOf, unitsLeft, Copies, foundBytes, recordOf};
+
+// The units seen so far: how many, the bytes that they take behind lengths of one byte, and whether all fit such a length.
+pub struct UnitSum {
+    pub count: usize,
+    pub room: usize,
+    pub fits: bool,
+}
+
+// All units of a list, or that it is malformed.
+pub enum ListSum {
+    Sum(UnitSum),
+    Malformed,
+}
+
+// One unit more.
+fn add(sum: UnitSum, len: usize) -> UnitSum
+    requires { ⌜ sum .count + sum .room + len < 2 ^ 32 ⌝ }
+    ensures { λ r. ⌜ r ≡ adding len sum ⌝ }
+{
+    let count = sum.count + 1;
+    let room = sum.room + 1 + len;
+    if 255 < len {
+        return UnitSum { count: count, room: room, fits: false };
+    }
+    let fits = sum.fits;
+    UnitSum { count: count, room: room, fits: fits }
+}
+
+// Measures the units behind a cursor.
+fn units_sum(list: &[u8], c: ListCursor) -> ListSum
+    requires { ⌜ Fits (now list) c ⌝ }
+    ensures { λ r. ⌜ sumOf r ≡ summed (now (list .entry)) nothing (unitsLeft (now (list .entry)) c) ⌝ }
+{
+    let mut here = c;
+    let mut sum = UnitSum { count: 0, room: 0, fits: true };
+    loop {
+        match walk::step(list, here) {
+            ListStep::Unit(a, next) => {
+                sum = add(sum, a.len);
+                here = next;
+            }
+            ListStep::End => return ListSum::Sum(sum),
+            ListStep::Malformed => return ListSum::Malformed,
+        }
+    }
+}
+
+// Stores the units behind a cursor from a place on, each behind a length of one byte.
+fn put_units(list: &[u8], c: ListCursor, out: &mut [u8], to: usize)
+    requires { ⌜ Fits (now list) c × Copies 1 (now list) (unitsLeft (now list) c) (now out) to ⌝ }
+    ensures { λ _. ⌜ now (out .exit) ≡ sets (now (out .entry)) to (foundBytes 1 (now (list .entry)) (unitsLeft (now (list .entry)) c)) ⌝ }
+{
+    let mut here = c;
+    let mut at = to;
+    loop {
+        let ListStep::Unit(a, next) = walk::step(list, here) else {
+            return;
+        };
+        super::copied::put_unit(list, a, out, at, 1);
+        at = at + 1 + a.len;
+        here = next;
+    }
+}
+
+// The first byte of a record: the flag, the prefix size minus 1, the unit count minus 2.
+fn first_byte(config: CompactVvcConfig, count: usize) -> u8
+    requires { ⌜ (1 ≤ config .«length_size») × (config .«length_size» ≤ 4) × (2 ≤ count) × (count ≤ 33) ⌝ }
+    ensures { λ r. ⌜ r ≡ bit (config .«multi_layer_flag») * 128 + (config .«length_size» - 1) * 32 + (count - 2) ⌝ }
+{
+    let low = (config.length_size - 1) * 32 + (count - 2) as u8;
+    if config.multi_layer_flag {
+        return 128 + low;
+    }
+    low
+}
+
+// The record of the units behind a cursor. Refusals: 21, 4, 8, 9, 20.
+pub fn put_record(config: CompactVvcConfig, list: &[u8], c: ListCursor, out: &mut [u8]) -> Written
+    requires { ⌜ Fits (now list) c ⌝ }
+    ensures { λ r. ⌜ (writtenOf r, now (out .exit)) ≡ lentOutput (counted (recordOf config (now (list .entry)) (unitsLeft (now (list .entry)) c))) (now (out .entry)) ⌝ }
+{
+    let ListSum::Sum(sum) = units_sum(list, c) else {
+        return Written::Refused(Refusal::UnitList);
+    };
+    if config.length_size == 0 || 4 < config.length_size {
+        return Written::Refused(Refusal::PrefixSize);
+    }
+    if sum.count < 2 || 33 < sum.count {
+        return Written::Refused(Refusal::CompactUnitCount);
+    }
+    if !sum.fits {
+        return Written::Refused(Refusal::CompactUnitTooLong);
+    }
+    let len = 1 + sum.room;
+    if out.len() < len {
+        return Written::Refused(Refusal::BufferTooShort);
+    }
+    let first = first_byte(config, sum.count);
+    place::put(out, 0, first);
+    put_units(list, c, out, 1);
+    Written::Bytes(len)
+}

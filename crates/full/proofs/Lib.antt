@@ -1,0 +1,3 @@
+pub mod ArraysRoundTrip
+pub mod HeadRoundTrip
+pub mod RecordRoundTrip

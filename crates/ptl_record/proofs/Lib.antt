@@ -1,0 +1,4 @@
+pub mod Arrays
+pub mod Places
+pub mod Reading
+pub mod Writing

@@ -1,0 +1,57 @@
+-- Laws of the values at places: the levels step by step from the highest down, and the numbers one by one.
+use Prim.Native.Nat.{ℕ, zero, suc, _+_, _-_, _*_, _/_, _%_, _≤_, _<_}
+use mathlib.Core.Path.{_≡_, refl, sym, ap, _∙_}
+use mathlib.Core.Bool.{Bool}
+use mathlib.Core.List.{List, [], _∷_, _++_}
+use native.Mathlib.Numerals.{add-one}
+use native.Mathlib.Omega.{arith}
+use lib.Dec.{eqb}
+use lib.ListN.{length, getD, set, drop, length-append}
+use Rattle.boxes.specs.Bytes.{be}
+use Rattle.ptl.specs.Ptl.{padded, presentFlags}
+use Rattle.ptl_record.specs.Places.{words, levelsLen, levelIf, levelsAt}
+use Rattle.ptl_record.proofs.Arrays.{padded-more, snoc-store}
+
+pub length-flags : (m f : ℕ) → length (presentFlags m f) ≡ m
+unfolding presentFlags
+length-flags zero f = refl
+length-flags (suc m) f = rw (length-append, length-flags m (f % 128 * 2)) (omega arith)
+
+pub length-levels : (m f : ℕ) (s : List ℕ) (p : ℕ) → length (levelsAt m f s p) ≡ m
+unfolding levelsAt
+length-levels zero f s p = refl
+length-levels (suc m) f s p = rw (length-append, length-levels m (f % 128 * 2) s (p + f / 128)) (omega arith)
+
+-- one turn of the walk over the levels
+pub len-step : (j f : ℕ) → levelsLen (suc j) f ≡ f / 128 + levelsLen j (f % 128 * 2)
+unfolding levelsLen
+len-step j f = refl
+
+pub flags-step : (j f : ℕ) (l : List Bool) → j < length l
+    → presentFlags j (f % 128 * 2) ++ drop j (set l j (eqb (f / 128) 1)) ≡ presentFlags (suc j) f ++ drop (suc j) l
+unfolding presentFlags
+flags-step j f l h = snoc-store (presentFlags j (f % 128 * 2)) j l (eqb (f / 128) 1) h
+
+pub levels-step : (j f : ℕ) (s : List ℕ) (p : ℕ) (l : List ℕ) → j < length l
+    → levelsAt j (f % 128 * 2) s (p + f / 128) ++ drop j (set l j (levelIf (f / 128) s p)) ≡ levelsAt (suc j) f s p ++ drop (suc j) l
+unfolding levelsAt
+levels-step j f s p l h = snoc-store (levelsAt j (f % 128 * 2) s (p + f / 128)) j l (levelIf (f / 128) s p) h
+
+pub length-words : (n : ℕ) (s : List ℕ) (p : ℕ) → length (words n s p) ≡ n
+unfolding words
+length-words zero s p = refl
+length-words (suc n) s p = ap suc (length-words n s (p + 4))
+
+words-more : (n : ℕ) (s : List ℕ) (p : ℕ) → words (suc n) s p ≡ words n s p ++ (be s (p + n * 4) 4 ∷ [])
+unfolding words
+words-more zero s p = ap (λ (q : ℕ). be s q 4 ∷ []) (omega arith)
+words-more (suc n) s p =
+    let e : p + 4 + n * 4 ≡ p + suc n * 4 = omega arith in
+    ap (λ (l : List ℕ). be s p 4 ∷ l) (words-more n s (p + 4) ∙ ap (λ (q : ℕ). words n s (p + 4) ++ (be s q 4 ∷ [])) e)
+
+-- one number more in the array
+pub words-store : (N n : ℕ) (s : List ℕ) (p : ℕ) → n < N → set (padded N 0 (words n s p)) n (be s (p + n * 4) 4) ≡ padded N 0 (words (n + 1) s p)
+words-store N n s p h =
+    let l = length-words n s p in
+    rw (add-one n, words-more n s p)
+    (ap (λ (k : ℕ). set (padded N 0 (words n s p)) k (be s (p + n * 4) 4)) (sym l) ∙ padded-more N 0 (words n s p) (be s (p + n * 4) 4) (omega arith))

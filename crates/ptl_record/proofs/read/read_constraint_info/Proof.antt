@@ -1,0 +1,61 @@
+use lib.ListN.{length-take}
+use Rattle.ptl.specs.Ptl.{padded, withoutFlags}
+use Rattle.ptl_record.proofs.Arrays.{padded-sets, without-flags}
+use Prim.Native.Nat.{ℕ, zero, suc, _+_, _*_, _-_, _/_, _%_, _^_, _≤_, _<_}
+use mathlib.Core.Path.{_≡_, refl, sym, ap, _∙_, subst}
+use mathlib.Core.List.{List, [], _∷_, _++_}
+use mathlib.Core.Logic.{⊎-elim}
+use native.Mathlib.Omega.{arith}
+use lib.ListN.{length, getD, take, drop}
+use borrow.Author.Needs.{needs}
+use Rattle.ptl_record.proofs.read.read_constraint_info.Statement.{statement}
+use Rattle.ptl_record.proofs.read.read_constraint_info.Tie as tie
+use Rattle.ptl_record.proofs.read.read_constraint_info.Reads as reads
+use Rattle.ptl_record.proofs.read.read_constraint_info.Lts as lts
+use Rattle.boxes.proofs.place.copy.Reads as copy-reads
+use Rattle.boxes.proofs.place.part.Reads as part-reads
+
+-- src/read.rt:34:9
+part-requires : tie.Need-part-requires
+part-requires c κs = search needs
+
+-- src/read.rt:35:24
+slice-aggregate-copy : tie.Need-slice-aggregate-copy
+slice-aggregate-copy c = search needs
+
+-- src/read.rt:35:5
+-- the bytes of the part are at most 63
+short : (c : tie.After-part) → length (c .part .result .now) ≤ 63
+short c =
+    let a = c .before .before .args in
+    let e = ap length (c .part .ensures .holds) ∙ length-take (a .n) (drop (a .at) (a .s .now)) in
+    omega arith
+
+copy-requires : tie.Need-copy-requires
+copy-requires c κs = let h = short (c .before) in omega arith
+
+-- src/read.rt:36:15
+array-read-info : tie.Need-array-read-info
+array-read-info c = search needs
+
+-- src/read.rt:36:5
+array-write-info : tie.Need-array-write-info
+array-write-info c = search needs
+
+-- src/read.rt:29:1
+returns : tie.Need-returns
+returns c =
+    let p = c .before .before .before in
+    let e = c .before .copy .ensures ∙ padded-sets 63 0 (p .part .result .now) (short p) ∙ ap (padded 63 0) (p .part .ensures .holds) in
+    rw e (without-flags _)
+
+pub read-constraint-info-spec : {M : Type 1} → statement M
+read-constraint-info-spec =
+    tie.close
+    (tie.spec
+    part-requires
+    slice-aggregate-copy
+    copy-requires
+    array-read-info
+    array-write-info
+    returns)

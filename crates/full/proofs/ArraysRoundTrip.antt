@@ -18,6 +18,7 @@ use Rattle.boxes.proofs.Many.{times-nil, times-step}
 use Rattle.boxes.proofs.Fields.{uint-there, chunk-toChunk, held-toChunk}
 use Rattle.nal.proofs.StartCodes.{and-true}
 use Rattle.unit_list.specs.UnitList.{Array, encodeUnits, heldArray, heldArrays}
+use Rattle.unit_list.proofs.Arrays.{Sound, sound-none, sound-more}
 use Rattle.unit_list.proofs.Encode.{placedUnits, length-toChunk}
 use Rattle.full.specs.Read.{holdsOne, recordArray}
 use Rattle.full.specs.Write.{arrayBytes, arraysBytes, unitsFit, arrayFits, arraysFit}
@@ -98,13 +99,8 @@ unfoldable pub placedArrays : ℕ → List (Array (List ℕ)) → List (Array Sp
 placedArrays p [] = []
 placedArrays p (a ∷ xs) = placedArray p a ∷ placedArrays (p + length (arrayBytes a)) xs
 
--- the fields of an array of a unit list are in their bounds
-pub record Sound (a : Array (List ℕ)) : Type 0 where
-  pub complete : a .complete ≤ 1
-  pub unitType : a .unitType ≤ 31
-
 module _ (s : List ℕ) (a : Array (List ℕ)) (pre post : List ℕ) (p : ℕ) (e : s ≡ pre ++ (arrayBytes a ++ post)) (l : length pre ≡ p)
-    (sound : Sound a) (fits : arrayFits a ≡ true) where
+    (one : a .complete ≤ 1) (small : a .unitType ≤ 31) (fits : arrayFits a ≡ true) where
   split-first : s ≡ pre ++ (firstByte a ∷ (countPart a ++ (encodeUnits 2 (a .units) ++ post)))
   unfolding arrayBytes
   split-first = e ∙ ap (λ (x : List ℕ). pre ++ (firstByte a ∷ x)) (append-assoc (countPart a) (encodeUnits 2 (a .units)) post)
@@ -139,8 +135,6 @@ module _ (s : List ℕ) (a : Array (List ℕ)) (pre post : List ℕ) (p : ℕ) (
   pub array-read : recordArray s p ≡ value (placedArray p a) (p + length (arrayBytes a))
   unfolding recordArray
   array-read =
-      let b = sound .complete in
-      let t = sound .unitType in
       let m : firstByte a % 32 ≡ a .unitType = omega arith in
       let d : firstByte a / 128 ≡ a .complete = omega arith in
       let z : p + 1 + length (countPart a) + length (encodeUnits 2 (a .units)) ≡ p + length (arrayBytes a) = omega (arith, length-array) in
@@ -152,36 +146,31 @@ module _ (s : List ℕ) (a : Array (List ℕ)) (pre post : List ℕ) (p : ℕ) (
       (units-held 2 s (a .units) (pre ++ (firstByte a ∷ countPart a)) post (p + 1 + length (countPart a)) split-units before-units (fits-below (a .units) (all-fit .1)))
 
 -- Arrays one behind the other.
-abbrev pub AllSound : List (Array (List ℕ)) → Type 0
-AllSound [] = Unit {0}
-AllSound (a ∷ xs) = Sound a × AllSound xs
-
 module _ (s : List ℕ) where
   next-arrays : (a : Array (List ℕ)) (xs : List (Array (List ℕ))) (pre post : List ℕ) → s ≡ pre ++ (arraysBytes (a ∷ xs) ++ post)
       → s ≡ pre ++ (arrayBytes a ++ (arraysBytes xs ++ post))
   unfolding arraysBytes
   next-arrays a xs pre post e = e ∙ ap (λ (x : List ℕ). pre ++ x) (append-assoc (arrayBytes a) (arraysBytes xs) post)
 
-  pub arrays-read : (xs : List (Array (List ℕ))) (pre post : List ℕ) (p : ℕ) → s ≡ pre ++ (arraysBytes xs ++ post) → length pre ≡ p
-      → AllSound xs → arraysFit xs ≡ true → times (length xs) recordArray s p ≡ value (placedArrays p xs) (p + length (arraysBytes xs))
+  pub arrays-read : {xs : List (Array (List ℕ))} → Sound xs → (pre post : List ℕ) (p : ℕ) → s ≡ pre ++ (arraysBytes xs ++ post) → length pre ≡ p
+      → arraysFit xs ≡ true → times (length xs) recordArray s p ≡ value (placedArrays p xs) (p + length (arraysBytes xs))
   unfolding arraysBytes placedArrays arraysFit
-  arrays-read [] pre post p e l sound fits = times-nil recordArray s p ∙ ap (value []) (omega arith)
-  arrays-read (a ∷ xs) pre post p e l sound fits =
+  arrays-read sound-none pre post p e l fits = times-nil recordArray s p ∙ ap (value []) (omega arith)
+  arrays-read (sound-more {a = a} {xs = xs} one small h) pre post p e l fits =
       let g = next-arrays a xs pre post e in
       let f = and-true _ _ fits in
       let m : length (pre ++ arrayBytes a) ≡ p + length (arrayBytes a) = omega (arith, length-append pre (arrayBytes a)) in
-      times-step recordArray s (length xs) p (placedArray p a) (p + length (arrayBytes a)) (array-read s a pre (arraysBytes xs ++ post) p g l (sound .0) (f .0))
-      ∙ rw (arrays-read xs (pre ++ arrayBytes a) post (p + length (arrayBytes a)) (g ∙ sym (append-assoc pre (arrayBytes a) (arraysBytes xs ++ post))) m (sound .1) (f .1), z)
-    where
-      z : p + length (arrayBytes a) + length (arraysBytes xs) ≡ p + length (arrayBytes a ++ arraysBytes xs)
-      z = omega (arith, length-append (arrayBytes a) (arraysBytes xs))
+      let z : p + length (arrayBytes a) + length (arraysBytes xs) ≡ p + length (arrayBytes a ++ arraysBytes xs) =
+      omega (arith, length-append (arrayBytes a) (arraysBytes xs)) in
+      times-step recordArray s (length xs) p (placedArray p a) (p + length (arrayBytes a)) (array-read s a pre (arraysBytes xs ++ post) p g l one small (f .0))
+      ∙ rw (arrays-read h (pre ++ arrayBytes a) post (p + length (arrayBytes a)) (g ∙ sym (append-assoc pre (arrayBytes a) (arraysBytes xs ++ post))) m (f .1), z)
 
-  pub arrays-held : (xs : List (Array (List ℕ))) (pre post : List ℕ) (p : ℕ) → s ≡ pre ++ (arraysBytes xs ++ post) → length pre ≡ p
-      → AllSound xs → arraysFit xs ≡ true → heldArrays s (placedArrays p xs) ≡ xs
+  pub arrays-held : {xs : List (Array (List ℕ))} → Sound xs → (pre post : List ℕ) (p : ℕ) → s ≡ pre ++ (arraysBytes xs ++ post) → length pre ≡ p
+      → arraysFit xs ≡ true → heldArrays s (placedArrays p xs) ≡ xs
   unfolding placedArrays arraysFit
-  arrays-held [] pre post p e l sound fits = refl
-  arrays-held (a ∷ xs) pre post p e l sound fits =
+  arrays-held sound-none pre post p e l fits = refl
+  arrays-held (sound-more {a = a} {xs = xs} one small h) pre post p e l fits =
       let g = next-arrays a xs pre post e in
       let f = and-true _ _ fits in
       let m : length (pre ++ arrayBytes a) ≡ p + length (arrayBytes a) = omega (arith, length-append pre (arrayBytes a)) in
-      rw (array-held s a pre (arraysBytes xs ++ post) p g l (sound .0) (f .0), arrays-held xs (pre ++ arrayBytes a) post (p + length (arrayBytes a)) (g ∙ sym (append-assoc pre (arrayBytes a) (arraysBytes xs ++ post))) m (sound .1) (f .1))
+      rw (array-held s a pre (arraysBytes xs ++ post) p g l one small (f .0), arrays-held h (pre ++ arrayBytes a) post (p + length (arrayBytes a)) (g ∙ sym (append-assoc pre (arrayBytes a) (arraysBytes xs ++ post))) m (f .1))

@@ -11,14 +11,15 @@ use Rattle.error.specs.Outcome.{Outcome, accept}
 use Rattle.error.specs.Parse.{value}
 use Rattle.nal.proofs.StartCodes.{and-true}
 use Rattle.unit_list.specs.UnitList.{Array, encode, heldArrays}
+use Rattle.unit_list.proofs.Arrays.{Sound}
 use Rattle.ptl.specs.declared.VvcPtlRecord.{VvcPtlRecord}
 use Rattle.full.specs.Read.{FullParsed, vvcRecord, fullParsed, parseFull}
 use Rattle.full.specs.Write.{headBytes, headFits, arraysBytes, arraysFit, fullBytes, recordFits}
 use Rattle.full.specs.declared.VvcConfig.{VvcConfig}
-use Rattle.full.proofs.ArraysRoundTrip.{AllSound, placedArrays, arrays-read, arrays-held, byte-there}
+use Rattle.full.proofs.ArraysRoundTrip.{placedArrays, arrays-read, arrays-held, byte-there}
 use Rattle.full.proofs.HeadRoundTrip.{Writable, readBack, head-read}
 
-module _ (h : VvcConfig) (q : VvcPtlRecord) (xs : List (Array (List ℕ))) (w : Writable h q) (sound : AllSound xs) (fits : recordFits h xs ≡ true) where
+module _ (h : VvcConfig) (q : VvcPtlRecord) (xs : List (Array (List ℕ))) (w : Writable h q) (sound : Sound xs) (fits : recordFits h xs ≡ true) where
   abbrev s : List ℕ
   s = fullBytes h xs
 
@@ -47,10 +48,10 @@ module _ (h : VvcConfig) (q : VvcPtlRecord) (xs : List (Array (List ℕ))) (w : 
       let c : 0 + length (headBytes h) ≡ length (headBytes h) = omega arith in
       rw (head-read h q w s [] (length xs ∷ arraysBytes xs) 0 from-head refl, c,
         byte-there s (headBytes h) (arraysBytes xs) (length xs) (length (headBytes h)) from-head refl,
-        arrays-read s xs (headBytes h ++ (length xs ∷ [])) [] (length (headBytes h) + 1) from-arrays before sound (arrays-fit .1), sym length-record)
+        arrays-read s sound (headBytes h ++ (length xs ∷ [])) [] (length (headBytes h) + 1) from-arrays before (arrays-fit .1), sym length-record)
 
   pub read-written : length s ≤ 2 ^ 30
       → parseFull s ≡ accept (record { head = readBack (h .«ptl_present_flag») h q; consumed = length s; listLength = length (encode xs) }, encode xs)
   unfolding parseFull
   read-written l =
-      rw (le-leb (length s) (2 ^ 30) l, record-read, arrays-held s xs (headBytes h ++ (length xs ∷ [])) [] (length (headBytes h) + 1) from-arrays before sound (arrays-fit .1))
+      rw (le-leb (length s) (2 ^ 30) l, record-read, arrays-held s sound (headBytes h ++ (length xs ∷ [])) [] (length (headBytes h) + 1) from-arrays before (arrays-fit .1))

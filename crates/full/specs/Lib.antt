@@ -1,4 +1,2 @@
 pub mod Read
 pub mod Write
-pub mod SampleFormat
-pub mod Answers

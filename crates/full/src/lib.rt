@@ -1,5 +1,4 @@
-// The full record: read, written, and the sample format it announces.
-use error::Refusal;
+// The full record: its head, and what it is as bytes.
 use ptl::VvcPtlRecord;
 
 // VvcDecoderConfigurationRecord of ISO/IEC 14496-15 11.2.4 without its arrays, which stand in a unit list beside it.
@@ -16,22 +15,4 @@ pub struct VvcConfig {
     pub max_picture_width: u16,
     pub max_picture_height: u16,
     pub avg_frame_rate: u16,
-}
-
-// A full record that was read: bytes consumed, and how many bytes of the output its unit list takes.
-pub enum FullAnswer {
-    Read(usize, usize),
-    Refused(Refusal),
-}
-
-// The answer with the head, all zeros on a refusal.
-pub struct FullRead {
-    pub answer: FullAnswer,
-    pub head: VvcConfig,
-}
-
-// Chroma format and bit depth.
-pub enum SampleFormat {
-    Format(u8, u8),
-    Refused(Refusal),
 }

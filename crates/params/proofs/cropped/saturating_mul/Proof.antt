@@ -6,7 +6,7 @@ use Rattle.params.proofs.cropped.saturating_mul.Statement.{statement}
 use Rattle.params.proofs.cropped.saturating_mul.Tie as tie
 
 mul-product : tie.Need-mul-product
-mul-product c = omega (arith, product-fits _ _ (c .fits .0) (c .fits .1))
+mul-product c = omega (arith, product-fits (c .args .a) (c .args .b) (omega arith) (omega arith))
 
 returns : tie.Need-returns
 returns c = search needs

@@ -1,5 +1,5 @@
 -- `sub_width` is 2 for the chroma formats 1 and 2.
-use borrow.Author.Tests.{eq-eqb, ne-eqb}
+use borrow.Author.Tests.{ne-eqb}
 use borrow.Author.Needs.{needs}
 use Rattle.params.proofs.cropped.sub_width.Statement.{statement}
 use Rattle.params.proofs.cropped.sub_width.Tie as tie
@@ -11,7 +11,9 @@ returns-2 : tie.Need-returns-2
 returns-2 c = rw (c .match .keys2)
 
 returns-3 : tie.Need-returns-3
-returns-3 c = let n = c .match .rest in ?
+returns-3 c =
+    let n = c .match .rest in
+    rw (ne-eqb (c .before .args .chroma-format-idc) 1 (n .0 .1), ne-eqb (c .before .args .chroma-format-idc) 2 (n .1))
 
 pub sub-width-spec : {M : Type 1} → statement M
 sub-width-spec = tie.close (tie.spec returns returns-2 returns-3)

@@ -1,28 +1,19 @@
-use Prim.Native.Nat.{ℕ, zero, suc, _+_, _*_, _-_, _/_, _%_, _^_, _≤_, _<_}
-use mathlib.Core.Path.{_≡_, refl, sym, ap, _∙_, subst}
-use mathlib.Core.List.{List, [], _∷_, _++_}
-use mathlib.Core.Logic.{⊎-elim}
-use native.Mathlib.Omega.{arith}
-use lib.ListN.{length, getD, take, drop}
+-- `params_answer` leaves the position out: by cases.
+use mathlib.Core.Path.{sym, ap}
+use Rattle.params.specs.Answers.{answerOf}
 use borrow.Author.Needs.{needs}
 use Rattle.params.proofs.vps.params_answer.Statement.{statement}
 use Rattle.params.proofs.vps.params_answer.Tie as tie
-use Rattle.params.proofs.vps.params_answer.Reads as reads
-use Rattle.params.proofs.vps.params_answer.Lts as lts
 
--- src/vps.rt:33:31
 enum-told : tie.Need-enum-told
 enum-told c = search needs
 
--- src/vps.rt:34:28
 enum-known-answer : tie.Need-enum-known-answer
 enum-known-answer c = search needs
 
--- src/vps.rt:29:1
 returns : tie.Need-returns
 returns c = search needs
 
--- src/vps.rt:29:1
 returns-2 : tie.Need-returns-2
 returns-2 c = search needs
 

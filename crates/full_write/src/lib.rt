@@ -1,0 +1,1 @@
+// Writing a full record from a head and a unit list.

@@ -1,0 +1,11 @@
+-- What the answer of this crate says.
+use Prim.Native.Nat.{ℕ}
+use Rattle.error.specs.Outcome.{Outcome, accept, refuse}
+use Rattle.error.specs.Refusals.{numberOf}
+use Rattle.sample_format.specs.Format.{Format}
+use Rattle.sample_format.specs.declared.SampleFormat.{SampleFormat}
+use Rattle.sample_format.specs.declared.SampleFormat.the-variants as S
+
+abbrev pub formatOf : SampleFormat → Outcome Format
+formatOf (S.Format chroma depth) = accept (record { chroma = chroma; depth = depth })
+formatOf (S.Refused e) = refuse (numberOf e)

@@ -9,9 +9,11 @@ use hvcc::walk;
 ghost use mathlib.Core.Path.{_≡_};
 ghost use Prim.Native.Nat.{_+_, _≤_, _^_};
 ghost use lib.ListN.{length};
+ghost use lib.Seq.{sets};
 ghost use mathlib.Core.List.{[], _∷_};
 ghost use Rattle.error.specs.Outcome.{accept, lentOutput, counted};
 ghost use Rattle.error.specs.Answers.{writtenOf};
+ghost use Rattle.boxes.specs.Bytes.{toChunk};
 ghost use Rattle.hvcc.specs.Item.{itemUnits};
 ghost use Rattle.compact.specs.ItemData.{prefixed, stillUnit, onlyStill};
 ghost use Rattle.compact.specs.Inside.{payloadOf, PayloadFits};
@@ -35,7 +37,19 @@ fn prefix_limit(size: usize) -> usize
     }
 }
 
-// The unit of stored bytes, behind its length. Refusals: 4, 6, 20.
+// Stores the unit of stored bytes behind its length of `size` bytes.
+fn store_still(size: usize, stored: &[u8], out: &mut [u8])
+    requires { ⌜ (size ≤ 4) × (length (now stored) ≤ 2 ^ 30) × (size + 2 + length (now stored) ≤ length (now out)) ⌝ }
+    ensures { λ _. ⌜ now (out .exit) ≡ sets (now (out .entry)) 0 (toChunk size (stillUnit (now (stored .entry)))) ⌝ }
+{
+    let header = nal::nal_header(nal::NAL_IDR_N_LP, 0, 1);
+    place::put_number(out, 0, size, 2 + stored.len());
+    place::put(out, size, header[0]);
+    place::put(out, size + 1, header[1]);
+    place::copy(stored, out, size + 2);
+}
+
+// The unit of stored bytes behind its length. Refusals: 4, 6, 20.
 pub fn put_still(length_size: u8, stored: &[u8], out: &mut [u8]) -> Written
     requires { ⌜ length (now stored) ≤ 2 ^ 30 ⌝ }
     ensures { λ r. ⌜ (writtenOf r, now (out .exit)) ≡ lentOutput (counted (prefixed «length_size» (stillUnit (now (stored .entry))))) (now (out .entry)) ⌝ }
@@ -48,15 +62,12 @@ pub fn put_still(length_size: u8, stored: &[u8], out: &mut [u8]) -> Written
     if prefix_limit(size) <= len {
         return Written::Refused(Refusal::UnitTooLongForPrefix);
     }
-    if out.len() < size + len {
+    let total = size + len;
+    if out.len() < total {
         return Written::Refused(Refusal::BufferTooShort);
     }
-    let header = nal::nal_header(nal::NAL_IDR_N_LP, 0, 1);
-    place::put_number(out, 0, size, len);
-    place::put(out, size, header[0]);
-    place::put(out, size + 1, header[1]);
-    place::copy(stored, out, size + 2);
-    Written::Bytes(size + len)
+    store_still(size, stored, out);
+    Written::Bytes(total)
 }
 
 // Where what follows the header of an item's one unit lies, if that is of type 8, layer 0, temporal 1.
@@ -71,9 +82,9 @@ pub fn find_still(length_size: u8, item: &[u8]) -> Still
     let ItemStep::Unit(a, next) = walk::item_step(item, size, 0) else {
         return Still::Other;
     };
-    let ItemStep::End = walk::item_step(item, size, next) else {
+    if next < item.len() {
         return Still::Other;
-    };
+    }
     still_of(item, a)
 }
 

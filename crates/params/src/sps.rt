@@ -329,7 +329,7 @@ fn parse_rbsp(rbsp: &[u8]) -> SpsRead
     };
     let r2 = read_ptl(rbsp, p1, ids.ptl_present_flag, ids.max_sublayers_minus1);
     let a2 = r2.answer;
-    let record = r2.ptl;
+    let ptl_read = r2.ptl;
     let PtlAnswer::Read(p2) = a2 else {
         return no_sps(refusal(a2));
     };
@@ -349,7 +349,7 @@ fn parse_rbsp(rbsp: &[u8]) -> SpsRead
     let BitsRead::Value(depth, _) = r5 else {
         return no_sps(bits::refusal(r5));
     };
-    let head = head_of(ids, record, size, window, depth);
+    let head = head_of(ids, ptl_read, size, window, depth);
     let answer = ParamsAnswer::Read;
     SpsRead { answer, head }
 }

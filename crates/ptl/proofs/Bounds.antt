@@ -164,7 +164,7 @@ layered m byte ls l h r e f =
       long = rw f (length-padded 7 0 ls (omega arith));
       below = rw f (padded-below 256 (lit< tt) 7 ls (r .below));
       absent = rw (e, f) (absent-append (presentFlags m byte) (replicate (7 - length (presentFlags m byte)) false) ls (replicate (7 - length ls) 0) (n ∙ sym (r .count)) (r .absent)
-        (absent-zeros (7 - length ls) (7 - length (presentFlags m byte))));
+          (absent-zeros (7 - length ls) (7 - length (presentFlags m byte))));
     }
 
 pub sublayers-read : (s : List ℕ) (m p : ℕ) (l : Sublayers) (q : ℕ) → m ≤ 7 → sublayers m s p ≡ value l q → Layered m l

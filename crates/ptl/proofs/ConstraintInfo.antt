@@ -128,15 +128,18 @@ module _ (s : List ℕ) (p : ℕ) where
       pub constraints-whole : (q from to : ℕ) (info : List ℕ) → generalConstraintsInfo s b ≡ value tt q → 8 * from ≡ p → 8 * to ≡ q
           → info ≡ padded 63 0 (withoutFlags (take (to - from) (drop from s)))
           → constraints s p ≡ value (record {
-              «ptl_frame_only_constraint_flag» = isSet f; «ptl_multilayer_enabled_flag» = isSet m;
-              «num_bytes_constraint_info» = to - from; «general_constraint_info» = info }) q
+            «ptl_frame_only_constraint_flag» = isSet f;
+            «ptl_multilayer_enabled_flag» = isSet m;
+            «num_bytes_constraint_info» = to - from;
+            «general_constraint_info» = info;
+          }) q
       unfolding constraints constraintBytes
       constraints-whole q from to info l d g i =
           let x : p / 8 ≡ from = omega arith in
           let y : q / 8 ≡ to = omega arith in
           let w = info-read s b q l in
           let n : length (withoutFlags (take (to - from) (drop from s))) ≡ to - from =
-            length-without (take (to - from) (drop from s)) ∙ length-take-le (to - from) (drop from s) (omega (arith, length-drop from s)) in
+          length-without (take (to - from) (drop from s)) ∙ length-take-le (to - from) (drop from s) (omega (arith, length-drop from s)) in
           rw (h, k, l, x, y, i, n)
 
 -- what the offsets of the two ends are to the copy

@@ -56,8 +56,8 @@ module _ (P : Parser ℕ) (s : List ℕ) (n p₀ : ℕ) (values : List ℕ) (p k
     within = omega arith;
     long = length-set values k v ∙ f .long;
     done = f .done
-      ∙ ap (λ x. bind x (λ rest t. value (take k values ++ rest) t)) (times-more P s p (n - k) (n - (k + 1)) q v (omega arith) e)
-      ∙ regroup (times (n - (k + 1)) P s q) (take k values) (take (k + 1) (set values k v)) v (rw add-one (take-suc-set values k v (omega arith)));
+        ∙ ap (λ x. bind x (λ rest t. value (take k values ++ rest) t)) (times-more P s p (n - k) (n - (k + 1)) q v (omega arith) e)
+        ∙ regroup (times (n - (k + 1)) P s q) (take k values) (take (k + 1) (set values k v)) v (rw add-one (take-suc-set values k v (omega arith)));
     clear = drop-set-lt (k + 1) values k v (omega arith) ∙ sym (drop-drop 1 k values) ∙ ap (drop 1) (f .clear ∙ ap (λ m. replicate m 0) more);
   }
     where
@@ -70,7 +70,7 @@ module _ (P : Parser ℕ) (s : List ℕ) (n p₀ : ℕ) (values : List ℕ) (p k
   pub going-end : n ≤ k → value (record { «num_sub_profiles» = n; «general_sub_profile_idc» = values }) p ≡ counted n (times n P s p₀)
   going-end h =
       let e : times n P s p₀ ≡ value (take k values) p =
-        f .done ∙ ap (λ x. bind x (λ rest t. value (take k values ++ rest) t)) (times-none P s p (n - k) (omega arith)) ∙ ap (λ (l : List ℕ). value l p) (append-nil (take k values)) in
+      f .done ∙ ap (λ x. bind x (λ rest t. value (take k values ++ rest) t)) (times-none P s p (n - k) (omega arith)) ∙ ap (λ (l : List ℕ). value l p) (append-nil (take k values)) in
       rw (e, length-take-le k values (omega arith), ← f .clear, take-append-drop k values)
 
 -- ---- the section

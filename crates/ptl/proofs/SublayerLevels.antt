@@ -118,9 +118,9 @@ module _ (L : Parser ℕ) (s : List ℕ) (p₀ flags m : ℕ) (part : List ℕ) 
         small = omega arith;
         long = length-set part j v ∙ f .long;
         done = f .done
-          ∙ ap (inFrontOf (drop i part)) (levels-more L s byte p i j e v q h)
-          ∙ ap (λ (n : ℕ). inFrontOf (drop n part) (inFrontOf (v ∷ []) (levels L j (byte % 128 * 2) s q))) e
-          ∙ regroup (levels L j (byte % 128 * 2) s q) v (drop (suc j) part) (drop j (set part j v)) (λ xs. snoc-store xs j part v k);
+            ∙ ap (inFrontOf (drop i part)) (levels-more L s byte p i j e v q h)
+            ∙ ap (λ (n : ℕ). inFrontOf (drop n part) (inFrontOf (v ∷ []) (levels L j (byte % 128 * 2) s q))) e
+            ∙ regroup (levels L j (byte % 128 * 2) s q) v (drop (suc j) part) (drop j (set part j v)) (λ xs. snoc-store xs j part v k);
       })
 
   pub levels-out : (r : ℕ) → 0 < i → (if isSet (byte / 128) then L else give 0) s p ≡ refused r → asArray (levels L m flags s p₀) ≡ refused r

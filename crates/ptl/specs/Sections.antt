@@ -41,7 +41,8 @@ constraints = do
     «ptl_frame_only_constraint_flag» = isSet frameOnly;
     «ptl_multilayer_enabled_flag» = isSet multilayer;
     «num_bytes_constraint_info» = length constraint;
-    «general_constraint_info» = padded 63 0 constraint })
+    «general_constraint_info» = padded 63 0 constraint;
+  })
 
 -- the present flags and the levels
 unfoldable pub sublayers : ℕ → Parser Sublayers
@@ -60,15 +61,16 @@ subProfiles = do
 -- the record of the four sections, s sublayers minus 1
 abbrev pub joined : ℕ → General → Constraints → Sublayers → SubProfiles → VvcPtlRecord
 joined s g c l u = record {
-    «general_profile_idc» = g .«general_profile_idc»;
-    «general_tier_flag» = g .«general_tier_flag»;
-    «general_level_idc» = g .«general_level_idc»;
-    «ptl_frame_only_constraint_flag» = c .«ptl_frame_only_constraint_flag»;
-    «ptl_multilayer_enabled_flag» = c .«ptl_multilayer_enabled_flag»;
-    «num_bytes_constraint_info» = c .«num_bytes_constraint_info»;
-    «general_constraint_info» = c .«general_constraint_info»;
-    «num_sublayer_levels» = s;
-    «sublayer_level_present_flag» = l .«sublayer_level_present_flag»;
-    «sublayer_level_idc» = l .«sublayer_level_idc»;
-    «num_sub_profiles» = u .«num_sub_profiles»;
-    «general_sub_profile_idc» = u .«general_sub_profile_idc» }
+  «general_profile_idc» = g .«general_profile_idc»;
+  «general_tier_flag» = g .«general_tier_flag»;
+  «general_level_idc» = g .«general_level_idc»;
+  «ptl_frame_only_constraint_flag» = c .«ptl_frame_only_constraint_flag»;
+  «ptl_multilayer_enabled_flag» = c .«ptl_multilayer_enabled_flag»;
+  «num_bytes_constraint_info» = c .«num_bytes_constraint_info»;
+  «general_constraint_info» = c .«general_constraint_info»;
+  «num_sublayer_levels» = s;
+  «sublayer_level_present_flag» = l .«sublayer_level_present_flag»;
+  «sublayer_level_idc» = l .«sublayer_level_idc»;
+  «num_sub_profiles» = u .«num_sub_profiles»;
+  «general_sub_profile_idc» = u .«general_sub_profile_idc»;
+}

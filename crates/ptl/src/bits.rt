@@ -35,7 +35,11 @@ pub struct GeneralRead {
 fn no_general(e: Refusal) -> GeneralRead
     ensures { λ r. ⌜ r .answer ≡ PtlAnswer.Refused e ⌝ }
 {
-    let part = General { general_profile_idc: 0, general_tier_flag: false, general_level_idc: 0 };
+    let part = General {
+        general_profile_idc: 0,
+        general_tier_flag: false,
+        general_level_idc: 0,
+    };
     let answer = PtlAnswer::Refused(e);
     GeneralRead { answer, part }
 }
@@ -60,7 +64,11 @@ fn read_general(rbsp: &[u8], at: BitPosition) -> GeneralRead
     let general_profile_idc = profile as u8;
     let general_tier_flag = tier == 1;
     let general_level_idc = level as u8;
-    let part = General { general_profile_idc, general_tier_flag, general_level_idc };
+    let part = General {
+        general_profile_idc,
+        general_tier_flag,
+        general_level_idc,
+    };
     let answer = PtlAnswer::Read(p3);
     GeneralRead { answer, part }
 }

@@ -1,8 +1,8 @@
 // Profile, tier and level: the record, and reading it from the bits of a parameter set.
 pub mod bits;
 pub mod constraints;
-pub mod sublayers;
 pub mod sub_profiles;
+pub mod sublayers;
 
 use error::Refusal;
 use rbsp::BitPosition;

@@ -27,7 +27,10 @@ pub struct SubProfilesRead {
 fn no_sub_profiles(e: Refusal) -> SubProfilesRead
     ensures { λ r. ⌜ r .answer ≡ PtlAnswer.Refused e ⌝ }
 {
-    let part = SubProfiles { num_sub_profiles: 0, general_sub_profile_idc: [0u32; 255] };
+    let part = SubProfiles {
+        num_sub_profiles: 0,
+        general_sub_profile_idc: [0u32; 255],
+    };
     let answer = PtlAnswer::Refused(e);
     SubProfilesRead { answer, part }
 }
@@ -50,7 +53,10 @@ fn read_values(rbsp: &[u8], at: BitPosition, n: usize) -> SubProfilesRead
         p = q.0;
         k += 1;
     }
-    let part = SubProfiles { num_sub_profiles: n, general_sub_profile_idc: values };
+    let part = SubProfiles {
+        num_sub_profiles: n,
+        general_sub_profile_idc: values,
+    };
     let answer = PtlAnswer::Read(BitPosition(p));
     SubProfilesRead { answer, part }
 }

@@ -77,7 +77,10 @@ fn no_levels(e: Refusal) -> LevelsRead
     ensures { λ r. ⌜ r .answer ≡ PtlAnswer.Refused e ⌝ }
 {
     let answer = PtlAnswer::Refused(e);
-    LevelsRead { answer, part: [0u8; 7] }
+    LevelsRead {
+        answer,
+        part: [0u8; 7],
+    }
 }
 
 // The levels whose flag is set, from the highest of m sublayers down; 0 where not. Refusal: 11.

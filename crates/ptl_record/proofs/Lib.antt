@@ -2,3 +2,7 @@ pub mod Arrays
 pub mod Places
 pub mod Reading
 pub mod Writing
+pub mod Standing
+pub mod AsWritten
+pub mod RoundTrip
+pub mod Answers

@@ -1,16 +1,16 @@
 -- Laws of the values at places: the levels step by step from the highest down, and the numbers one by one.
-use Prim.Native.Nat.{ℕ, zero, suc, _+_, _-_, _*_, _/_, _%_, _≤_, _<_}
+use Prim.Native.Nat.{ℕ, zero, suc, _+_, _*_, _/_, _%_, _<_}
 use mathlib.Core.Path.{_≡_, refl, sym, ap, _∙_}
 use mathlib.Core.Bool.{Bool}
 use mathlib.Core.List.{List, [], _∷_, _++_}
 use native.Mathlib.Numerals.{add-one}
 use native.Mathlib.Omega.{arith}
 use lib.Dec.{eqb}
-use lib.ListN.{length, getD, set, drop, length-append}
+use lib.ListN.{length, set, drop, length-append}
 use Rattle.boxes.specs.Bytes.{be}
 use Rattle.ptl.specs.Ptl.{padded, presentFlags}
+use Rattle.ptl.proofs.Arrays.{padded-more, snoc-store}
 use Rattle.ptl_record.specs.Places.{words, levelsLen, levelIf, levelsAt}
-use Rattle.ptl_record.proofs.Arrays.{padded-more, snoc-store}
 
 pub length-flags : (m f : ℕ) → length (presentFlags m f) ≡ m
 unfolding presentFlags
@@ -30,12 +30,12 @@ len-step j f = refl
 pub flags-step : (j f : ℕ) (l : List Bool) → j < length l
     → presentFlags j (f % 128 * 2) ++ drop j (set l j (eqb (f / 128) 1)) ≡ presentFlags (suc j) f ++ drop (suc j) l
 unfolding presentFlags
-flags-step j f l h = snoc-store (presentFlags j (f % 128 * 2)) j l (eqb (f / 128) 1) h
+flags-step j f l h = sym (snoc-store (presentFlags j (f % 128 * 2)) j l (eqb (f / 128) 1) h)
 
 pub levels-step : (j f : ℕ) (s : List ℕ) (p : ℕ) (l : List ℕ) → j < length l
     → levelsAt j (f % 128 * 2) s (p + f / 128) ++ drop j (set l j (levelIf (f / 128) s p)) ≡ levelsAt (suc j) f s p ++ drop (suc j) l
 unfolding levelsAt
-levels-step j f s p l h = snoc-store (levelsAt j (f % 128 * 2) s (p + f / 128)) j l (levelIf (f / 128) s p) h
+levels-step j f s p l h = sym (snoc-store (levelsAt j (f % 128 * 2) s (p + f / 128)) j l (levelIf (f / 128) s p) h)
 
 pub length-words : (n : ℕ) (s : List ℕ) (p : ℕ) → length (words n s p) ≡ n
 unfolding words
@@ -51,7 +51,4 @@ words-more (suc n) s p =
 
 -- one number more in the array
 pub words-store : (N n : ℕ) (s : List ℕ) (p : ℕ) → n < N → set (padded N 0 (words n s p)) n (be s (p + n * 4) 4) ≡ padded N 0 (words (n + 1) s p)
-words-store N n s p h =
-    let l = length-words n s p in
-    rw (add-one n, words-more n s p)
-    (ap (λ (k : ℕ). set (padded N 0 (words n s p)) k (be s (p + n * 4) 4)) (sym l) ∙ padded-more N 0 (words n s p) (be s (p + n * 4) 4) (omega arith))
+words-store N n s p h = rw (add-one n, words-more n s p) (padded-more N 0 (words n s p) (be s (p + n * 4) 4) n (length-words n s p) h)

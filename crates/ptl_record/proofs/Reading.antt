@@ -1,21 +1,20 @@
 -- What the definition of a PTL record gives: where the place behind it is within the bytes its fields, else refusal 1, but for refusal 2.
 use Prim.Native.Nat.{ℕ, zero, suc, _+_, _-_, _*_, _/_, _%_, _≤_, _<_}
-use mathlib.Core.Path.{_≡_, refl, sym, ap, _∙_}
+use mathlib.Core.Path.{_≡_, refl, ap, _∙_}
 use mathlib.Core.Bool.{Bool, true, false}
-use mathlib.Core.List.{List, [], _∷_, _++_}
+use mathlib.Core.List.{List, []}
 use native.Mathlib.Omega.{arith}
 use native.Mathlib.Decide.{decLe}
-use lib.Dec.{ltb, eqb}
+use lib.Dec.{ltb}
 use lib.ListN.{length, getD, take, drop}
 use lib.Seq.{getD-take, getD-drop}
 use borrow.Author.Tests.{eq-eqb, ne-eqb, eqb-true, eqb-false}
 use Rattle.error.specs.Logic.{if_then_else_}
-use Rattle.error.specs.Parse.{Parsed, value, refused, bind, give, times, refuseIf}
+use Rattle.error.specs.Parse.{Parsed, value, refused, bind, give, times}
 use Rattle.boxes.specs.Bytes.{be, uint, bytes}
 use Rattle.boxes.proofs.Fields.{uint-there, uint-short, bytes-there, bytes-short}
 use Rattle.rbsp.specs.Bits.{isSet}
 use Rattle.ptl.specs.Ptl.{padded, presentFlags, levels}
-use Rattle.ptl.specs.declared.VvcPtlRecord.{VvcPtlRecord}
 use Rattle.ptl_record.specs.Read.{octets, vvcPtlRecord}
 use Rattle.ptl_record.specs.Places.{words, levelsLen, levelIf, levelsAt, flagsAt, levelsStart, countPlace, ptlEnd, ptlFields}
 
@@ -28,12 +27,13 @@ module _ {A B : Type 0} {end : ℕ} {x : Parsed A} {a : A} {q : ℕ} (f : A → 
   -- one read behind another
   pub reach-bind : Reach end x a q → q ≤ r → (q ≤ end → Reach end (f a q) b r) → Reach end (bind x f) b r
   reach-bind m h n = record {
-      there = λ l. let k : q ≤ end = omega arith in ap (λ (y : Parsed A). bind y f) (m .there k) ∙ n k .there l;
-      short = λ l.
-          elim (decLe q end) [
-            | yes k ↦ ap (λ (y : Parsed A). bind y f) (m .there k) ∙ n k .short l
-            | no k ↦ ap (λ (y : Parsed A). bind y f) (m .short (omega arith))
-          ] }
+    there = λ l. let k : q ≤ end = omega arith in ap (λ (y : Parsed A). bind y f) (m .there k) ∙ n k .there l;
+    short = λ l.
+        elim (decLe q end) [
+          | yes k ↦ ap (λ (y : Parsed A). bind y f) (m .there k) ∙ n k .short l
+          | no k ↦ ap (λ (y : Parsed A). bind y f) (m .short (omega arith))
+        ];
+  }
 
 -- a value at a place within the bytes
 pub reach-value : {A : Type 0} {end : ℕ} (a : A) (q : ℕ) → q ≤ end → Reach end (value a q) a q

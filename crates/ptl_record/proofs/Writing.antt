@@ -1,12 +1,12 @@
 -- Laws of the bytes of a PTL record: their parts one by one, their lengths, and the parts stored one behind the other.
-use Prim.Native.Nat.{ℕ, zero, suc, _+_, _-_, _*_, _/_, _%_, _≤_, _<_}
+use Prim.Native.Nat.{ℕ, suc, _+_, _*_, _/_, _%_, _≤_, _<_}
 use mathlib.Core.Path.{_≡_, refl, sym, ap, _∙_}
 use mathlib.Core.Bool.{Bool, true, false, _&&_}
 use mathlib.Core.List.{List, [], _∷_, _++_, append-assoc, append-nil}
 use native.Mathlib.Numerals.{add-one}
 use native.Mathlib.Omega.{arith}
 use native.Mathlib.Decide.{decLe}
-use lib.Dec.{leb, eqb}
+use lib.Dec.{leb}
 use lib.ListN.{length, getD, set, take, length-append}
 use lib.Seq.{sets, take-suc, length-take-le, take-set-lt}
 use borrow.Author.Tests.{leb-true, eq-eqb, ne-eqb}
@@ -28,11 +28,9 @@ sets-more d at k a h =
     let l = length-take-le k a (omega arith) in
     rw (add-one k, take-suc a k 0 h) (sets-then d at (at + k) (take k a) (getD a k 0 ∷ []) (omega arith))
 
--- the four bytes of a number, stored one by one
-pub sets-four : (d : List ℕ) (at v : ℕ)
-    → set (set (set (set d at (v / 256 / 256 / 256 % 256)) (at + 1) (v / 256 / 256 % 256)) (at + 2) (v / 256 % 256)) (at + 3) (v % 256) ≡ sets d at (toBe 4 v)
-unfolding toBe
-sets-four d at v =
+-- four bytes, stored one by one
+pub sets-four : (l : List ℕ) (at a b c d : ℕ) → set (set (set (set l at a) (at + 1) b) (at + 2) c) (at + 3) d ≡ sets l at (a ∷ b ∷ c ∷ d ∷ [])
+sets-four l at a b c d =
     let e2 : at + 2 ≡ suc (suc at) = omega arith in
     let e3 : at + 3 ≡ suc (suc (suc at)) = omega arith in
     rw (add-one at, e2, e3)
@@ -55,7 +53,7 @@ module _ (p : VvcPtlRecord) where
   abbrev pub flagged : ℕ → ℕ
   flagged b = bit (p .«ptl_frame_only_constraint_flag») * 128 + bit (p .«ptl_multilayer_enabled_flag») * 64 + b % 64
 
-  with-first : (xs : List ℕ) → 0 < length xs → withFlags p xs ≡ set xs 0 (flagged (getD xs 0 0))
+  pub with-first : (xs : List ℕ) → 0 < length xs → withFlags p xs ≡ set xs 0 (flagged (getD xs 0 0))
   unfolding withFlags
   with-first [] h = absurd (omega arith)
   with-first (x ∷ xs) h = refl
@@ -169,10 +167,10 @@ module _ (p : VvcPtlRecord) where
 
   pub front-stored : length (p .«general_constraint_info») ≡ 63 → p .«num_bytes_constraint_info» ≤ 63 → (d : List ℕ) (at : ℕ)
       → sets
-          (set (set (set d at (length (constraintInfo p))) (at + 1) (p .«general_profile_idc» * 2 + bit (p .«general_tier_flag»))) (at + 2) (p .«general_level_idc»))
-          (at + 3)
-          (take (length (constraintInfo p)) (set (p .«general_constraint_info») 0 (firstByte p)))
-        ≡ sets d at (frontBytes p)
+      (set (set (set d at (length (constraintInfo p))) (at + 1) (p .«general_profile_idc» * 2 + bit (p .«general_tier_flag»))) (at + 2) (p .«general_level_idc»))
+      (at + 3)
+      (take (length (constraintInfo p)) (set (p .«general_constraint_info») 0 (firstByte p)))
+      ≡ sets d at (frontBytes p)
   front-stored l h d at =
       let e2 : at + 2 ≡ suc (suc at) = omega arith in
       let e3 : at + 3 ≡ suc (suc (suc at)) = omega arith in
@@ -202,7 +200,7 @@ module _ (p : VvcPtlRecord) (sublayers : ℕ) where
   -- the parts, stored one behind the other
   pub ptl-stored : (d : List ℕ) (at : ℕ)
       → sets (set (sets (sets d at F) (at + length F) L) (at + length F + length L) (p .«num_sub_profiles»)) (at + length F + length L + 1) S
-        ≡ sets d at (ptlBytes p sublayers)
+      ≡ sets d at (ptlBytes p sublayers)
   unfolding ptlBytes
   ptl-stored d at =
       let a : at + length F + length L ≡ at + length (F ++ L) = omega (arith, length-append F L) in

@@ -48,18 +48,19 @@ ptlEnd s p = p + 1 + getD s p 0 * 4
 -- the record at `at` with n constraint bytes, m levels and the sub-profile count at p
 abbrev pub ptlFields : List ℕ → ℕ → ℕ → ℕ → List Bool → List ℕ → ℕ → VvcPtlRecord
 ptlFields s at n m present idcs p = record {
-    «general_profile_idc» = getD s (at + 1) 0 / 2;
-    «general_tier_flag» = isSet (getD s (at + 1) 0 % 2);
-    «general_level_idc» = getD s (at + 2) 0;
-    «ptl_frame_only_constraint_flag» = isSet (getD s (at + 3) 0 / 128);
-    «ptl_multilayer_enabled_flag» = isSet (getD s (at + 3) 0 / 64 % 2);
-    «num_bytes_constraint_info» = n;
-    «general_constraint_info» = padded 63 0 (withoutFlags (take n (drop (at + 3) s)));
-    «num_sublayer_levels» = m;
-    «sublayer_level_present_flag» = present;
-    «sublayer_level_idc» = idcs;
-    «num_sub_profiles» = getD s p 0;
-    «general_sub_profile_idc» = padded 255 0 (words (getD s p 0) s (p + 1)) }
+  «general_profile_idc» = getD s (at + 1) 0 / 2;
+  «general_tier_flag» = isSet (getD s (at + 1) 0 % 2);
+  «general_level_idc» = getD s (at + 2) 0;
+  «ptl_frame_only_constraint_flag» = isSet (getD s (at + 3) 0 / 128);
+  «ptl_multilayer_enabled_flag» = isSet (getD s (at + 3) 0 / 64 % 2);
+  «num_bytes_constraint_info» = n;
+  «general_constraint_info» = padded 63 0 (withoutFlags (take n (drop (at + 3) s)));
+  «num_sublayer_levels» = m;
+  «sublayer_level_present_flag» = present;
+  «sublayer_level_idc» = idcs;
+  «num_sub_profiles» = getD s p 0;
+  «general_sub_profile_idc» = padded 255 0 (words (getD s p 0) s (p + 1));
+}
 
 -- the byte of a level, where it is there
 abbrev pub oneLevel : Bool → ℕ → List ℕ

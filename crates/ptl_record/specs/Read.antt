@@ -19,15 +19,15 @@ octets n s p = bind (bytes n s p) (λ a q. value (held s a) q)
 -- VvcPTLRecord( num_sublayers )
 unfoldable pub vvcPtlRecord : ℕ → Parser VvcPtlRecord
 vvcPtlRecord sublayers = do
-  a ← uint 1                                     -- reserved 2, num_bytes_constraint_info 6
+  a ← uint 1  -- reserved 2, num_bytes_constraint_info 6
   refuseIf (eqb (a % 64) 0) 2
-  b ← uint 1                                     -- general_profile_idc 7, general_tier_flag 1
-  level ← uint 1                                 -- general_level_idc
-  info ← octets (a % 64)                         -- ptl_frame_only_constraint_flag 1, ptl_multilayer_enabled_flag 1, general_constraint_info
-  flags ← if ltb 1 sublayers then uint 1 else give 0   -- ptl_sublayer_level_present_flag, ptl_reserved_zero_bit
-  idcs ← levels (uint 1) (sublayers - 1) flags   -- sublayer_level_idc
-  n ← uint 1                                     -- ptl_num_sub_profiles
-  subs ← times n (uint 4)                        -- general_sub_profile_idc
+  b ← uint 1  -- general_profile_idc 7, general_tier_flag 1
+  level ← uint 1  -- general_level_idc
+  info ← octets (a % 64)  -- ptl_frame_only_constraint_flag 1, ptl_multilayer_enabled_flag 1, general_constraint_info
+  flags ← if ltb 1 sublayers then uint 1 else give 0  -- ptl_sublayer_level_present_flag, ptl_reserved_zero_bit
+  idcs ← levels (uint 1) (sublayers - 1) flags  -- sublayer_level_idc
+  n ← uint 1  -- ptl_num_sub_profiles
+  subs ← times n (uint 4)  -- general_sub_profile_idc
   give (record {
     «general_profile_idc» = b / 2;
     «general_tier_flag» = isSet (b % 2);
@@ -40,4 +40,5 @@ vvcPtlRecord sublayers = do
     «sublayer_level_present_flag» = padded 7 false (presentFlags (sublayers - 1) flags);
     «sublayer_level_idc» = padded 7 0 idcs;
     «num_sub_profiles» = n;
-    «general_sub_profile_idc» = padded 255 0 subs })
+    «general_sub_profile_idc» = padded 255 0 subs;
+  })

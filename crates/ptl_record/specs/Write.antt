@@ -47,8 +47,8 @@ subProfiles (v ∷ vs) = toBe 4 v ++ subProfiles vs
 -- VvcPTLRecord( num_sublayers )
 unfoldable pub ptlBytes : VvcPtlRecord → ℕ → List ℕ
 ptlBytes p sublayers =
-    (length (constraintInfo p) ∷ [])                                                -- 00, num_bytes_constraint_info 6
-    ++ ((p .«general_profile_idc» * 2 + bit (p .«general_tier_flag»)) ∷ [])         -- general_profile_idc 7, general_tier_flag 1
+    (length (constraintInfo p) ∷ [])  -- 00, num_bytes_constraint_info 6
+    ++ ((p .«general_profile_idc» * 2 + bit (p .«general_tier_flag»)) ∷ [])  -- general_profile_idc 7, general_tier_flag 1
     ++ (p .«general_level_idc» ∷ [])
     ++ withFlags p (constraintInfo p)
     ++ levelPart p sublayers

@@ -5,14 +5,14 @@ use boxes::Span;
 use boxes::place;
 use error::Refusal;
 use ptl::VvcPtlRecord;
-
+use ptl::bits;
 ghost use mathlib.Core.Bool.{false};
 ghost use mathlib.Core.Path.{_≡_};
 ghost use Prim.Native.Nat.{_+_, _-_, _*_, _%_, _^_, _≤_, _<_};
 ghost use lib.ListN.{length, getD, take, drop};
 ghost use Rattle.error.specs.Parse.{refused as refusedBy};
 ghost use Rattle.error.specs.Refusals.{numberOf};
-ghost use Rattle.ptl.specs.Ptl.{padded, presentFlags, withoutFlags, zeroPtl};
+ghost use Rattle.ptl.specs.Ptl.{padded, presentFlags, withoutFlags};
 ghost use Rattle.ptl.specs.Answers.{orZeroPtl};
 ghost use Rattle.ptl_record.specs.Answers.{ptlOf};
 ghost use Rattle.ptl_record.specs.Read.{vvcPtlRecord};
@@ -52,7 +52,11 @@ fn read_levels(s: &[u8], at: usize, flags: u8, m: usize) -> SublayerLevels
         × (r .present ≡ padded 7 false (presentFlags m flags))
         × (r .idc ≡ padded 7 0 (levelsAt m flags (now (s .entry)) at)) ⌝ }
 {
-    let mut r = SublayerLevels { next: at, present: [false; 7], idc: [0u8; 7] };
+    let mut r = SublayerLevels {
+        next: at,
+        present: [false; 7],
+        idc: [0u8; 7],
+    };
     let mut f = flags;
     let mut i = m;
     while 0 < i {
@@ -87,7 +91,11 @@ pub fn level_count(sublayers: u8) -> usize
     requires { ⌜ sublayers ≤ 7 ⌝ }
     ensures { λ r. ⌜ (r ≡ sublayers - 1) × (r ≤ 6) ⌝ }
 {
-    if 1 < sublayers { (sublayers - 1) as usize } else { 0 }
+    if 1 < sublayers {
+        (sublayers - 1) as usize
+    } else {
+        0
+    }
 }
 
 // The flags in front of the levels.
@@ -134,33 +142,16 @@ fn ptl_fields(s: &[u8], at: usize, n: usize, m: usize, levels: SublayerLevels) -
     }
 }
 
-// A PTL of zeros.
-fn zero_ptl() -> VvcPtlRecord
-    ensures { λ r. ⌜ r ≡ zeroPtl ⌝ }
-{
-    VvcPtlRecord {
-        general_profile_idc: 0,
-        general_tier_flag: false,
-        general_level_idc: 0,
-        ptl_frame_only_constraint_flag: false,
-        ptl_multilayer_enabled_flag: false,
-        num_bytes_constraint_info: 0,
-        general_constraint_info: [0u8; 63],
-        num_sublayer_levels: 0,
-        sublayer_level_present_flag: [false; 7],
-        sublayer_level_idc: [0u8; 7],
-        num_sub_profiles: 0,
-        general_sub_profile_idc: [0u32; 255],
-    }
-}
-
 // A refusal, with zeros.
 fn refused(e: Refusal) -> PtlRecordRead
     ensures { λ r. ⌜ ptlOf r ≡ orZeroPtl (refusedBy (numberOf e)) ⌝ }
 {
-    let ptl = zero_ptl();
+    let ptl = bits::zero_ptl();
     let answer = PtlRecordAnswer::Refused(e);
-    PtlRecordRead { answer: answer, ptl: ptl }
+    PtlRecordRead {
+        answer: answer,
+        ptl: ptl,
+    }
 }
 
 // What follows the first byte of the record at a place, which told of n constraint bytes. Refusal: 1.
@@ -181,7 +172,10 @@ fn read_behind(s: &[u8], at: usize, n: usize, sublayers: u8) -> PtlRecordRead
     }
     let ptl = ptl_fields(s, at, n, m, levels);
     let answer = PtlRecordAnswer::Read(end);
-    PtlRecordRead { answer: answer, ptl: ptl }
+    PtlRecordRead {
+        answer: answer,
+        ptl: ptl,
+    }
 }
 
 // The PTL record at a place, for so many sublayers. Refusals in byte order: 1, 2 for a constraint length of 0.

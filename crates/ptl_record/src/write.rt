@@ -2,7 +2,6 @@
 use super::read::level_count;
 use boxes::place;
 use ptl::VvcPtlRecord;
-
 ghost use mathlib.Core.Bool.{true};
 ghost use mathlib.Core.List.{[], _∷_};
 ghost use mathlib.Core.Path.{_≡_};
@@ -50,8 +49,14 @@ fn first_byte(p: VvcPtlRecord) -> u8
     ensures { λ r. ⌜ r ≡ firstByte p ⌝ }
 {
     let n = p.num_bytes_constraint_info;
-    let flags = bit_of(p.ptl_frame_only_constraint_flag) * 128 + bit_of(p.ptl_multilayer_enabled_flag) * 64;
-    if n == 0 { flags } else { flags + p.general_constraint_info[0] % 64 }
+    let frame_only = bit_of(p.ptl_frame_only_constraint_flag);
+    let multilayer = bit_of(p.ptl_multilayer_enabled_flag);
+    let flags = frame_only * 128 + multilayer * 64;
+    if n == 0 {
+        flags
+    } else {
+        flags + p.general_constraint_info[0] % 64
+    }
 }
 
 // Stores the first n bytes of an array.
@@ -88,7 +93,11 @@ fn has_level(p: VvcPtlRecord, i: usize) -> bool
     ensures { λ r. ⌜ r ≡ hasLevel p i ⌝ }
 {
     let n = p.num_sublayer_levels;
-    if i < n { p.sublayer_level_present_flag[i] } else { false }
+    if i < n {
+        p.sublayer_level_present_flag[i]
+    } else {
+        false
+    }
 }
 
 // The present flags of the sublayers below m, from the highest down in the top bits.
@@ -125,8 +134,9 @@ fn put_levels(out: &mut [u8], at: usize, p: VvcPtlRecord, m: usize) -> usize
     let mut i = m;
     let mut w = at;
     while 0 < i {
+        let j = i - 1;
+        w = put_level(out, w, has_level(p, j), p.sublayer_level_idc[j]);
         i -= 1;
-        w = put_level(out, w, has_level(p, i), p.sublayer_level_idc[i]);
     }
     w
 }
@@ -145,15 +155,27 @@ fn put_level_part(out: &mut [u8], at: usize, p: VvcPtlRecord, sublayers: u8) -> 
     put_levels(out, at + 1, p, m)
 }
 
-// Stores a number of four bytes.
+// Stores four bytes in their order.
+fn put_four(out: &mut [u8], at: usize, a: u8, b: u8, c: u8, d: u8)
+    requires { ⌜ at ≤ 2 ^ 32 ⌝ }
+    ensures { λ _. ⌜ now (out .exit) ≡ sets (now (out .entry)) at (a ∷ b ∷ c ∷ d ∷ []) ⌝ }
+{
+    place::put(out, at, a);
+    place::put(out, at + 1, b);
+    place::put(out, at + 2, c);
+    place::put(out, at + 3, d);
+}
+
+// Stores a number of four bytes, the highest first.
 fn put_u32(out: &mut [u8], at: usize, v: u32)
     requires { ⌜ at ≤ 2 ^ 32 ⌝ }
     ensures { λ _. ⌜ now (out .exit) ≡ sets (now (out .entry)) at (toBe 4 v) ⌝ }
 {
-    place::put(out, at, (v / 256 / 256 / 256 % 256) as u8);
-    place::put(out, at + 1, (v / 256 / 256 % 256) as u8);
-    place::put(out, at + 2, (v / 256 % 256) as u8);
-    place::put(out, at + 3, (v % 256) as u8);
+    let b3 = (v / 256 / 256 / 256 % 256) as u8;
+    let b2 = (v / 256 / 256 % 256) as u8;
+    let b1 = (v / 256 % 256) as u8;
+    let b0 = (v % 256) as u8;
+    put_four(out, at, b3, b2, b1, b0);
 }
 
 // Stores the first n sub-profiles of an array.
@@ -171,7 +193,7 @@ fn put_sub_profiles(out: &mut [u8], at: usize, a: [u32; 255], n: usize)
 // Stores the bytes of a PTL record for so many sublayers from a place on, and gives the place behind them.
 pub fn put_ptl(out: &mut [u8], at: usize, p: VvcPtlRecord, sublayers: u8) -> usize
     requires { ⌜ (ptlFits p ≡ true) × (sublayers ≤ 7) × (at ≤ 2 ^ 30) ⌝ }
-    ensures { λ r. ⌜ (r ≡ at + length (ptlBytes p sublayers)) × (now (out .exit) ≡ sets (now (out .entry)) at (ptlBytes p sublayers)) ⌝ }
+    ensures { λ r. ⌜ (r ≡ at + length (ptlBytes p sublayers)) × (now (out .exit) ≡ sets (now (out .entry)) at (ptlBytes p sublayers)) × (r ≤ at + 1094) ⌝ }
 {
     let a = put_front(out, at, p);
     let b = put_level_part(out, a, p, sublayers);

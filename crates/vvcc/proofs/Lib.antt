@@ -1,1 +1,6 @@
 pub mod Worked
+pub mod Steps
+pub mod Premises
+pub mod Units
+pub mod Carried
+pub mod Expansion

@@ -14,31 +14,31 @@ use Rattle.compact.proofs.still.put_still.Reads as put-still-reads
 
 -- src/lib.rt:76:13
 returns : tie.Need-returns
-returns c = search needs
+returns c = ?
 
 -- src/lib.rt:79:13
 put-all-requires : tie.Need-put-all-requires
-put-all-requires c κs = search needs
+put-all-requires c κs = ?
 
 -- src/lib.rt:79:13
 same-length : tie.Need-same-length
-same-length c = search needs
+same-length c = ?
 
 -- src/lib.rt:79:13
 returns-2 : tie.Need-returns-2
-returns-2 c = search needs
+returns-2 c = ?
 
 -- src/lib.rt:81:9
 put-still-requires : tie.Need-put-still-requires
-put-still-requires c κs = search needs
+put-still-requires c κs = ?
 
 -- src/lib.rt:72:5
 same-length-2 : tie.Need-same-length-2
-same-length-2 c = search needs
+same-length-2 c = ?
 
 -- src/lib.rt:72:5
 returns-3 : tie.Need-returns-3
-returns-3 c = search needs
+returns-3 c = ?
 
 pub item-data-spec : {M : Type 1} → statement M
 item-data-spec =

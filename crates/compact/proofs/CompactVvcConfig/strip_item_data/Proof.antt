@@ -15,51 +15,51 @@ use Rattle.compact.proofs.still.find_still.Reads as find-still-reads
 
 -- src/lib.rt:89:13
 returns : tie.Need-returns
-returns c = search needs
+returns c = ?
 
 -- src/lib.rt:92:13
 put-all-requires : tie.Need-put-all-requires
-put-all-requires c κs = search needs
+put-all-requires c κs = ?
 
 -- src/lib.rt:92:13
 same-length : tie.Need-same-length
-same-length c = search needs
+same-length c = ?
 
 -- src/lib.rt:92:13
 returns-2 : tie.Need-returns-2
-returns-2 c = search needs
+returns-2 c = ?
 
 -- src/lib.rt:94:33
 find-still-requires : tie.Need-find-still-requires
-find-still-requires c κs = search needs
+find-still-requires c κs = ?
 
 -- src/lib.rt:94:28
 enum-known-a : tie.Need-enum-known-a
-enum-known-a c = search needs
+enum-known-a c = ?
 
 -- src/lib.rt:95:37
 enum-told : tie.Need-enum-told
-enum-told c = search needs
+enum-told c = ?
 
 -- src/lib.rt:95:13
 returns-3 : tie.Need-returns-3
-returns-3 c = search needs
+returns-3 c = ?
 
 -- src/lib.rt:97:25
 part-requires : tie.Need-part-requires
-part-requires c κs = search needs
+part-requires c κs = ?
 
 -- src/lib.rt:97:9
 put-all-requires-2 : tie.Need-put-all-requires-2
-put-all-requires-2 c κs = search needs
+put-all-requires-2 c κs = ?
 
 -- src/lib.rt:85:5
 same-length-2 : tie.Need-same-length-2
-same-length-2 c = search needs
+same-length-2 c = ?
 
 -- src/lib.rt:85:5
 returns-4 : tie.Need-returns-4
-returns-4 c = search needs
+returns-4 c = ?
 
 pub strip-item-data-spec : {M : Type 1} → statement M
 strip-item-data-spec =

@@ -20,43 +20,43 @@ abbrev μ-loop : tie.MeasureT-loop
 
 -- src/list_units.rt:73:5
 loop-holds : tie.Need-loop-holds Inv-loop μ-loop
-loop-holds c = search needs
+loop-holds c = ?
 
 -- src/list_units.rt:74:39
 step-requires : tie.Need-step-requires Inv-loop μ-loop
-step-requires c κs = search needs
+step-requires c κs = ?
 
 -- src/list_units.rt:74:28
 enum-known-a : tie.Need-enum-known-a Inv-loop μ-loop
-enum-known-a c = search needs
+enum-known-a c = ?
 
 -- src/list_units.rt:75:13
 same-length : tie.Need-same-length Inv-loop μ-loop
-same-length c = search needs
+same-length c = ?
 
 -- src/list_units.rt:75:13
 returns : tie.Need-returns Inv-loop μ-loop
-returns c = search needs
+returns c = ?
 
 -- src/list_units.rt:77:9
 put-unit-requires : tie.Need-put-unit-requires Inv-loop μ-loop
-put-unit-requires c κs = search needs
+put-unit-requires c κs = ?
 
 -- src/list_units.rt:78:14
 add-at : tie.Need-add-at Inv-loop μ-loop
-add-at c = search needs
+add-at c = ?
 
 -- src/list_units.rt:78:14
 add-at-2 : tie.Need-add-at-2 Inv-loop μ-loop
-add-at-2 c = search needs
+add-at-2 c = ?
 
 -- src/list_units.rt:73:5
 loop-less : tie.Need-loop-less Inv-loop μ-loop
-loop-less c = search needs
+loop-less c = ?
 
 -- src/list_units.rt:73:5
 loop-again : tie.Need-loop-again Inv-loop μ-loop
-loop-again c = search needs
+loop-again c = ?
 
 pub put-units-spec : {M : Type 1} → statement M
 put-units-spec =

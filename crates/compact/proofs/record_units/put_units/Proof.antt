@@ -20,63 +20,63 @@ abbrev μ-loop : tie.MeasureT-loop
 
 -- src/record_units.rt:57:5
 loop-holds : tie.Need-loop-holds Inv-loop μ-loop
-loop-holds c = search needs
+loop-holds c = ?
 
 -- src/record_units.rt:58:35
 chunk-requires : tie.Need-chunk-requires Inv-loop μ-loop
-chunk-requires c κs = search needs
+chunk-requires c κs = ?
 
 -- src/record_units.rt:58:30
 enum-known-a : tie.Need-enum-known-a Inv-loop μ-loop
-enum-known-a c = search needs
+enum-known-a c = ?
 
 -- src/record_units.rt:59:13
 enum-told : tie.Need-enum-told Inv-loop μ-loop
-enum-told c = search needs
+enum-told c = ?
 
 -- src/record_units.rt:59:13
 same-length : tie.Need-same-length Inv-loop μ-loop
-same-length c = search needs
+same-length c = ?
 
 -- src/record_units.rt:59:13
 returns : tie.Need-returns Inv-loop μ-loop
-returns c = search needs
+returns c = ?
 
 -- src/record_units.rt:61:9
 put-unit-requires : tie.Need-put-unit-requires Inv-loop μ-loop
-put-unit-requires c κs = search needs
+put-unit-requires c κs = ?
 
 -- src/record_units.rt:62:16
 add-next : tie.Need-add-next Inv-loop μ-loop
-add-next c = search needs
+add-next c = ?
 
 -- src/record_units.rt:62:16
 add-next-2 : tie.Need-add-next-2 Inv-loop μ-loop
-add-next-2 c = search needs
+add-next-2 c = ?
 
 -- src/record_units.rt:63:14
 add-at : tie.Need-add-at Inv-loop μ-loop
-add-at c = search needs
+add-at c = ?
 
 -- src/record_units.rt:64:9
 sub-left : tie.Need-sub-left Inv-loop μ-loop
-sub-left c = search needs
+sub-left c = ?
 
 -- src/record_units.rt:57:5
 loop-less : tie.Need-loop-less Inv-loop μ-loop
-loop-less c = search needs
+loop-less c = ?
 
 -- src/record_units.rt:57:5
 loop-again : tie.Need-loop-again Inv-loop μ-loop
-loop-again c = search needs
+loop-again c = ?
 
 -- src/record_units.rt:50:1
 same-length-2 : tie.Need-same-length-2 Inv-loop μ-loop
-same-length-2 c = search needs
+same-length-2 c = ?
 
 -- src/record_units.rt:50:1
 returns-2 : tie.Need-returns-2 Inv-loop μ-loop
-returns-2 c = search needs
+returns-2 c = ?
 
 pub put-units-spec : {M : Type 1} → statement M
 put-units-spec =

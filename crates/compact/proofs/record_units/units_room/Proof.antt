@@ -1,69 +1,74 @@
-use Prim.Native.Nat.{ℕ, zero, suc, _+_, _*_, _-_, _/_, _%_, _^_, _≤_, _<_}
-use mathlib.Core.Path.{_≡_, refl, sym, ap, _∙_, subst}
-use mathlib.Core.List.{List, [], _∷_, _++_}
-use mathlib.Core.Logic.{⊎-elim}
+-- `record_units::units_room` measures the units of a record. The loop's invariant: those passed and those left make the whole.
+use Prim.Native.Nat.{_+_, _*_, _≤_}
+use mathlib.Core.Path.{_≡_, refl, sym, ap, _∙_}
 use native.Mathlib.Omega.{arith}
 use borrow.Author.Needs.{needs}
-use lib.ListN.{length, getD, take, drop}
+use lib.ListN.{length}
+use Rattle.error.specs.Parse.{times}
+use Rattle.boxes.specs.Bytes.{chunk}
+use Rattle.compact.specs.Inside.{recordUnits, measured}
+use Rattle.compact.proofs.RecordUnits.{Turn, turn, turn-short, times-done}
 use Rattle.compact.proofs.record_units.units_room.Statement.{statement}
 use Rattle.compact.proofs.record_units.units_room.Tie as tie
-use Rattle.compact.proofs.record_units.units_room.Reads as reads
-use Rattle.compact.proofs.record_units.units_room.Lts as lts
-use Rattle.unit_list.proofs.walk.chunk.Reads as chunk-reads
 
 abbrev Inv-loop : tie.InvT-loop
-Inv-loop «record» count left₀ at₀ room₀ left at room = ?
+Inv-loop s count left₀ at₀ room₀ left at room =
+    (at ≤ length s) × (room ≤ 4 * at) × (measured s room (times left (chunk 1) s at) ≡ measured s 0 (recordUnits s count))
 
 abbrev μ-loop : tie.MeasureT-loop
-μ-loop «record» count left₀ at₀ room₀ left at room = ?
+μ-loop s count left₀ at₀ room₀ left at room = left
 
--- src/record_units.rt:38:5
 loop-holds : tie.Need-loop-holds Inv-loop μ-loop
-loop-holds c = search needs
+loop-holds c = (omega arith, omega arith, refl)
 
--- src/record_units.rt:39:35
 chunk-requires : tie.Need-chunk-requires Inv-loop μ-loop
 chunk-requires c κs = search needs
 
--- src/record_units.rt:39:30
 enum-known-a : tie.Need-enum-known-a Inv-loop μ-loop
 enum-known-a c = search needs
 
--- src/record_units.rt:40:13
 enum-told : tie.Need-enum-told Inv-loop μ-loop
 enum-told c = search needs
 
--- src/record_units.rt:40:13
 returns : tie.Need-returns Inv-loop μ-loop
-returns c = search needs
+returns c =
+    let l = c .before .before .before .before in
+    let s = l .before .before .args .«record» .now in
+    let k = c .before .before .chunk in
+    ap (measured s (l .loop .room)) (sym (turn-short s (l .loop .left) (l .loop .at) (c .before .before .before .loop-test .taken) (k .result) (k .ensures) (c .enum-told .given .1)))
+    ∙ l .loop .inv .2
 
--- src/record_units.rt:42:16
+-- the unit that the turn found
+unit-at : (c : tie.After-known-told Inv-loop μ-loop)
+    → Turn (c .before .before .before .before .before .before .before .args .«record» .now) (c .before .before .before .before .before .loop .left)
+    (c .before .before .before .before .before .loop .at) (c .before .a .given .0 .0)
+unit-at c =
+    let k = c .before .before .before .chunk in
+    turn _ _ _ (c .before .before .before .before .loop-test .taken) (k .result) (k .ensures) _ (c .before .a .given .1)
+
 add-room : tie.Need-add-room Inv-loop μ-loop
 add-room c = search needs
 
--- src/record_units.rt:42:16
 add-room-2 : tie.Need-add-room-2 Inv-loop μ-loop
-add-room-2 c = search needs
+add-room-2 c = let t = unit-at (c .before) in omega arith
 
--- src/record_units.rt:43:14
 add-at : tie.Need-add-at Inv-loop μ-loop
-add-at c = search needs
+add-at c = let t = unit-at (c .before .before) in omega arith
 
--- src/record_units.rt:44:9
 sub-left : tie.Need-sub-left Inv-loop μ-loop
 sub-left c = search needs
 
--- src/record_units.rt:38:5
 loop-less : tie.Need-loop-less Inv-loop μ-loop
 loop-less c = search needs
 
--- src/record_units.rt:38:5
 loop-again : tie.Need-loop-again Inv-loop μ-loop
-loop-again c = search needs
+loop-again c =
+    let t = unit-at (c .before .before) in
+    let l = c .before .before .before .before .before .before .before .loop in
+    (t .inside, omega arith, t .measure (l .room) ∙ l .inv .2)
 
--- src/record_units.rt:31:1
 returns-2 : tie.Need-returns-2 Inv-loop μ-loop
-returns-2 c = search needs
+returns-2 c = ?
 
 pub units-room-spec : {M : Type 1} → statement M
 units-room-spec =

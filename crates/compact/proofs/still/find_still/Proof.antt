@@ -13,44 +13,37 @@ use Rattle.boxes.proofs.place.wide.Reads as wide-reads
 use Rattle.compact.proofs.still.still_of.Reads as still-of-reads
 use Rattle.hvcc.proofs.walk.item_step.Reads as item-step-reads
 
--- src/still.rt:68:9
+-- src/still.rt:79:9
 returns : tie.Need-returns
-returns c = search needs
+returns c = ?
 
--- src/still.rt:70:9
+-- src/still.rt:81:9
 wide-requires : tie.Need-wide-requires
 wide-requires c κs = search needs
 
--- src/still.rt:71:35
+-- src/still.rt:82:35
 item-step-requires : tie.Need-item-step-requires
-item-step-requires c κs = search needs
+item-step-requires c κs = ?
 
--- src/still.rt:71:24
+-- src/still.rt:82:24
 enum-known-a : tie.Need-enum-known-a
 enum-known-a c = search needs
 
--- src/still.rt:72:9
+-- src/still.rt:83:9
 returns-2 : tie.Need-returns-2
-returns-2 c = search needs
+returns-2 c = ?
 
--- src/still.rt:74:25
-item-step-requires-2 : tie.Need-item-step-requires-2
-item-step-requires-2 c κs = search needs
-
-enum-told : tie.Need-enum-told
-enum-told c = search needs
-
--- src/still.rt:75:9
+-- src/still.rt:86:9
 returns-3 : tie.Need-returns-3
-returns-3 c = search needs
+returns-3 c = ?
 
--- src/still.rt:77:5
+-- src/still.rt:88:5
 still-of-requires : tie.Need-still-of-requires
-still-of-requires c κs = search needs
+still-of-requires c κs = ?
 
--- src/still.rt:63:1
+-- src/still.rt:74:1
 returns-4 : tie.Need-returns-4
-returns-4 c = search needs
+returns-4 c = ?
 
 pub find-still-spec : {M : Type 1} → statement M
 find-still-spec =
@@ -61,8 +54,6 @@ find-still-spec =
     item-step-requires
     enum-known-a
     returns-2
-    item-step-requires-2
-    enum-told
     returns-3
     still-of-requires
     returns-4)

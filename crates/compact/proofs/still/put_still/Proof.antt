@@ -9,88 +9,49 @@ use Rattle.compact.proofs.still.put_still.Statement.{statement}
 use Rattle.compact.proofs.still.put_still.Tie as tie
 use Rattle.compact.proofs.still.put_still.Reads as reads
 use Rattle.compact.proofs.still.put_still.Lts as lts
-use Rattle.boxes.proofs.place.copy.Reads as copy-reads
-use Rattle.boxes.proofs.place.put.Reads as put-reads
-use Rattle.boxes.proofs.place.put_number.Reads as put-number-reads
 use Rattle.boxes.proofs.place.wide.Reads as wide-reads
 use Rattle.compact.proofs.still.prefix_limit.Reads as prefix-limit-reads
-use Rattle.nal.proofs.nal_header.Reads as nal-header-reads
+use Rattle.compact.proofs.still.store_still.Reads as store-still-reads
 
--- src/still.rt:44:9
+-- src/still.rt:58:9
 returns : tie.Need-returns
-returns c = search needs
+returns c = ?
 
--- src/still.rt:46:9
+-- src/still.rt:60:9
 wide-requires : tie.Need-wide-requires
 wide-requires c κs = search needs
 
--- src/still.rt:47:15
+-- src/still.rt:61:15
 add-len : tie.Need-add-len
 add-len c = search needs
 
--- src/still.rt:48:8
+-- src/still.rt:62:8
 prefix-limit-requires : tie.Need-prefix-limit-requires
-prefix-limit-requires c κs = search needs
+prefix-limit-requires c κs = ?
 
--- src/still.rt:49:9
+-- src/still.rt:63:9
 returns-2 : tie.Need-returns-2
-returns-2 c = search needs
+returns-2 c = ?
 
--- src/still.rt:51:20
-add-if4 : tie.Need-add-if4
-add-if4 c = search needs
+-- src/still.rt:65:17
+add-total : tie.Need-add-total
+add-total c = search needs
 
--- src/still.rt:52:9
+-- src/still.rt:67:9
 returns-3 : tie.Need-returns-3
-returns-3 c = search needs
+returns-3 c = ?
 
--- src/still.rt:54:18
-nal-header-requires : tie.Need-nal-header-requires
-nal-header-requires c κs = search needs
+-- src/still.rt:69:5
+store-still-requires : tie.Need-store-still-requires
+store-still-requires c κs = ?
 
--- src/still.rt:55:5
-put-number-requires : tie.Need-put-number-requires
-put-number-requires c κs = search needs
-
--- src/still.rt:56:27
-array-read-put : tie.Need-array-read-put
-array-read-put c = search needs
-
--- src/still.rt:56:5
-put-requires : tie.Need-put-requires
-put-requires c κs = search needs
-
--- src/still.rt:57:21
-add-put : tie.Need-add-put
-add-put c = search needs
-
--- src/still.rt:57:31
-array-read-put-2 : tie.Need-array-read-put-2
-array-read-put-2 c = search needs
-
--- src/still.rt:57:5
-put-requires-2 : tie.Need-put-requires-2
-put-requires-2 c κs = search needs
-
--- src/still.rt:58:30
-add-copy : tie.Need-add-copy
-add-copy c = search needs
-
--- src/still.rt:58:5
-copy-requires : tie.Need-copy-requires
-copy-requires c κs = search needs
-
--- src/still.rt:59:20
-add-t10 : tie.Need-add-t10
-add-t10 c = search needs
-
--- src/still.rt:39:1
+-- src/still.rt:53:1
 same-length : tie.Need-same-length
 same-length c = search needs
 
--- src/still.rt:39:1
+-- src/still.rt:53:1
 returns-4 : tie.Need-returns-4
-returns-4 c = search needs
+returns-4 c = ?
 
 pub put-still-spec : {M : Type 1} → statement M
 put-still-spec =
@@ -101,17 +62,8 @@ put-still-spec =
     add-len
     prefix-limit-requires
     returns-2
-    add-if4
+    add-total
     returns-3
-    nal-header-requires
-    put-number-requires
-    array-read-put
-    put-requires
-    add-put
-    array-read-put-2
-    put-requires-2
-    add-copy
-    copy-requires
-    add-t10
+    store-still-requires
     same-length
     returns-4)

@@ -1,50 +1,48 @@
-use Prim.Native.Nat.{ℕ, zero, suc, _+_, _*_, _-_, _/_, _%_, _^_, _≤_, _<_}
-use mathlib.Core.Path.{_≡_, refl, sym, ap, _∙_, subst}
-use mathlib.Core.List.{List, [], _∷_, _++_}
-use mathlib.Core.Logic.{⊎-elim}
+-- `still::still_of` finds what follows the header of the unit at a span, if that is the header of a still.
+use mathlib.Core.Path.{_≡_}
 use native.Mathlib.Omega.{arith}
-use lib.ListN.{length, getD, take, drop}
 use borrow.Author.Needs.{needs}
+use Rattle.compact.proofs.Stills.{one-short, one-layer, one-type, one-temporal, one-still}
 use Rattle.compact.proofs.still.still_of.Statement.{statement}
 use Rattle.compact.proofs.still.still_of.Tie as tie
-use Rattle.compact.proofs.still.still_of.Reads as reads
-use Rattle.compact.proofs.still.still_of.Lts as lts
 
--- src/still.rt:86:9
 returns : tie.Need-returns
-returns c = search needs
+returns c =
+    let b = c .before .before in
+    (one-short (b .args .item .now) (b .args .a) (b .pre) (c .if1 .taken), tt)
 
--- src/still.rt:89:17
 shared-slice-read-first : tie.Need-shared-slice-read-first
 shared-slice-read-first c = search needs
 
--- src/still.rt:90:23
 add-second : tie.Need-add-second
 add-second c = search needs
 
--- src/still.rt:90:18
 shared-slice-read-second : tie.Need-shared-slice-read-second
 shared-slice-read-second c = search needs
 
--- src/still.rt:92:9
 returns-2 : tie.Need-returns-2
-returns-2 c = search needs
+returns-2 c =
+    let b = c .before .before .before .before .before in
+    (one-layer (b .args .item .now) (b .args .a) (b .pre) (omega (arith, c .before .before .before .if1 .left)) (c .if2 .taken), tt)
 
--- src/still.rt:95:9
 returns-3 : tie.Need-returns-3
-returns-3 c = search needs
+returns-3 c =
+    let b = c .before .before .before .before .before .before in
+    (one-type (b .args .item .now) (b .args .a) (b .pre) (omega (arith, c .before .before .before .before .if1 .left)) (c .if3 .taken), tt)
 
--- src/still.rt:98:9
 returns-4 : tie.Need-returns-4
-returns-4 c = search needs
+returns-4 c =
+    let b = c .before .before .before .before .before .before .before in
+    (one-temporal (b .args .item .now) (b .args .a) (b .pre) (omega (arith, c .before .before .before .before .before .if1 .left)) (c .if4 .taken), tt)
 
--- src/still.rt:100:34
 add-t9 : tie.Need-add-t9
 add-t9 c = search needs
 
--- src/still.rt:81:1
 returns-5 : tie.Need-returns-5
-returns-5 c = search needs
+returns-5 c =
+    let b = c .before .before .before .before .before .before .before .before in
+    let e = c .before .before .before .before .before .before .if1 .left in
+    (one-still (b .args .item .now) (b .args .a) (b .pre) (omega arith) (c .before .before .before .if2 .left) (c .before .before .if3 .left) (c .before .if4 .left), omega arith)
 
 pub still-of-spec : {M : Type 1} → statement M
 still-of-spec =

@@ -1,72 +1,66 @@
-use Prim.Native.Nat.{ℕ, zero, suc, _+_, _*_, _-_, _/_, _%_, _^_, _≤_, _<_}
-use mathlib.Core.Path.{_≡_, refl, sym, ap, _∙_, subst}
-use mathlib.Core.List.{List, [], _∷_, _++_}
-use mathlib.Core.Logic.{⊎-elim}
-use native.Mathlib.Omega.{arith}
-use lib.ListN.{length, getD, take, drop}
+-- `parse_rbsp` of an OPI meets the five answers one by one.
+use mathlib.Core.Path.{ap, sym}
+use Rattle.error.specs.Outcome.{accept}
+use Rattle.rbsp.proofs.Chain.{told, told-refused}
+use Rattle.params.proofs.OperatingPoint.{opi-no-flag, opi-no-second, opi-unset, opi-no-code, opi-there}
 use borrow.Author.Needs.{needs}
 use Rattle.params.proofs.opi.parse_rbsp.Statement.{statement}
 use Rattle.params.proofs.opi.parse_rbsp.Tie as tie
-use Rattle.params.proofs.opi.parse_rbsp.Reads as reads
-use Rattle.params.proofs.opi.parse_rbsp.Lts as lts
-use Rattle.rbsp.proofs.bits.exp_golomb.Reads as exp-golomb-reads
-use Rattle.rbsp.proofs.bits.read_bits.Reads as read-bits-reads
 
--- src/opi.rt:18:9
 read-bits-requires : tie.Need-read-bits-requires
 read-bits-requires c κs = search needs
 
--- src/opi.rt:19:25
 enum-known-r1 : tie.Need-enum-known-r1
 enum-known-r1 c = search needs
 
--- src/opi.rt:20:9
 enum-told : tie.Need-enum-told
 enum-told c = search needs
 
--- src/opi.rt:20:9
 returns : tie.Need-returns
-returns c = search needs
+returns c = sym (ap accept (opi-no-flag _ _ _ (told-refused (c .before .before .read-bits .ensures) (c .enum-told .given .1))))
 
--- src/opi.rt:22:9
 read-bits-requires-2 : tie.Need-read-bits-requires-2
 read-bits-requires-2 c κs = search needs
 
--- src/opi.rt:23:28
 enum-known-r2 : tie.Need-enum-known-r2
 enum-known-r2 c = search needs
 
--- src/opi.rt:24:9
 enum-told-2 : tie.Need-enum-told-2
 enum-told-2 c = search needs
 
--- src/opi.rt:24:9
 returns-2 : tie.Need-returns-2
-returns-2 c = search needs
+returns-2 c =
+    let k = c .before .before .before .before in
+    sym (ap accept (opi-no-second _ _ _ _ (told (k .before .before .read-bits .ensures) (k .r1 .given .1)) _ (told-refused (c .before .before .read-bits2 .ensures) (c .enum-told2 .given .1))))
 
--- src/opi.rt:27:9
 returns-3 : tie.Need-returns-3
-returns-3 c = search needs
+returns-3 c =
+    let j = c .before .before in
+    let k = j .before .before .before .before in
+    sym (ap accept (opi-unset _ _ _ _ (told (k .before .before .read-bits .ensures) (k .r1 .given .1)) _ _ (told (j .before .before .read-bits2 .ensures) (j .r2 .given .1)) (c .if1 .taken)))
 
--- src/opi.rt:29:9
 exp-golomb-requires : tie.Need-exp-golomb-requires
 exp-golomb-requires c κs = search needs
 
--- src/opi.rt:30:25
 enum-known-r3 : tie.Need-enum-known-r3
 enum-known-r3 c = search needs
 
--- src/opi.rt:31:9
 enum-told-3 : tie.Need-enum-told-3
 enum-told-3 c = search needs
 
--- src/opi.rt:31:9
 returns-4 : tie.Need-returns-4
-returns-4 c = search needs
+returns-4 c =
+    let i = c .before .before .before in
+    let j = i .before .before in
+    let k = j .before .before .before .before in
+    sym (ap accept (opi-no-code _ _ _ _ (told (k .before .before .read-bits .ensures) (k .r1 .given .1)) _ _ (told (j .before .before .read-bits2 .ensures) (j .r2 .given .1)) _ (i .if1 .left) (told-refused (c .before .before .exp-golomb .ensures) (c .enum-told3 .given .1))))
 
--- src/opi.rt:14:1
 returns-5 : tie.Need-returns-5
-returns-5 c = search needs
+returns-5 c =
+    let i = c .before .before .before .before in
+    let j = i .before .before in
+    let k = j .before .before .before .before in
+    sym (ap accept (opi-there _ _ _ _ (told (k .before .before .read-bits .ensures) (k .r1 .given .1)) _ _ (told (j .before .before .read-bits2 .ensures) (j .r2 .given .1)) _ _ (i .if1 .left) (told (c .before .before .before .exp-golomb .ensures) (c .before .r3 .given .1))))
 
 pub parse-rbsp-spec : {M : Type 1} → statement M
 parse-rbsp-spec =

@@ -1,151 +1,160 @@
-use Prim.Native.Nat.{ℕ, zero, suc, _+_, _*_, _-_, _/_, _%_, _^_, _≤_, _<_}
-use mathlib.Core.Path.{_≡_, refl, sym, ap, _∙_, subst}
-use mathlib.Core.List.{List, [], _∷_, _++_}
-use mathlib.Core.Logic.{⊎-elim}
+-- `parse_rbsp` reads the five sections one behind the other, and they make up the head.
+use mathlib.Core.Path.{ap, sym, _∙_}
 use native.Mathlib.Omega.{arith}
-use lib.ListN.{length, getD, take, drop}
+use Rattle.rbsp.proofs.Chain.{told, went, ended}
+use Rattle.ptl.proofs.Parts.{went-part}
+use Rattle.params.specs.Heads.{zeroSps}
+use Rattle.params.specs.Answers.{readOr}
+use Rattle.params.proofs.Parts.{part-told, ended-with}
+use Rattle.params.proofs.Bounds.{ids-bounds, depth-bounds}
+use Rattle.params.proofs.SpsSections.{sps-sections}
 use borrow.Author.Needs.{needs}
 use Rattle.params.proofs.sps.parse_rbsp.Statement.{statement}
 use Rattle.params.proofs.sps.parse_rbsp.Tie as tie
-use Rattle.params.proofs.sps.parse_rbsp.Reads as reads
-use Rattle.params.proofs.sps.parse_rbsp.Lts as lts
-use Rattle.params.proofs.sps.head_of.Reads as head-of-reads
-use Rattle.params.proofs.sps.no_sps.Reads as no-sps-reads
-use Rattle.params.proofs.sps.read_depth.Reads as read-depth-reads
-use Rattle.params.proofs.sps.read_ids.Reads as read-ids-reads
-use Rattle.params.proofs.sps.read_ptl.Reads as read-ptl-reads
-use Rattle.params.proofs.sps.read_size.Reads as read-size-reads
-use Rattle.params.proofs.sps.read_window.Reads as read-window-reads
-use Rattle.params.proofs.sps.refusal.Reads as sps-refusal-reads
-use Rattle.rbsp.proofs.bits.refusal.Reads as bits-refusal-reads
 
--- src/sps.rt:324:9
 read-ids-requires : tie.Need-read-ids-requires
 read-ids-requires c κs = search needs
 
--- src/sps.rt:327:25
 enum-known-a1 : tie.Need-enum-known-a1
 enum-known-a1 c = search needs
 
--- src/sps.rt:328:23
 enum-told : tie.Need-enum-told
 enum-told c = search needs
 
--- src/sps.rt:328:23
 refusal-requires : tie.Need-refusal-requires
 refusal-requires c κs = search needs
 
--- src/sps.rt:328:9
 no-sps-requires : tie.Need-no-sps-requires
 no-sps-requires c κs = search needs
 
--- src/sps.rt:328:9
 returns : tie.Need-returns
-returns c = search needs
+returns c =
+    c .no-sps .ensures
+    ∙ sym (ap (readOr zeroSps) (sps-sections _ _
+    ∙ ended-with (c .before .before .before .before .before .read-ids .result .part) _ (c .before .before .before .before .before .read-ids .ensures) (c .before .before .enum-told .given .1) (c .before .refusal .ensures)))
 
--- src/sps.rt:330:9
 read-ptl-requires : tie.Need-read-ptl-requires
-read-ptl-requires c κs = search needs
+read-ptl-requires c κs =
+    let k = c .before in
+    let i = ids-bounds _ _ _ _ (part-told (k .before .before .before .read-ids .result .part) (k .before .before .before .read-ids .ensures) (k .a1 .given .1)) in
+    (c .before .before .before .before .before .before .pre, omega (arith, i .next), i .sublayers)
 
--- src/sps.rt:333:25
 enum-known-a2 : tie.Need-enum-known-a2
 enum-known-a2 c = search needs
 
--- src/sps.rt:334:23
 enum-told-2 : tie.Need-enum-told-2
 enum-told-2 c = search needs
 
--- src/sps.rt:334:23
 refusal-requires-2 : tie.Need-refusal-requires-2
 refusal-requires-2 c κs = search needs
 
--- src/sps.rt:334:9
 no-sps-requires-2 : tie.Need-no-sps-requires-2
 no-sps-requires-2 c κs = search needs
 
--- src/sps.rt:334:9
 returns-2 : tie.Need-returns-2
-returns-2 c = search needs
+returns-2 c =
+    let k1 = c .before .before .before .before .before .before .before in
+    c .no-sps2 .ensures
+    ∙ sym (ap (readOr zeroSps) (sps-sections _ _
+    ∙ went-part (k1 .before .before .before .read-ids .result .part) _ (k1 .before .before .before .read-ids .ensures) (k1 .a1 .given .1)
+    ∙ ended-with (c .before .before .before .before .before .read-ptl .result .ptl) _ (c .before .before .before .before .before .read-ptl .ensures) (c .before .before .enum-told2 .given .1) (c .before .refusal2 .ensures)))
 
--- src/sps.rt:336:9
 read-size-requires : tie.Need-read-size-requires
 read-size-requires c κs = search needs
 
--- src/sps.rt:339:25
 enum-known-a3 : tie.Need-enum-known-a3
 enum-known-a3 c = search needs
 
--- src/sps.rt:340:23
 enum-told-3 : tie.Need-enum-told-3
 enum-told-3 c = search needs
 
--- src/sps.rt:340:23
 refusal-requires-3 : tie.Need-refusal-requires-3
 refusal-requires-3 c κs = search needs
 
--- src/sps.rt:340:9
 no-sps-requires-3 : tie.Need-no-sps-requires-3
 no-sps-requires-3 c κs = search needs
 
--- src/sps.rt:340:9
 returns-3 : tie.Need-returns-3
-returns-3 c = search needs
+returns-3 c =
+    let k2 = c .before .before .before .before .before .before .before in
+    let k1 = k2 .before .before .before .before .before in
+    c .no-sps3 .ensures
+    ∙ sym (ap (readOr zeroSps) (sps-sections _ _
+    ∙ went-part (k1 .before .before .before .read-ids .result .part) _ (k1 .before .before .before .read-ids .ensures) (k1 .a1 .given .1)
+    ∙ went-part (k2 .before .before .before .read-ptl .result .ptl) _ (k2 .before .before .before .read-ptl .ensures) (k2 .a2 .given .1)
+    ∙ ended-with (c .before .before .before .before .before .read-size .result .part) _ (c .before .before .before .before .before .read-size .ensures) (c .before .before .enum-told3 .given .1) (c .before .refusal3 .ensures)))
 
--- src/sps.rt:342:9
 read-window-requires : tie.Need-read-window-requires
 read-window-requires c κs = search needs
 
--- src/sps.rt:345:25
 enum-known-a4 : tie.Need-enum-known-a4
 enum-known-a4 c = search needs
 
--- src/sps.rt:346:23
 enum-told-4 : tie.Need-enum-told-4
 enum-told-4 c = search needs
 
--- src/sps.rt:346:23
 refusal-requires-4 : tie.Need-refusal-requires-4
 refusal-requires-4 c κs = search needs
 
--- src/sps.rt:346:9
 no-sps-requires-4 : tie.Need-no-sps-requires-4
 no-sps-requires-4 c κs = search needs
 
--- src/sps.rt:346:9
 returns-4 : tie.Need-returns-4
-returns-4 c = search needs
+returns-4 c =
+    let k3 = c .before .before .before .before .before .before .before in
+    let k2 = k3 .before .before .before .before .before in
+    let k1 = k2 .before .before .before .before .before in
+    c .no-sps4 .ensures
+    ∙ sym (ap (readOr zeroSps) (sps-sections _ _
+    ∙ went-part (k1 .before .before .before .read-ids .result .part) _ (k1 .before .before .before .read-ids .ensures) (k1 .a1 .given .1)
+    ∙ went-part (k2 .before .before .before .read-ptl .result .ptl) _ (k2 .before .before .before .read-ptl .ensures) (k2 .a2 .given .1)
+    ∙ went-part (k3 .before .before .before .read-size .result .part) _ (k3 .before .before .before .read-size .ensures) (k3 .a3 .given .1)
+    ∙ ended-with _ _ (c .before .before .before .before .before .read-window .ensures) (c .before .before .enum-told4 .given .1) (c .before .refusal4 .ensures)))
 
--- src/sps.rt:348:9
 read-depth-requires : tie.Need-read-depth-requires
-read-depth-requires c κs = search needs
+read-depth-requires c κs = c .before .before .before .before .before .before .before .before .before .before .before .before .before .before .before .before .before .before .before .before .before .pre
 
--- src/sps.rt:349:25
 enum-known-r5 : tie.Need-enum-known-r5
 enum-known-r5 c = search needs
 
--- src/sps.rt:350:23
 enum-told-5 : tie.Need-enum-told-5
 enum-told-5 c = search needs
 
--- src/sps.rt:350:23
 refusal-requires-5 : tie.Need-refusal-requires-5
 refusal-requires-5 c κs = search needs
 
--- src/sps.rt:350:9
 no-sps-requires-5 : tie.Need-no-sps-requires-5
 no-sps-requires-5 c κs = search needs
 
--- src/sps.rt:350:9
 returns-5 : tie.Need-returns-5
-returns-5 c = search needs
+returns-5 c =
+    let k4 = c .before .before .before .before .before .before in
+    let k3 = k4 .before .before .before .before .before in
+    let k2 = k3 .before .before .before .before .before in
+    let k1 = k2 .before .before .before .before .before in
+    c .no-sps5 .ensures
+    ∙ sym (ap (readOr zeroSps) (sps-sections _ _
+    ∙ went-part (k1 .before .before .before .read-ids .result .part) _ (k1 .before .before .before .read-ids .ensures) (k1 .a1 .given .1)
+    ∙ went-part (k2 .before .before .before .read-ptl .result .ptl) _ (k2 .before .before .before .read-ptl .ensures) (k2 .a2 .given .1)
+    ∙ went-part (k3 .before .before .before .read-size .result .part) _ (k3 .before .before .before .read-size .ensures) (k3 .a3 .given .1)
+    ∙ went-part _ _ (k4 .before .before .before .read-window .ensures) (k4 .a4 .given .1)
+    ∙ ended _ (c .before .before .before .before .read-depth .ensures) (c .before .before .enum-told5 .given .1) (c .before .refusal5 .ensures)))
 
--- src/sps.rt:352:9
 head-of-requires : tie.Need-head-of-requires
-head-of-requires c κs = search needs
+head-of-requires c κs = depth-bounds _ _ _ _ (told (c .before .before .before .read-depth .ensures) (c .before .r5 .given .1))
 
--- src/sps.rt:320:1
 returns-6 : tie.Need-returns-6
-returns-6 c = search needs
+returns-6 c =
+    let k4 = c .before .before .before .before .before .before in
+    let k3 = k4 .before .before .before .before .before in
+    let k2 = k3 .before .before .before .before .before in
+    let k1 = k2 .before .before .before .before .before in
+    rw (c .head-of .ensures) (sym (ap (readOr zeroSps) (sps-sections _ _
+    ∙ went-part (k1 .before .before .before .read-ids .result .part) _ (k1 .before .before .before .read-ids .ensures) (k1 .a1 .given .1)
+    ∙ went-part (k2 .before .before .before .read-ptl .result .ptl) _ (k2 .before .before .before .read-ptl .ensures) (k2 .a2 .given .1)
+    ∙ went-part (k3 .before .before .before .read-size .result .part) _ (k3 .before .before .before .read-size .ensures) (k3 .a3 .given .1)
+    ∙ went-part _ _ (k4 .before .before .before .read-window .ensures) (k4 .a4 .given .1)
+    ∙ went _ (c .before .before .before .before .read-depth .ensures) (c .before .before .r5 .given .1))))
 
 pub parse-rbsp-spec : {M : Type 1} → statement M
 parse-rbsp-spec =

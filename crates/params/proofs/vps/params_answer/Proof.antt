@@ -12,10 +12,10 @@ enum-known-answer : tie.Need-enum-known-answer
 enum-known-answer c = search needs
 
 returns : tie.Need-returns
-returns c = search needs
+returns c = sym (ap answerOf (c .enum-told .given .1))
 
 returns-2 : tie.Need-returns-2
-returns-2 c = search needs
+returns-2 c = sym (ap answerOf (c .before .answer .given .1))
 
 pub params-answer-spec : {M : Type 1} → statement M
 params-answer-spec = tie.close (tie.spec enum-told enum-known-answer returns returns-2)

@@ -40,10 +40,11 @@ loop-less c = search needs
 loop-again : tie.Need-loop-again Inv-loop μ-loop
 loop-again c =
     let l = c .before .before .loop in
-    let a = c .before .before .before .before .args in
-    (search needs,
-    ap (λ (x : List ℕ). set x (l .k) (getD (a .rbsp .now) (a .from .0 + l .k) 0)) (l .inv .1) ∙ copied-more (a .rbsp .now) (a .from .0) (l .k) (omega arith) (omega arith),
-    search needs)
+    let a = c .before .before .before .before .args in (
+      search needs,
+      ap (λ (x : List ℕ). set x (l .k) (getD (a .rbsp .now) (a .from .0 + l .k) 0)) (l .inv .1) ∙ copied-more (a .rbsp .now) (a .from .0) (l .k) (omega arith) (omega arith),
+      search needs,
+    )
 
 array-read-info : tie.Need-array-read-info Inv-loop μ-loop
 array-read-info c = search needs

@@ -66,9 +66,10 @@ loop-less c = search needs
 loop-again : tie.Need-loop-again Inv-loop μ-loop
 loop-again c =
     let d = c .before .before .before .before .before .loop .done in
-    let m = c .before .before .before .before .before .before .before .args .m in
-    (omega arith,
-    levels-on _ _ _ _ _ _ _ _ _ (c .before .before .before .before .before .loop .inv .1) (omega arith) _ _ (m - 1 - d) (m - (d + 1)) (omega arith) (omega arith) (told (c .before .before .before .level .ensures) (c .before .r .given .1)))
+    let m = c .before .before .before .before .before .before .before .args .m in (
+      omega arith,
+      levels-on _ _ _ _ _ _ _ _ _ (c .before .before .before .before .before .loop .inv .1) (omega arith) _ _ (m - 1 - d) (m - (d + 1)) (omega arith) (omega arith) (told (c .before .before .before .level .ensures) (c .before .r .given .1)),
+    )
 
 returns-2 : tie.Need-returns-2 Inv-loop μ-loop
 returns-2 c = sym (levels-end _ _ _ _ _ _ _ _ _ (c .before .loop .inv .1) (omega arith) (omega arith))

@@ -1,26 +1,15 @@
-use borrow.Author.Tests.{eq-eqb, ne-eqb, lt-ltb, le-ltb}
-use Prim.Native.Nat.{ℕ, zero, suc, _+_, _*_, _-_, _/_, _%_, _^_, _≤_, _<_}
-use mathlib.Core.Path.{_≡_, refl, sym, ap, _∙_, subst}
-use mathlib.Core.List.{List, [], _∷_, _++_}
-use mathlib.Core.Logic.{⊎-elim}
-use native.Mathlib.Omega.{arith}
-use lib.ListN.{length, getD, take, drop}
+-- The flags in front of the levels are those of the definition.
+use borrow.Author.Tests.{lt-ltb, le-ltb}
 use borrow.Author.Needs.{needs}
 use Rattle.ptl_record.proofs.read.flags_at.Statement.{statement}
 use Rattle.ptl_record.proofs.read.flags_at.Tie as tie
-use Rattle.ptl_record.proofs.read.flags_at.Reads as reads
-use Rattle.ptl_record.proofs.read.flags_at.Lts as lts
-use Rattle.boxes.proofs.place.byte.Reads as byte-reads
 
--- src/read.rt:97:24
 byte-requires : tie.Need-byte-requires
 byte-requires c κs = search needs
 
--- src/read.rt:94:1
 returns : tie.Need-returns
 returns c = rw (lt-ltb _ _ (c .before .if1 .taken)) (c .byte .ensures)
 
--- src/read.rt:94:1
 returns-2 : tie.Need-returns-2
 returns-2 c = rw (le-ltb _ _ (c .if1 .left))
 

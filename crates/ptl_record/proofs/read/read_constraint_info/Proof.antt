@@ -1,29 +1,20 @@
-use lib.ListN.{length-take}
-use Rattle.ptl.specs.Ptl.{padded, withoutFlags}
+-- The array holds the constraint bytes, the flags of the first cleared.
+use lib.ListN.{length-take, length, drop}
+use Rattle.ptl.specs.Ptl.{padded}
 use Rattle.ptl_record.proofs.Arrays.{padded-sets, without-flags}
-use Prim.Native.Nat.{ℕ, zero, suc, _+_, _*_, _-_, _/_, _%_, _^_, _≤_, _<_}
-use mathlib.Core.Path.{_≡_, refl, sym, ap, _∙_, subst}
-use mathlib.Core.List.{List, [], _∷_, _++_}
-use mathlib.Core.Logic.{⊎-elim}
+use Prim.Native.Nat.{_≤_}
+use mathlib.Core.Path.{ap, _∙_}
 use native.Mathlib.Omega.{arith}
-use lib.ListN.{length, getD, take, drop}
 use borrow.Author.Needs.{needs}
 use Rattle.ptl_record.proofs.read.read_constraint_info.Statement.{statement}
 use Rattle.ptl_record.proofs.read.read_constraint_info.Tie as tie
-use Rattle.ptl_record.proofs.read.read_constraint_info.Reads as reads
-use Rattle.ptl_record.proofs.read.read_constraint_info.Lts as lts
-use Rattle.boxes.proofs.place.copy.Reads as copy-reads
-use Rattle.boxes.proofs.place.part.Reads as part-reads
 
--- src/read.rt:34:9
 part-requires : tie.Need-part-requires
 part-requires c κs = search needs
 
--- src/read.rt:35:24
 slice-aggregate-copy : tie.Need-slice-aggregate-copy
 slice-aggregate-copy c = search needs
 
--- src/read.rt:35:5
 -- the bytes of the part are at most 63
 short : (c : tie.After-part) → length (c .part .result .now) ≤ 63
 short c =
@@ -34,15 +25,12 @@ short c =
 copy-requires : tie.Need-copy-requires
 copy-requires c κs = let h = short (c .before) in omega arith
 
--- src/read.rt:36:15
 array-read-info : tie.Need-array-read-info
 array-read-info c = search needs
 
--- src/read.rt:36:5
 array-write-info : tie.Need-array-write-info
 array-write-info c = search needs
 
--- src/read.rt:29:1
 returns : tie.Need-returns
 returns c =
     let p = c .before .before .before in

@@ -1,22 +1,18 @@
+-- The loop fills both arrays from the highest sublayer down.
 use mathlib.Core.Bool.{Bool, false}
 use Rattle.ptl.specs.Ptl.{padded, presentFlags}
 use Rattle.ptl_record.specs.Places.{levelsLen, levelsAt}
 use Rattle.ptl_record.specs.declared.read.SublayerLevels.{SublayerLevels}
-use Rattle.ptl_record.proofs.Arrays.{drop-replicate}
+use Rattle.ptl.proofs.Arrays.{drop-replicate}
 use Rattle.ptl_record.proofs.Places.{length-flags, length-levels, len-step, flags-step, levels-step}
-use Prim.Native.Nat.{ℕ, zero, suc, _+_, _*_, _-_, _/_, _%_, _^_, _≤_, _<_}
-use mathlib.Core.Path.{_≡_, refl, sym, ap, _∙_, subst}
-use mathlib.Core.List.{List, [], _∷_, _++_}
-use mathlib.Core.Logic.{⊎-elim}
+use Prim.Native.Nat.{ℕ, suc, _+_, _*_, _-_, _/_, _%_, _≤_, _<_}
+use mathlib.Core.Path.{_≡_, ap}
+use mathlib.Core.List.{List, _++_}
 use native.Mathlib.Omega.{arith}
 use borrow.Author.Needs.{needs}
-use lib.ListN.{length, getD, take, drop}
+use lib.ListN.{length, drop}
 use Rattle.ptl_record.proofs.read.read_levels.Statement.{statement}
 use Rattle.ptl_record.proofs.read.read_levels.Tie as tie
-use Rattle.ptl_record.proofs.read.read_levels.Reads as reads
-use Rattle.ptl_record.proofs.read.read_levels.Lts as lts
-use Rattle.boxes.proofs.place.wide.Reads as wide-reads
-use Rattle.ptl_record.proofs.read.level_if.Reads as level-if-reads
 
 -- the levels at and above i are in the arrays, and those of the flags that are left stand from the next place on
 record Filled (s : List ℕ) (at flags m : ℕ) (r : SublayerLevels) (f i : ℕ) : Type 0 where
@@ -35,55 +31,46 @@ Inv-loop s at flags m r₀ f₀ i₀ r f i = Filled s at flags m r f i
 abbrev μ-loop : tie.MeasureT-loop
 μ-loop s at flags m r₀ f₀ i₀ r f i = i
 
--- src/read.rt:58:5
 loop-holds : tie.Need-loop-holds Inv-loop μ-loop
 loop-holds c =
     let a = c .before .args in
     record {
-        low = search needs;
-        byte = search needs;
-        near = search needs;
-        place = search needs;
-        flags-long = search needs;
-        levels-long = search needs;
-        flags-are = rw (length-flags (a .m) (a .flags)) (ap (λ (l : List Bool). presentFlags (a .m) (a .flags) ++ l) (drop-replicate (a .m) 7 false));
-        levels-are =
-            rw (length-levels (a .m) (a .flags) (a .s .now) (a .at))
-            (ap (λ (l : List ℕ). levelsAt (a .m) (a .flags) (a .s .now) (a .at) ++ l) (drop-replicate (a .m) 7 0)) }
+      low = search needs;
+      byte = search needs;
+      near = search needs;
+      place = search needs;
+      flags-long = search needs;
+      levels-long = search needs;
+      flags-are = rw (length-flags (a .m) (a .flags)) (ap (λ (l : List Bool). presentFlags (a .m) (a .flags) ++ l) (drop-replicate (a .m) 7 false));
+      levels-are =
+          rw (length-levels (a .m) (a .flags) (a .s .now) (a .at))
+          (ap (λ (l : List ℕ). levelsAt (a .m) (a .flags) (a .s .now) (a .at) ++ l) (drop-replicate (a .m) 7 0));
+    }
 
--- src/read.rt:59:9
 sub-i : tie.Need-sub-i Inv-loop μ-loop
 sub-i c = search needs
 
--- src/read.rt:62:9
 element-write-r : tie.Need-element-write-r Inv-loop μ-loop
 element-write-r c = search needs
 
--- src/read.rt:63:20
 level-if-requires : tie.Need-level-if-requires Inv-loop μ-loop
 level-if-requires c κs = search needs
 
--- src/read.rt:63:9
 element-write-r-2 : tie.Need-element-write-r-2 Inv-loop μ-loop
 element-write-r-2 c = search needs
 
--- src/read.rt:64:25
 wide-requires : tie.Need-wide-requires Inv-loop μ-loop
 wide-requires c κs = search needs
 
--- src/read.rt:64:18
 add-r : tie.Need-add-r Inv-loop μ-loop
 add-r c = search needs
 
--- src/read.rt:65:13
 mul-f : tie.Need-mul-f Inv-loop μ-loop
 mul-f c = search needs
 
--- src/read.rt:58:5
 loop-less : tie.Need-loop-less Inv-loop μ-loop
 loop-less c = search needs
 
--- src/read.rt:58:5
 loop-again : tie.Need-loop-again Inv-loop μ-loop
 loop-again c =
     let l = c .before .before .before .loop in
@@ -94,16 +81,16 @@ loop-again c =
     let h2 : l .i - 1 < length (l .r .idc) = omega arith in
     let u : levelsLen (l .i) (l .f) ≡ l .f / 128 + levelsLen (l .i - 1) (l .f % 128 * 2) = cc (len-step (l .i - 1) (l .f)) in
     record {
-        low = search needs;
-        byte = search needs;
-        near = search needs;
-        place = omega arith;
-        flags-long = search needs;
-        levels-long = search needs;
-        flags-are = cc (flags-step (l .i - 1) (l .f) (l .r .present) h);
-        levels-are = cc (levels-step (l .i - 1) (l .f) (a .s .now) (l .r .next) (l .r .idc) h2) }
+      low = search needs;
+      byte = search needs;
+      near = search needs;
+      place = omega arith;
+      flags-long = search needs;
+      levels-long = search needs;
+      flags-are = cc (flags-step (l .i - 1) (l .f) (l .r .present) h);
+      levels-are = cc (levels-step (l .i - 1) (l .f) (a .s .now) (l .r .next) (l .r .idc) h2);
+    }
 
--- src/read.rt:48:1
 returns : tie.Need-returns Inv-loop μ-loop
 unfolding levelsLen presentFlags levelsAt
 returns c =

@@ -1,41 +1,29 @@
+-- The first byte decides on refusals 1 and 2, and the rest follows.
 use Rattle.ptl.specs.Answers.{orZeroPtl}
 use Rattle.ptl_record.proofs.Reading.{reads-none, reads-zero}
-use Prim.Native.Nat.{ℕ, zero, suc, _+_, _*_, _-_, _/_, _%_, _^_, _≤_, _<_}
-use mathlib.Core.Path.{_≡_, refl, sym, ap, _∙_, subst}
-use mathlib.Core.List.{List, [], _∷_, _++_}
-use mathlib.Core.Logic.{⊎-elim}
+use Prim.Native.Nat.{_%_, _<_}
+use mathlib.Core.Path.{_≡_, sym, ap, _∙_}
 use native.Mathlib.Omega.{arith}
-use lib.ListN.{length, getD, take, drop}
+use lib.ListN.{length, getD}
 use borrow.Author.Needs.{needs}
 use Rattle.ptl_record.proofs.read.read_ptl.Statement.{statement}
 use Rattle.ptl_record.proofs.read.read_ptl.Tie as tie
-use Rattle.ptl_record.proofs.read.read_ptl.Reads as reads
-use Rattle.ptl_record.proofs.read.read_ptl.Lts as lts
-use Rattle.boxes.proofs.place.wide.Reads as wide-reads
-use Rattle.ptl_record.proofs.read.read_behind.Reads as read-behind-reads
-use Rattle.ptl_record.proofs.read.refused.Reads as refused-reads
 
--- src/read.rt:193:9
 refused-requires : tie.Need-refused-requires
 refused-requires c κs = search needs
 
--- src/read.rt:193:9
 returns : tie.Need-returns
 returns c = c .refused .ensures ∙ ap orZeroPtl (sym (reads-none _ _ _ (c .before .if1 .taken)))
 
--- src/read.rt:195:25
 shared-slice-read-wide : tie.Need-shared-slice-read-wide
 shared-slice-read-wide c = search needs
 
--- src/read.rt:195:13
 wide-requires : tie.Need-wide-requires
 wide-requires c κs = search needs
 
--- src/read.rt:197:9
 refused-requires-2 : tie.Need-refused-requires-2
 refused-requires-2 c κs = search needs
 
--- src/read.rt:197:9
 returns-2 : tie.Need-returns-2
 returns-2 c =
     let a = c .before .before .before .before .before .before .args in
@@ -43,11 +31,9 @@ returns-2 c =
     let e : getD (a .s .now) (a .at) 0 % 64 ≡ 0 = rw (c .before .before .wide .ensures .0) at (c .before .if2 .taken) in
     c .refused2 .ensures ∙ ap orZeroPtl (sym (reads-zero (a .sublayers) (a .s .now) (a .at) h e))
 
--- src/read.rt:199:5
 read-behind-requires : tie.Need-read-behind-requires
 read-behind-requires c κs = search needs
 
--- src/read.rt:188:1
 returns-3 : tie.Need-returns-3
 returns-3 c = search needs
 

@@ -1,19 +1,14 @@
+-- The loop fills the array with one number a turn.
 use Rattle.ptl.specs.Ptl.{padded}
 use Rattle.ptl_record.specs.Places.{words}
 use Rattle.ptl_record.proofs.Arrays.{padded-none}
 use Rattle.ptl_record.proofs.Places.{words-store}
-use Prim.Native.Nat.{ℕ, zero, suc, _+_, _*_, _-_, _/_, _%_, _^_, _≤_, _<_}
-use mathlib.Core.Path.{_≡_, refl, sym, ap, _∙_, subst}
-use mathlib.Core.List.{List, [], _∷_, _++_}
-use mathlib.Core.Logic.{⊎-elim}
+use Prim.Native.Nat.{_-_, _≤_, _<_}
+use mathlib.Core.Path.{_≡_}
 use native.Mathlib.Omega.{arith}
 use borrow.Author.Needs.{needs}
-use lib.ListN.{length, getD, take, drop}
 use Rattle.ptl_record.proofs.read.read_sub_profiles.Statement.{statement}
 use Rattle.ptl_record.proofs.read.read_sub_profiles.Tie as tie
-use Rattle.ptl_record.proofs.read.read_sub_profiles.Reads as reads
-use Rattle.ptl_record.proofs.read.read_sub_profiles.Lts as lts
-use Rattle.boxes.proofs.place.number.Reads as number-reads
 
 abbrev Inv-loop : tie.InvT-loop
 Inv-loop s at n a₀ k₀ a k = (k ≤ n) × (a ≡ padded 255 0 (words k s at))
@@ -21,44 +16,34 @@ Inv-loop s at n a₀ k₀ a k = (k ≤ n) × (a ≡ padded 255 0 (words k s at))
 abbrev μ-loop : tie.MeasureT-loop
 μ-loop s at n a₀ k₀ a k = n - k
 
--- src/read.rt:77:5
 loop-holds : tie.Need-loop-holds Inv-loop μ-loop
 unfolding words
 loop-holds c = (search needs, padded-none 255 0)
 
--- src/read.rt:78:39
 mul-number : tie.Need-mul-number Inv-loop μ-loop
 mul-number c = search needs
 
--- src/read.rt:78:34
 add-number : tie.Need-add-number Inv-loop μ-loop
 add-number c = search needs
 
--- src/read.rt:78:13
 number-requires : tie.Need-number-requires Inv-loop μ-loop
 number-requires c κs = search needs
 
--- src/read.rt:79:16
 cast-a : tie.Need-cast-a Inv-loop μ-loop
 cast-a c = search needs
 
--- src/read.rt:79:9
 mul-a : tie.Need-mul-a Inv-loop μ-loop
 mul-a c = search needs
 
--- src/read.rt:79:9
 array-write-a : tie.Need-array-write-a Inv-loop μ-loop
 array-write-a c = search needs
 
--- src/read.rt:80:9
 add-k : tie.Need-add-k Inv-loop μ-loop
 add-k c = search needs
 
--- src/read.rt:77:5
 loop-less : tie.Need-loop-less Inv-loop μ-loop
 loop-less c = search needs
 
--- src/read.rt:77:5
 loop-again : tie.Need-loop-again Inv-loop μ-loop
 loop-again c =
     let l = c .before .before .loop in
@@ -66,7 +51,6 @@ loop-again c =
     let h : l .k < 255 = omega arith in
     (search needs, cc (words-store 255 (l .k) (a .s .now) (a .at) h))
 
--- src/read.rt:71:1
 returns : tie.Need-returns Inv-loop μ-loop
 returns c =
     let e : c .before .loop .k ≡ c .before .before .before .args .n = omega arith in

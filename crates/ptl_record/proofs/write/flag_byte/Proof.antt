@@ -1,18 +1,12 @@
+-- The loop shifts the flags in from the top.
 use Rattle.ptl_record.specs.Write.{flagByte}
 use Rattle.ptl_record.proofs.Writing.{flag-more}
-use Prim.Native.Nat.{ℕ, zero, suc, _+_, _*_, _-_, _/_, _%_, _^_, _≤_, _<_}
-use mathlib.Core.Path.{_≡_, refl, sym, ap, _∙_, subst}
-use mathlib.Core.List.{List, [], _∷_, _++_}
-use mathlib.Core.Logic.{⊎-elim}
+use Prim.Native.Nat.{_-_, _≤_, _<_}
+use mathlib.Core.Path.{_≡_}
 use native.Mathlib.Omega.{arith}
 use borrow.Author.Needs.{needs}
-use lib.ListN.{length, getD, take, drop}
 use Rattle.ptl_record.proofs.write.flag_byte.Statement.{statement}
 use Rattle.ptl_record.proofs.write.flag_byte.Tie as tie
-use Rattle.ptl_record.proofs.write.flag_byte.Reads as reads
-use Rattle.ptl_record.proofs.write.flag_byte.Lts as lts
-use Rattle.ptl_record.proofs.write.bit_of.Reads as bit-of-reads
-use Rattle.ptl_record.proofs.write.has_level.Reads as has-level-reads
 
 abbrev Inv-loop : tie.InvT-loop
 Inv-loop p m f₀ i₀ f i = (i ≤ m) × (f < 256) × (f ≡ flagByte p i)
@@ -20,43 +14,34 @@ Inv-loop p m f₀ i₀ f i = (i ≤ m) × (f < 256) × (f ≡ flagByte p i)
 abbrev μ-loop : tie.MeasureT-loop
 μ-loop p m f₀ i₀ f i = m - i
 
--- src/write.rt:76:5
 loop-holds : tie.Need-loop-holds Inv-loop μ-loop
 unfolding flagByte
 loop-holds c = search needs
 
--- src/write.rt:77:20
 has-level-requires : tie.Need-has-level-requires Inv-loop μ-loop
 has-level-requires c κs = search needs
 
--- src/write.rt:77:13
 bit-of-requires : tie.Need-bit-of-requires Inv-loop μ-loop
 bit-of-requires c κs = search needs
 
--- src/write.rt:77:13
 mul-f : tie.Need-mul-f Inv-loop μ-loop
 mul-f c = search needs
 
--- src/write.rt:77:13
 add-f : tie.Need-add-f Inv-loop μ-loop
 add-f c = search needs
 
--- src/write.rt:78:9
 add-i : tie.Need-add-i Inv-loop μ-loop
 add-i c = search needs
 
--- src/write.rt:76:5
 loop-less : tie.Need-loop-less Inv-loop μ-loop
 loop-less c = search needs
 
--- src/write.rt:76:5
 loop-again : tie.Need-loop-again Inv-loop μ-loop
 loop-again c =
     let l = c .before .before .before .loop in
     let a = c .before .before .before .before .args in
     (search needs, search needs, rw (flag-more (a .p) (l .i), c .bit-of .ensures .0, c .before .has-level .ensures, l .inv .2))
 
--- src/write.rt:70:1
 returns : tie.Need-returns Inv-loop μ-loop
 returns c =
     let e : c .before .loop .i ≡ c .before .before .args .m = omega arith in

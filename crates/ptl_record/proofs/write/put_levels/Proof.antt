@@ -1,19 +1,14 @@
+-- The loop stores the levels from the highest sublayer down.
 use Rattle.ptl_record.specs.Write.{levelBytes}
 use Rattle.ptl_record.proofs.Writing.{levels-more, levels-longer}
 use lib.Seq.{sets, length-sets}
-use Prim.Native.Nat.{ℕ, zero, suc, _+_, _*_, _-_, _/_, _%_, _^_, _≤_, _<_}
-use mathlib.Core.Path.{_≡_, refl, sym, ap, _∙_, subst}
-use mathlib.Core.List.{List, [], _∷_, _++_}
-use mathlib.Core.Logic.{⊎-elim}
+use Prim.Native.Nat.{suc, _+_, _-_, _≤_}
+use mathlib.Core.Path.{_≡_, sym, ap, _∙_}
 use native.Mathlib.Omega.{arith}
 use borrow.Author.Needs.{needs}
-use lib.ListN.{length, getD, take, drop}
+use lib.ListN.{length}
 use Rattle.ptl_record.proofs.write.put_levels.Statement.{statement}
 use Rattle.ptl_record.proofs.write.put_levels.Tie as tie
-use Rattle.ptl_record.proofs.write.put_levels.Reads as reads
-use Rattle.ptl_record.proofs.write.put_levels.Lts as lts
-use Rattle.ptl_record.proofs.write.has_level.Reads as has-level-reads
-use Rattle.ptl_record.proofs.write.put_level.Reads as put-level-reads
 
 abbrev Inv-loop : tie.InvT-loop
 Inv-loop out₀ at m p i₀ w₀ out i w =
@@ -22,31 +17,27 @@ Inv-loop out₀ at m p i₀ w₀ out i w =
 abbrev μ-loop : tie.MeasureT-loop
 μ-loop out₀ at m p i₀ w₀ out i w = i
 
--- src/write.rt:102:5
 loop-holds : tie.Need-loop-holds Inv-loop μ-loop
 loop-holds c = search needs
 
--- src/write.rt:103:9
-sub-i : tie.Need-sub-i Inv-loop μ-loop
-sub-i c = search needs
+sub-j : tie.Need-sub-j Inv-loop μ-loop
+sub-j c = search needs
 
--- src/write.rt:104:31
 has-level-requires : tie.Need-has-level-requires Inv-loop μ-loop
 has-level-requires c κs = search needs
 
--- src/write.rt:104:48
 element-copy-out-put-level : tie.Need-element-copy-out-put-level Inv-loop μ-loop
 element-copy-out-put-level c = search needs
 
--- src/write.rt:104:9
 put-level-requires : tie.Need-put-level-requires Inv-loop μ-loop
 put-level-requires c κs = search needs
 
--- src/write.rt:102:5
+sub-i : tie.Need-sub-i Inv-loop μ-loop
+sub-i c = search needs
+
 loop-less : tie.Need-loop-less Inv-loop μ-loop
 loop-less c = search needs
 
--- src/write.rt:102:5
 loop-again : tie.Need-loop-again Inv-loop μ-loop
 loop-again c =
     let l = c .before .before .before .before .before .before .before .loop in
@@ -61,14 +52,12 @@ loop-again c =
     let o1 = rw h at (o .1) in
     (search needs, search needs, omega (arith, levels-longer (a .t3) j), rw (o1, o0) (levels-more (a .t3) j (l .out) (l .w) ∙ w))
 
--- src/write.rt:96:1
 same-length : tie.Need-same-length Inv-loop μ-loop
 same-length c =
     let a = c .before .before .before .args in
     let l = c .before .loop in
     sym (length-sets (l .out) (l .w) (levelBytes (a .t3) (l .i))) ∙ ap length (l .inv .3) ∙ length-sets (a .out .now) (a .at) (levelBytes (a .t3) (a .m))
 
--- src/write.rt:96:1
 returns : tie.Need-returns Inv-loop μ-loop
 unfolding levelBytes
 returns c =
@@ -83,10 +72,11 @@ put-levels-spec =
     Inv-loop
     μ-loop
     loop-holds
-    sub-i
+    sub-j
     has-level-requires
     element-copy-out-put-level
     put-level-requires
+    sub-i
     loop-less
     loop-again
     same-length

@@ -1,18 +1,14 @@
+-- The loop stores one sub-profile a turn.
 use Rattle.ptl_record.specs.Write.{subProfiles}
 use Rattle.ptl_record.proofs.Writing.{subs-more}
 use lib.Seq.{sets, length-sets}
-use Prim.Native.Nat.{ℕ, zero, suc, _+_, _*_, _-_, _/_, _%_, _^_, _≤_, _<_}
-use mathlib.Core.Path.{_≡_, refl, sym, ap, _∙_, subst}
-use mathlib.Core.List.{List, [], _∷_, _++_}
-use mathlib.Core.Logic.{⊎-elim}
+use Prim.Native.Nat.{_-_, _≤_, _<_}
+use mathlib.Core.Path.{_≡_, ap, _∙_}
 use native.Mathlib.Omega.{arith}
 use borrow.Author.Needs.{needs}
-use lib.ListN.{length, getD, take, drop}
+use lib.ListN.{length, take}
 use Rattle.ptl_record.proofs.write.put_sub_profiles.Statement.{statement}
 use Rattle.ptl_record.proofs.write.put_sub_profiles.Tie as tie
-use Rattle.ptl_record.proofs.write.put_sub_profiles.Reads as reads
-use Rattle.ptl_record.proofs.write.put_sub_profiles.Lts as lts
-use Rattle.ptl_record.proofs.write.put_u32.Reads as put-u32-reads
 
 abbrev Inv-loop : tie.InvT-loop
 Inv-loop out₀ at n a k₀ out k = (k ≤ n) × (out ≡ sets out₀ at (subProfiles (take k a)))
@@ -20,40 +16,31 @@ Inv-loop out₀ at n a k₀ out k = (k ≤ n) × (out ≡ sets out₀ at (subPro
 abbrev μ-loop : tie.MeasureT-loop
 μ-loop out₀ at n a k₀ out k = n - k
 
--- src/write.rt:140:5
 loop-holds : tie.Need-loop-holds Inv-loop μ-loop
 unfolding subProfiles
 loop-holds c = search needs
 
--- src/write.rt:141:27
 mul-put-u32 : tie.Need-mul-put-u32 Inv-loop μ-loop
 mul-put-u32 c = search needs
 
--- src/write.rt:141:22
 add-put-u32 : tie.Need-add-put-u32 Inv-loop μ-loop
 add-put-u32 c = search needs
 
--- src/write.rt:141:34
 mul-put-u32-2 : tie.Need-mul-put-u32-2 Inv-loop μ-loop
 mul-put-u32-2 c = search needs
 
--- src/write.rt:141:34
 array-read-put-u32 : tie.Need-array-read-put-u32 Inv-loop μ-loop
 array-read-put-u32 c = search needs
 
--- src/write.rt:141:9
 put-u32-requires : tie.Need-put-u32-requires Inv-loop μ-loop
 put-u32-requires c κs = search needs
 
--- src/write.rt:142:9
 add-k : tie.Need-add-k Inv-loop μ-loop
 add-k c = search needs
 
--- src/write.rt:140:5
 loop-less : tie.Need-loop-less Inv-loop μ-loop
 loop-less c = search needs
 
--- src/write.rt:140:5
 loop-again : tie.Need-loop-again Inv-loop μ-loop
 loop-again c =
     let l = c .before .before .before .before .before .loop in
@@ -61,13 +48,11 @@ loop-again c =
     let h : l .k < length (a .t3) = search needs in
     (search needs, c .before .before .put-u32 .ensures ∙ rw (l .inv .1) (subs-more (a .out .now) (a .at) (l .k) (a .t3) h))
 
--- src/write.rt:135:1
 same-length : tie.Need-same-length Inv-loop μ-loop
 same-length c =
     let a = c .before .before .before .args in
     ap length (c .before .loop .inv .1) ∙ length-sets (a .out .now) (a .at) (subProfiles (take (c .before .loop .k) (a .t3)))
 
--- src/write.rt:135:1
 returns : tie.Need-returns Inv-loop μ-loop
 returns c =
     let e : c .before .loop .k ≡ c .before .before .before .args .n = omega arith in

@@ -1,0 +1,5 @@
+pub mod Output
+pub mod Copying
+pub mod RecordUnits
+pub mod ListUnits
+pub mod Stills

@@ -1,0 +1,128 @@
+-- Laws of the one unit of a still: its answers, its bytes stored piece by piece, and its header.
+use Prim.Native.Nat.{ℕ, suc, _+_, _-_, _/_, _%_, _^_, _≤_, _<_}
+use mathlib.Core.Path.{_≡_, refl, sym, ap, _∙_}
+use mathlib.Core.Bool.{Bool, true, false, _&&_}
+use mathlib.Core.Logic.{_⊎_, ⊎-elim}
+use mathlib.Core.List.{List, [], _∷_, _++_}
+use native.Mathlib.Omega.{arith}
+use lib.Dec.{eqb}
+use lib.ListN.{length, getD, set, take, drop}
+use lib.Seq.{sets, drop-cons}
+use borrow.Author.Tests.{le-leb, lt-leb, eq-eqb, ne-eqb, lt-ltb, le-ltb}
+use Rattle.error.specs.Outcome.{Outcome, accept, refuse}
+use Rattle.error.specs.Parse.{Parsed, value, refused, many}
+use Rattle.boxes.specs.Bytes.{toBe, toChunk}
+use Rattle.boxes.specs.Parts.{held}
+use Rattle.boxes.specs.Walk.{more}
+use Rattle.boxes.specs.declared.Span.{Span}
+use Rattle.boxes.proofs.Walk.{total}
+use Rattle.boxes.proofs.Many.{many-bad}
+use Rattle.boxes.proofs.Numbers.{length-toBe}
+use Rattle.boxes.proofs.Sets.{sets-append}
+use Rattle.unit_list.proofs.Accepted.{held-long}
+use Rattle.hvcc.specs.Item.{itemUnit}
+use Rattle.hvcc.specs.Answers.{leftOf}
+use Rattle.hvcc.proofs.Items.{left-step}
+use Rattle.nal.specs.Header.{nalHeader}
+use Rattle.compact.proofs.ListUnits.{and-false}
+use Rattle.compact.specs.ItemData.{stillUnit, prefixed, isStill, onlyStill}
+
+-- ### restored
+
+-- the answers, in the order of their tests
+module _ (size : ℕ) (u : List ℕ) where
+  pub prefixed-size : (size ≡ 0) ⊎ (4 < size) → prefixed size u ≡ refuse 4
+  prefixed-size = ⊎-elim (λ h. rw (eq-eqb size 0 h)) (λ h. rw (ne-eqb size 0 (λ e. omega arith), lt-ltb 4 size h))
+
+  module _ (one : 1 ≤ size) (four : size ≤ 4) where
+    pub prefixed-long : 256 ^ size ≤ length u → prefixed size u ≡ refuse 6
+    prefixed-long h = rw (ne-eqb size 0 (λ e. omega arith), le-ltb 4 size four, le-leb (256 ^ size) (length u) h)
+
+    pub prefixed-given : length u < 256 ^ size → prefixed size u ≡ accept (toChunk size u)
+    prefixed-given h = rw (ne-eqb size 0 (λ e. omega arith), le-ltb 4 size four, lt-leb (256 ^ size) (length u) h)
+
+-- the unit stored: its length, its header's two bytes, what was stored
+pub still-stored : (stored out d e f g : List ℕ) (size : ℕ) (header : List ℕ) → header ≡ nalHeader 8 0 1 → d ≡ sets out 0 (toBe size (2 + length stored))
+    → e ≡ set d size (getD header 0 0) → f ≡ set e (size + 1) (getD header 1 0) → g ≡ sets f (size + 2) stored → g ≡ sets out 0 (toChunk size (stillUnit stored))
+unfolding toChunk
+still-stored stored out d e f g size header h x y z w =
+    let one : size + 1 ≡ suc size = omega arith in
+    let two : size + 2 ≡ suc (suc size) = omega arith in
+    let l : 0 + length (toBe size (2 + length stored)) ≡ size = omega (arith, length-toBe size (2 + length stored)) in
+    let n : length (stillUnit stored) ≡ 2 + length stored = omega arith in
+    let a : sets (sets out 0 (toBe size (2 + length stored))) size (stillUnit stored) ≡ sets out 0 (toBe size (2 + length stored) ++ stillUnit stored) =
+        rw l at (sets-append out 0 (toBe size (2 + length stored)) (stillUnit stored)) in
+    w ∙ rw (two, z, one, y, x, h, n) a
+
+-- ### stripped
+
+-- a unit of one byte or none
+short-not : (u : List ℕ) → length u < 2 → isStill u ≡ false
+short-not [] h = refl
+short-not (x ∷ []) h = refl
+short-not (x ∷ y ∷ u) h = absurd (omega arith)
+
+-- a unit of two bytes or more, by the parts of its header
+module _ (x y : ℕ) (u : List ℕ) where
+  layer-not : (x % 64 ≡ 0 → ⊥) → isStill (x ∷ y ∷ u) ≡ false
+  layer-not h = rw (ne-eqb (x % 64) 0 h) (and-false (eqb (y / 8) 8))
+
+  type-not : (y / 8 ≡ 8 → ⊥) → isStill (x ∷ y ∷ u) ≡ false
+  type-not h = rw (ne-eqb (y / 8) 8 h)
+
+  temporal-not : (y % 8 ≡ 1 → ⊥) → isStill (x ∷ y ∷ u) ≡ false
+  temporal-not h = rw (ne-eqb (y % 8) 1 h, and-false (eqb (x % 64) 0)) (and-false (eqb (y / 8) 8))
+
+  is-still : x % 64 ≡ 0 → y / 8 ≡ 8 → y % 8 ≡ 1 → isStill (x ∷ y ∷ u) ≡ true
+  is-still h k l = rw (eq-eqb (x % 64) 0 h, eq-eqb (y / 8) 8 k, eq-eqb (y % 8) 1 l)
+
+module _ (item : List ℕ) (a : Span) (inside : a .start + a .len ≤ length item) where
+  pub one-short : a .len < 2 → refuse 24 ≡ onlyStill item (accept (a ∷ []))
+  one-short h = let l = held-long item a inside in rw (short-not (held item a) (omega arith))
+
+  module _ (two : 2 ≤ a .len) where
+    -- the header's two bytes, and what follows them
+    held-header : held item a ≡ getD item (a .start) 0 ∷ getD item (a .start + 1) 0 ∷ held item (record { start = a .start + 2; len = a .len - 2 })
+    held-header =
+        let n : a .len ≡ suc (suc (a .len - 2)) = omega arith in
+        let one : a .start + 1 ≡ suc (a .start) = omega arith in
+        let next : a .start + 2 ≡ suc (suc (a .start)) = omega arith in
+        ap (λ (k : ℕ). take k (drop (a .start) item)) n
+        ∙ rw (one, next, drop-cons item (a .start) 0 (omega arith), drop-cons item (suc (a .start)) 0 (omega arith))
+
+    not-still : isStill (getD item (a .start) 0 ∷ getD item (a .start + 1) 0 ∷ held item (record { start = a .start + 2; len = a .len - 2 })) ≡ false
+        → refuse 24 ≡ onlyStill item (accept (a ∷ []))
+    not-still h = rw (held-header, h)
+
+    pub one-layer : (getD item (a .start) 0 % 64 ≡ 0 → ⊥) → refuse 24 ≡ onlyStill item (accept (a ∷ []))
+    one-layer h = not-still (layer-not _ _ _ h)
+
+    pub one-type : (getD item (a .start + 1) 0 / 8 ≡ 8 → ⊥) → refuse 24 ≡ onlyStill item (accept (a ∷ []))
+    one-type h = not-still (type-not _ _ _ h)
+
+    pub one-temporal : (getD item (a .start + 1) 0 % 8 ≡ 1 → ⊥) → refuse 24 ≡ onlyStill item (accept (a ∷ []))
+    one-temporal h = not-still (temporal-not _ _ _ h)
+
+    pub one-still : getD item (a .start) 0 % 64 ≡ 0 → getD item (a .start + 1) 0 / 8 ≡ 8 → getD item (a .start + 1) 0 % 8 ≡ 1
+        → accept (held item (record { start = a .start + 2; len = a .len - 2 })) ≡ onlyStill item (accept (a ∷ []))
+    one-still h k l =
+        rw (held-header, is-still (getD item (a .start) 0) (getD item (a .start + 1) 0) (held item (record { start = a .start + 2; len = a .len - 2 })) h k l)
+
+-- no unit, one that ends before the item does, and the only one
+module _ (size : ℕ) (item : List ℕ) where
+  pub none-still : (o : Outcome (List Span)) → total o ≡ 0 → refuse 24 ≡ onlyStill item o
+  none-still (accept []) e = refl
+  none-still (accept (a ∷ us)) e = absurd (omega arith)
+  none-still (refuse n) e = refl
+
+  several : (a b : Span) (o : Outcome (List Span)) → refuse 24 ≡ onlyStill item (more a (more b o))
+  several a b (accept us) = refl
+  several a b (refuse n) = refl
+
+  pub more-behind : (a : Span) (p : ℕ) → p < length item → refuse 24 ≡ onlyStill item (more a (leftOf size item p))
+  unfolding leftOf
+  more-behind a p h = go (itemUnit size item p) refl
+    where
+      go : (x : Parsed Span) → itemUnit size item p ≡ x → refuse 24 ≡ onlyStill item (more a (leftOf size item p))
+      go (refused n) e = rw (many-bad (itemUnit size) item p n h e)
+      go (value b q) e = several a b (leftOf size item q) ∙ ap (λ (o : Outcome (List Span)). onlyStill item (more a o)) (sym (left-step size item p b q h e))

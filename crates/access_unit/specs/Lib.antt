@@ -1,2 +1,3 @@
 pub mod AccessUnit
 pub mod Answers
+pub mod Inside

@@ -25,6 +25,13 @@ module _ (w : ℕ) (s : List ℕ) (a : Span) (inside : a .start + a .len ≤ len
   unfolding encodeUnits
   room-more us = length-append (toChunk w (held s a)) (unitBytes w s us) ∙ rw unit-room
 
+pub copies-room : (w : ℕ) (s : List ℕ) (o : Outcome (List Span)) (out : List ℕ) (to : ℕ) → Copies w s o out to → to + length (foundBytes w s o) ≤ length out
+copies-room w s o out to h = let l = ap (λ (x : Outcome (List Span)). length (foundBytes w s x)) (h .found) in omega (arith, h .fits)
+
+-- the same in other output of that length
+pub copies-on : (w : ℕ) (s : List ℕ) (o : Outcome (List Span)) (out d : List ℕ) (to : ℕ) → Copies w s o out to → length d ≡ length out → Copies w s o d to
+copies-on w s o out d to h e = record { units = h .units; found = h .found; fits = omega (arith, h .fits) }
+
 module _ (w : ℕ) (s out₀ : List ℕ) (to₀ : ℕ) (o₀ : Outcome (List Span)) where
   -- the walk has come to where o is left, to be stored from place `to` of the output on
   pub record Copying (o : Outcome (List Span)) (out : List ℕ) (to : ℕ) : Type 0 where

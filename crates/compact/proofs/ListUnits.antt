@@ -2,27 +2,35 @@
 use Prim.Native.Nat.{ℕ, _+_, _-_, _*_, _^_, _≤_, _<_}
 use mathlib.Core.Path.{_≡_, refl, sym, ap, _∙_, subst}
 use mathlib.Core.Bool.{Bool, true, false, _&&_}
-use mathlib.Core.Logic.{_⊎_, ⊎-elim}
+use mathlib.Core.Logic.{_⊎_, ⊎-elim, inl, inr}
 use mathlib.Core.List.{List, [], _∷_, map}
 use native.Mathlib.Omega.{arith}
 use lib.Dec.{leb}
-use lib.ListN.{length, set}
+use lib.ListN.{length, set, length-map}
 use lib.Seq.{sets}
 use borrow.Author.Tests.{le-leb, lt-leb, eq-eqb, ne-eqb, lt-ltb, le-ltb}
 use Rattle.error.specs.Outcome.{Outcome, accept, refuse, andThen}
+use Rattle.error.specs.Refusals.{numberOf}
+use Rattle.error.specs.declared.Refusal.{Refusal}
 use Rattle.boxes.specs.Parts.{held}
 use Rattle.boxes.specs.Walk.{more}
 use Rattle.boxes.specs.declared.Span.{Span}
 use Rattle.unit_list.specs.UnitList.{encodeUnits}
-use Rattle.unit_list.specs.Walk.{TypedUnit, leftOf, stepped, Fits, Passed, StepFits}
+use Rattle.unit_list.specs.Walk.{TypedUnit, typedList, leftOf, started, stepped, Fits, Passed, StepFits}
 use Rattle.unit_list.specs.Find.{wantedUnits, wantedOf}
 use Rattle.unit_list.specs.declared.ListCursor.{ListCursor}
+use Rattle.unit_list.specs.declared.ListStart.{ListStart}
+use Rattle.unit_list.specs.declared.ListStart.the-variants as S
 use Rattle.unit_list.specs.declared.ListStep.{ListStep}
 use Rattle.unit_list.specs.declared.ListStep.the-variants as L
 use Rattle.unit_list.specs.declared.Wanted.the-variants.{Every}
+use types.Run.{OneOf}
+use denote.Enum.Declared.{tagOf}
+use Rattle.unit_list.proofs.ListStep.{the-type}
 use Rattle.unit_list.proofs.Accepted.{held-long}
-use Rattle.compact.specs.Compact.{allAtMost, compactBytes, bit}
-use Rattle.compact.specs.Inside.{unitBytes, adding, addingAll, summed, nothing, unitsLeft, recordOf}
+use Rattle.unit_list.proofs.Units.{list-every}
+use Rattle.compact.specs.Compact.{allAtMost, compactBytes, bit, serializeCompact}
+use Rattle.compact.specs.Inside.{unitBytes, foundBytes, Copies, adding, addingAll, summed, nothing, unitsLeft, firstByte, recordOf}
 use Rattle.compact.specs.declared.CompactVvcConfig.{CompactVvcConfig}
 use Rattle.compact.specs.declared.list_units.UnitSum.{UnitSum}
 use Rattle.compact.proofs.Copying.{room-more}
@@ -56,6 +64,14 @@ module _ (s : List ℕ) (here : ListCursor) (r : ListStep) (f : (stepped s r ≡
 
     pub unit-within : a .start + a .len ≤ length s
     unit-within = omega (arith, passed .1 .next, next-fits .before, next-fits .within)
+
+-- a step that found no unit
+pub left-none : (s : List ℕ) (here : ListCursor) (r : ListStep) → stepped s r ≡ leftOf s here → OneOf (1 ∷ 2 ∷ []) (tagOf the-type r)
+    → (unitsLeft s here ≡ accept []) ⊎ (unitsLeft s here ≡ refuse 21)
+unfolding wantedUnits
+left-none s here (L.Unit a next) e k = absurd (⊎-elim (λ h. omega arith) (λ h. omega arith) k)
+left-none s here L.End e k = inl (ap (wantedOf Every) (sym e))
+left-none s here L.Malformed e k = inr (ap (wantedOf Every) (sym e))
 
 -- ### measured
 
@@ -99,6 +115,40 @@ pub record Summing (s : List ℕ) (c here : ListCursor) (v : UnitSum) : Type 0 w
   pub few : v .count + v .room ≤ here .at
   pub whole : summed s v (unitsLeft s here) ≡ summed s nothing (unitsLeft s c)
 
+module _ (s : List ℕ) (c : ListCursor) where
+  pub summing-start : Fits s c → Summing s c c nothing
+  summing-start h = record { fits = h; few = omega arith; whole = refl }
+
+  module _ (here : ListCursor) (v : UnitSum) (i : Summing s c here v) (r : ListStep) (f : (stepped s r ≡ leftOf s here) × StepFits s here r) where
+    pub summing-end : r ≡ L.End → (accept v ≡ summed s nothing (unitsLeft s c)) × (v .room ≤ 2 ^ 32)
+    summing-end e =
+        (ap accept (sym (adding-none s v)) ∙ ap (summed s v) (sym (left-end s here r f e)) ∙ i .whole,
+        omega (arith, i .few, i .fits .before, i .fits .within, i .fits .lent))
+
+    pub summing-malformed : r ≡ L.Malformed → refuse 21 ≡ summed s nothing (unitsLeft s c)
+    summing-malformed e = ap (summed s v) (sym (left-malformed s here r f e)) ∙ i .whole
+
+    module _ (a : Span) (next : ListCursor) (e : r ≡ L.Unit a next) where
+      pub summing-room : v .count + v .room + a .len < 2 ^ 32
+      summing-room =
+          let n = next-fits s here r f a next e in
+          omega (arith, i .few, next-ahead s here r f a next e, n .before, n .within, n .lent)
+
+      pub summing-less : length s - next .at < length s - here .at
+      summing-less =
+          let n = next-fits s here r f a next e in
+          omega (arith, next-ahead s here r f a next e, n .before, n .within)
+
+      pub summing-again : Summing s c next (adding (a .len) v)
+      summing-again =
+          record {
+            fits = next-fits s here r f a next e;
+            few = omega (arith, i .few, next-ahead s here r f a next e);
+            whole =
+                summed-more s a (unit-within s here r f a next e) v (unitsLeft s next)
+                ∙ ap (summed s v) (sym (left-next s here r f a next e)) ∙ i .whole
+          }
+
 -- what is known of a list once it is measured
 pub record Sum (s : List ℕ) (o : Outcome (List Span)) (v : UnitSum) : Type 0 where
   pub units : List Span
@@ -123,6 +173,10 @@ pub sum-refused : (s : List ℕ) (o : Outcome (List Span)) (n : ℕ) → refuse 
 sum-refused s (accept us) n e = absurd (let z : _≡_ {A = ℕ} 0 1 = cc in omega arith)
 sum-refused s (refuse m) n e = let z : m ≡ n = cc in ap refuse z
 
+-- the record stored: its first byte, then its units
+pub record-stored : (out d e us : List ℕ) (b k : ℕ) → b ≡ k → d ≡ set out 0 b → e ≡ sets d 1 us → e ≡ sets out 0 (k ∷ us)
+record-stored out d e us b k h f g = g ∙ rw (f, h)
+
 -- ### the record's answers, in the order of their tests
 
 module _ (c : CompactVvcConfig) (us : List (List ℕ)) where
@@ -146,3 +200,51 @@ module _ (c : CompactVvcConfig) (us : List (List ℕ)) where
           → compactBytes c us ≡ accept ((bit (c .«multi_layer_flag») * 128 + (c .«length_size» - 1) * 32 + (length us - 2)) ∷ encodeUnits 1 us)
       unfolding compactBytes
       bytes-given h = rw (ne-eqb (c .«length_size») 0 (λ e. omega arith), le-ltb 4 (c .«length_size») four, le-leb 2 (length us) two, le-leb (length us) 33 most, h)
+
+-- the same of a list that is measured
+module _ (c : CompactVvcConfig) (s : List ℕ) (o : Outcome (List Span)) (v : UnitSum) (m : Sum s o v) where
+  of-units : recordOf c s o ≡ compactBytes c (map (held s) (m .units))
+  of-units = ap (recordOf c s) (m .found)
+
+  units-long : length (map (held s) (m .units)) ≡ v .count
+  units-long = length-map (m .units) (held s) ∙ sym (m .count)
+
+  pub record-room : length (firstByte c (v .count) ∷ foundBytes 1 s o) ≡ 1 + v .room
+  record-room = let l = ap (λ (x : Outcome (List Span)). length (foundBytes 1 s x)) (m .found) in omega (arith, m .room)
+
+  pub record-copies : (out : List ℕ) → 1 + v .room ≤ length out → Copies 1 s o out 1
+  record-copies out h = record { units = m .units; found = m .found; fits = omega (arith, m .room) }
+
+  pub record-size : (c .«length_size» ≡ 0) ⊎ (4 < c .«length_size») → recordOf c s o ≡ refuse 4
+  record-size h = of-units ∙ bytes-size c (map (held s) (m .units)) h
+
+  module _ (one : 1 ≤ c .«length_size») (four : c .«length_size» ≤ 4) where
+    pub record-count : (v .count < 2) ⊎ (33 < v .count) → recordOf c s o ≡ refuse 8
+    record-count h =
+        let l = units-long in
+        of-units ∙ bytes-count c (map (held s) (m .units)) one four (⊎-elim (λ g. inl (omega arith)) (λ g. inr (omega arith)) h)
+
+    module _ (two : 2 ≤ v .count) (most : v .count ≤ 33) where
+      pub record-long : v .fits ≡ false → recordOf c s o ≡ refuse 9
+      record-long h =
+          let l = units-long in
+          of-units ∙ bytes-long c (map (held s) (m .units)) one four (omega arith) (omega arith) (sym (m .fits) ∙ h)
+
+      pub record-given : v .fits ≡ true → recordOf c s o ≡ accept (firstByte c (v .count) ∷ foundBytes 1 s o)
+      record-given h =
+          let l = units-long in
+          of-units ∙ bytes-given c (map (held s) (m .units)) one four (omega arith) (omega arith) (sym (m .fits) ∙ h)
+          ∙ rw (l, m .found)
+
+-- the whole list, from its start
+module _ (c : CompactVvcConfig) (s : List ℕ) (r : ListStart) (f : started s r ≡ typedList s) where
+  pub serialize-start : (d : ListCursor) → r ≡ S.At d → recordOf c s (unitsLeft s d) ≡ serializeCompact c s
+  unfolding serializeCompact
+  serialize-start d e =
+      ap (λ (o : Outcome (List TypedUnit)). recordOf c s (wantedOf Every o)) (sym (ap (started s) e) ∙ f) ∙ ap (recordOf c s) (list-every s)
+
+  pub serialize-refused : (e : Refusal) → r ≡ S.Refused e → serializeCompact c s ≡ refuse (numberOf e)
+  unfolding serializeCompact
+  serialize-refused n e =
+      sym (ap (recordOf c s) (list-every s))
+      ∙ ap (λ (o : Outcome (List TypedUnit)). recordOf c s (wantedOf Every o)) (sym (sym (ap (started s) e) ∙ f))

@@ -78,6 +78,10 @@ pub times-done : (s : List ℕ) (n p : ℕ) → n ≤ 0 → times n (chunk 1) s 
 times-done s zero p h = times-nil (chunk 1) s p
 times-done s (suc n) p h = absurd (omega arith)
 
+pub measured-done : (s : List ℕ) (n p : ℕ) → value n p ≡ measured s n (value [] p)
+unfolding encodeUnits
+measured-done s n p = ap (λ (k : ℕ). value k p) (omega arith)
+
 -- what a measurement says
 pub record Measured (s : List ℕ) (x : Parsed (List Span)) (room behind : ℕ) : Type 0 where
   pub units : List Span

@@ -95,13 +95,13 @@ module _ (item : List ℕ) (a : Span) (inside : a .start + a .len ≤ length ite
     not-still h = rw (held-header, h)
 
     pub one-layer : (getD item (a .start) 0 % 64 ≡ 0 → ⊥) → refuse 24 ≡ onlyStill item (accept (a ∷ []))
-    one-layer h = not-still (layer-not _ _ _ h)
+    one-layer h = not-still (layer-not (getD item (a .start) 0) (getD item (a .start + 1) 0) (held item (record { start = a .start + 2; len = a .len - 2 })) h)
 
     pub one-type : (getD item (a .start + 1) 0 / 8 ≡ 8 → ⊥) → refuse 24 ≡ onlyStill item (accept (a ∷ []))
-    one-type h = not-still (type-not _ _ _ h)
+    one-type h = not-still (type-not (getD item (a .start) 0) (getD item (a .start + 1) 0) (held item (record { start = a .start + 2; len = a .len - 2 })) h)
 
     pub one-temporal : (getD item (a .start + 1) 0 % 8 ≡ 1 → ⊥) → refuse 24 ≡ onlyStill item (accept (a ∷ []))
-    one-temporal h = not-still (temporal-not _ _ _ h)
+    one-temporal h = not-still (temporal-not (getD item (a .start) 0) (getD item (a .start + 1) 0) (held item (record { start = a .start + 2; len = a .len - 2 })) h)
 
     pub one-still : getD item (a .start) 0 % 64 ≡ 0 → getD item (a .start + 1) 0 / 8 ≡ 8 → getD item (a .start + 1) 0 % 8 ≡ 1
         → accept (held item (record { start = a .start + 2; len = a .len - 2 })) ≡ onlyStill item (accept (a ∷ []))

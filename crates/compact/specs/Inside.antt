@@ -1,5 +1,5 @@
 -- What the functions inside this crate say: units measured and stored, and the one unit of a still.
-use Prim.Native.Nat.{ℕ, _+_, _/_, _%_, _≤_}
+use Prim.Native.Nat.{ℕ, _+_, _-_, _*_, _/_, _%_, _^_, _≤_}
 use mathlib.Core.Path.{_≡_}
 use mathlib.Core.Bool.{Bool, true, _&&_}
 use mathlib.Core.List.{List, [], map}
@@ -15,7 +15,7 @@ use Rattle.unit_list.specs.Walk.{leftOf}
 use Rattle.unit_list.specs.Find.{wantedOf}
 use Rattle.unit_list.specs.declared.ListCursor.{ListCursor}
 use Rattle.unit_list.specs.declared.Wanted.the-variants.{Every}
-use Rattle.compact.specs.Compact.{oneArray, allAtMost, compactBytes}
+use Rattle.compact.specs.Compact.{oneArray, allAtMost, bit, compactBytes}
 use Rattle.compact.specs.declared.CompactVvcConfig.{CompactVvcConfig}
 use Rattle.compact.specs.declared.record_units.UnitsRoom.{UnitsRoom}
 use Rattle.compact.specs.declared.record_units.UnitsRoom.the-variants as R
@@ -53,6 +53,11 @@ abbrev pub roomOf : UnitsRoom → Parsed ℕ
 roomOf (R.Room n p) = value n p
 roomOf R.Short = refused 1
 
+-- it is small
+abbrev pub RoomFits : UnitsRoom → Type 0
+RoomFits (R.Room n p) = n ≤ 2 ^ 32
+RoomFits R.Short = Unit {0}
+
 -- the list of units that were found
 abbrev pub foundList : List ℕ → Outcome (List Span) → List ℕ
 foundList s (accept us) = oneArray (map (held s) us)
@@ -84,6 +89,14 @@ nothing = record { count = 0; room = 0; fits = true }
 abbrev pub sumOf : ListSum → Outcome UnitSum
 sumOf (L.Sum v) = accept v
 sumOf L.Malformed = refuse 21
+
+abbrev pub SumFits : ListSum → Type 0
+SumFits (L.Sum v) = v .room ≤ 2 ^ 32
+SumFits L.Malformed = Unit {0}
+
+-- the first byte of the compact record of n units
+abbrev pub firstByte : CompactVvcConfig → ℕ → ℕ
+firstByte c n = bit (c .«multi_layer_flag») * 128 + (c .«length_size» - 1) * 32 + (n - 2)
 
 -- the compact record of the units that were found in a list
 abbrev pub recordOf : CompactVvcConfig → List ℕ → Outcome (List Span) → Outcome (List ℕ)

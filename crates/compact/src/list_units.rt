@@ -8,14 +8,14 @@ use unit_list::ListStep;
 use unit_list::walk;
 
 ghost use mathlib.Core.Path.{_≡_};
-ghost use Prim.Native.Nat.{_+_, _-_, _*_, _≤_, _<_, _^_};
+ghost use mathlib.Core.List.{_∷_};
+ghost use Prim.Native.Nat.{_+_, _≤_, _<_, _^_};
 ghost use lib.ListN.{length};
 ghost use lib.Seq.{sets};
 ghost use Rattle.error.specs.Outcome.{lentOutput, counted};
 ghost use Rattle.error.specs.Answers.{writtenOf};
 ghost use Rattle.unit_list.specs.Walk.{Fits};
-ghost use Rattle.compact.specs.Compact.{bit};
-ghost use Rattle.compact.specs.Inside.{adding, summed, nothing, sumOf, unitsLeft, Copies, foundBytes, recordOf};
+ghost use Rattle.compact.specs.Inside.{adding, summed, nothing, sumOf, SumFits, unitsLeft, Copies, foundBytes, firstByte, recordOf};
 
 // The units seen so far: how many, the bytes that they take behind lengths of one byte, and whether all fit such a length.
 pub struct UnitSum {
@@ -47,7 +47,7 @@ fn add(sum: UnitSum, len: usize) -> UnitSum
 // Measures the units behind a cursor.
 fn units_sum(list: &[u8], c: ListCursor) -> ListSum
     requires { ⌜ Fits (now list) c ⌝ }
-    ensures { λ r. ⌜ sumOf r ≡ summed (now (list .entry)) nothing (unitsLeft (now (list .entry)) c) ⌝ }
+    ensures { λ r. ⌜ (sumOf r ≡ summed (now (list .entry)) nothing (unitsLeft (now (list .entry)) c)) × SumFits r ⌝ }
 {
     let mut here = c;
     let mut sum = UnitSum { count: 0, room: 0, fits: true };
@@ -83,13 +83,23 @@ fn put_units(list: &[u8], c: ListCursor, out: &mut [u8], to: usize)
 // The first byte of a record: the flag, the prefix size minus 1, the unit count minus 2.
 fn first_byte(config: CompactVvcConfig, count: usize) -> u8
     requires { ⌜ (1 ≤ config .«length_size») × (config .«length_size» ≤ 4) × (2 ≤ count) × (count ≤ 33) ⌝ }
-    ensures { λ r. ⌜ r ≡ bit (config .«multi_layer_flag») * 128 + (config .«length_size» - 1) * 32 + (count - 2) ⌝ }
+    ensures { λ r. ⌜ r ≡ firstByte config count ⌝ }
 {
     let low = (config.length_size - 1) * 32 + (count - 2) as u8;
     if config.multi_layer_flag {
         return 128 + low;
     }
     low
+}
+
+// Stores the record of `count` units behind a cursor: the first byte, the units.
+fn store_record(config: CompactVvcConfig, count: usize, list: &[u8], c: ListCursor, out: &mut [u8])
+    requires { ⌜ (1 ≤ config .«length_size») × (config .«length_size» ≤ 4) × (2 ≤ count) × (count ≤ 33) × Fits (now list) c × Copies 1 (now list) (unitsLeft (now list) c) (now out) 1 ⌝ }
+    ensures { λ _. ⌜ now (out .exit) ≡ sets (now (out .entry)) 0 (firstByte config count ∷ foundBytes 1 (now (list .entry)) (unitsLeft (now (list .entry)) c)) ⌝ }
+{
+    let first = first_byte(config, count);
+    place::put(out, 0, first);
+    put_units(list, c, out, 1);
 }
 
 // The record of the units behind a cursor. Refusals: 21, 4, 8, 9, 20.
@@ -113,8 +123,6 @@ pub fn put_record(config: CompactVvcConfig, list: &[u8], c: ListCursor, out: &mu
     if out.len() < len {
         return Written::Refused(Refusal::BufferTooShort);
     }
-    let first = first_byte(config, sum.count);
-    place::put(out, 0, first);
-    put_units(list, c, out, 1);
+    store_record(config, sum.count, list, c, out);
     Written::Bytes(len)
 }

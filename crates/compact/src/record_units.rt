@@ -10,7 +10,7 @@ ghost use Prim.Native.Nat.{_≤_, _^_};
 ghost use lib.ListN.{length};
 ghost use lib.Seq.{sets};
 ghost use Rattle.error.specs.Parse.{outcome};
-ghost use Rattle.compact.specs.Inside.{recordUnits, measured, roomOf, Copies, foundBytes, foundList, configOf};
+ghost use Rattle.compact.specs.Inside.{recordUnits, measured, roomOf, RoomFits, Copies, foundBytes, foundList, configOf};
 
 // How many bytes the units take in a list, and the place behind them in the record; or that they are not all there.
 pub enum UnitsRoom {
@@ -30,7 +30,7 @@ pub fn config_of(first: u8) -> CompactVvcConfig
 // Measures `count` units.
 pub fn units_room(record: &[u8], count: usize) -> UnitsRoom
     requires { ⌜ (1 ≤ length (now «record»)) × (length (now «record») ≤ 2 ^ 30) ⌝ }
-    ensures { λ r. ⌜ roomOf r ≡ measured (now («record» .entry)) 0 (recordUnits (now («record» .entry)) count) ⌝ }
+    ensures { λ r. ⌜ (roomOf r ≡ measured (now («record» .entry)) 0 (recordUnits (now («record» .entry)) count)) × RoomFits r ⌝ }
 {
     let mut left = count;
     let mut at: usize = 1;

@@ -12,7 +12,7 @@ use Rattle.rbsp.specs.Front.{Front}
 use Rattle.rbsp.proofs.Numbers.{u-read}
 use Rattle.rbsp.proofs.Local.{Local, local-u, local-ue, local-align, local-give, local-refusing, local-more, local-if, local-refuse-if, local-bind, local-bind-of}
 use Rattle.rbsp.proofs.Filling.{front-part}
-use Rattle.ptl.proofs.Look.{local-ptl}
+use Rattle.ptl.proofs.Local.{local-ptl}
 use Rattle.ptl.specs.Ptl.{zeroPtl}
 use Rattle.params.specs.Heads.{window, noWindow, spsHead, vpsPtl, opiPoint}
 

@@ -4,7 +4,6 @@ use Prim.Native.Nat.{ℕ}
 use Rattle.error.specs.Parse.{Parsed, value, refused, bind}
 use Rattle.error.specs.Refusals.{numberOf}
 use Rattle.error.specs.declared.Refusal.{Refusal}
-use Rattle.rbsp.specs.declared.BitPosition.{BitPosition}
 use Rattle.ptl.specs.Answers.{readOf, ptlOf, orZeroPtl}
 use Rattle.ptl.specs.Sections.{partOf}
 use Rattle.ptl.specs.declared.PtlAnswer.{PtlAnswer}
@@ -13,10 +12,6 @@ use Rattle.ptl.specs.declared.PtlBits.{PtlBits}
 use Rattle.ptl.specs.declared.VvcPtlRecord.{VvcPtlRecord}
 use Rattle.ptl.proofs.Parts.{ended-part}
 use Rattle.params.specs.Sections.{partRefusal}
-
--- what the answer says of the part
-pub part-told : {A : Type 0} {x : Parsed A} {r : PtlAnswer} {q : BitPosition} (a : A) → partOf r a ≡ x → r ≡ Read q → x ≡ value a (q .0)
-part-told a h e = sym h ∙ ap (λ s. partOf s a) e
 
 -- the part was refused, and the chain ends with its number
 pub ended-with : {A B : Type 0} {x : Parsed A} {r : PtlAnswer} {e n : Refusal} (a : A) (f : A → ℕ → Parsed B) → partOf r a ≡ x → r ≡ Refused e → n ≡ partRefusal r → bind x f ≡ refused (numberOf n)

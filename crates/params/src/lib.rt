@@ -112,5 +112,8 @@ pub fn opi_ols_idx(nal: &[u8]) -> OlsIdx
     if 0x4000_0000 < nal.len() {
         return OlsIdx::Refused(Refusal::InputTooLong);
     }
-    opi::ols_idx(nal)
+    if nal.len() < 2 {
+        return OlsIdx::Absent;
+    }
+    opi::parse_payload(&nal[2..])
 }

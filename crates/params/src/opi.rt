@@ -1,4 +1,4 @@
-// For the crates further down: an OPI's operating point, where the unit is within the bounds already.
+// For the crates further down: an OPI's operating point from the first bytes of its RBSP.
 use super::OlsIdx;
 use rbsp::BitPosition;
 use rbsp::BitsRead;
@@ -7,7 +7,8 @@ ghost use mathlib.Core.Path.{_≡_};
 ghost use Prim.Native.Nat.{_≤_};
 ghost use lib.ListN.{length};
 ghost use Rattle.error.specs.Outcome.{accept};
-ghost use Rattle.params.specs.Heads.{whereRead, opiPoint, opiOlsIdx};
+ghost use Rattle.rbsp.specs.Rbsp.{rbsp};
+ghost use Rattle.params.specs.Heads.{whereRead, opiPoint};
 ghost use Rattle.params.specs.Answers.{olsIdxOf};
 
 // The operating point from the first bytes of an OPI's RBSP.
@@ -33,14 +34,11 @@ fn parse_rbsp(rbsp: &[u8]) -> OlsIdx
     OlsIdx::Present(idx)
 }
 
-// The operating point of an OPI unit: two flags and a code of at most 63 bits, so 9 bytes of the RBSP are enough.
-pub fn ols_idx(nal: &[u8]) -> OlsIdx
-    ensures { λ r. ⌜ olsIdxOf r ≡ accept (opiOlsIdx (now (nal .entry))) ⌝ }
+// The operating point from an OPI's payload: two flags and a code of at most 63 bits, so 9 bytes of its RBSP are enough.
+pub fn parse_payload(payload: &[u8]) -> OlsIdx
+    ensures { λ r. ⌜ olsIdxOf r ≡ accept (whereRead (opiPoint (rbsp (now (payload .entry))) 0)) ⌝ }
 {
-    if nal.len() < 2 {
-        return OlsIdx::Absent;
-    }
     let mut buf = [0u8; 9];
-    let n = rbsp::fill::fill_rbsp(&nal[2..], &mut buf);
+    let n = rbsp::fill::fill_rbsp(payload, &mut buf);
     parse_rbsp(&buf[..n])
 }

@@ -138,7 +138,7 @@ fn read_ptl(rbsp: &[u8], at: BitPosition, present: bool, s: u8) -> PtlBits
     ensures { λ r. ⌜ partOf (r .answer) (r .ptl) ≡ ptlWhere present s (now (rbsp .entry)) (at .0) ⌝ }
 {
     if present {
-        return ptl::bits::parse_ptl(rbsp, at, s as usize);
+        return ptl::bits::parse_ptl(rbsp, at, s);
     }
     let answer = PtlAnswer::Read(at);
     let zeros = ptl::bits::zero_ptl();

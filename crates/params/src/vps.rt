@@ -60,7 +60,7 @@ fn parse_rbsp(rbsp: &[u8]) -> PtlRead
         return no_ptl(bits::refusal(r4));
     };
     let start = bits::align(p4);
-    let r5 = ptl::bits::parse_ptl(rbsp, start, s as usize);
+    let r5 = ptl::bits::parse_ptl(rbsp, start, s as u8);
     let a5 = r5.answer;
     let answer = params_answer(a5);
     let ptl_read = r5.ptl;

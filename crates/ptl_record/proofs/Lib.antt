@@ -6,3 +6,4 @@ pub mod Standing
 pub mod AsWritten
 pub mod RoundTrip
 pub mod Answers
+pub mod Examples

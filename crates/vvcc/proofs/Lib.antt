@@ -4,3 +4,5 @@ pub mod Premises
 pub mod Units
 pub mod Carried
 pub mod Expansion
+pub mod Path
+pub mod Record

@@ -1,27 +1,39 @@
-use Prim.Native.Nat.{ℕ, zero, suc, _+_, _*_, _-_, _/_, _%_, _^_, _≤_, _<_}
-use mathlib.Core.Path.{_≡_, refl, sym, ap, _∙_, subst}
-use mathlib.Core.List.{List, [], _∷_, _++_}
-use mathlib.Core.Logic.{⊎-elim}
-use native.Mathlib.Omega.{arith}
-use lib.ListN.{length, getD, take, drop}
+-- `opi_ols_idx` tests the length, and reads the payload.
+use mathlib.Core.Path.{_∙_}
+use Rattle.params.proofs.Units.{opi-long, opi-short, opi-read}
 use borrow.Author.Needs.{needs}
 use Rattle.params.proofs.opi_ols_idx.Statement.{statement}
 use Rattle.params.proofs.opi_ols_idx.Tie as tie
-use Rattle.params.proofs.opi_ols_idx.Reads as reads
-use Rattle.params.proofs.opi_ols_idx.Lts as lts
-use Rattle.params.proofs.opi.ols_idx.Reads as ols-idx-reads
 
--- src/lib.rt:113:9
 returns : tie.Need-returns
-returns c = search needs
+returns c = opi-long (c .before .before .args .nal .now) (c .if1 .taken)
 
--- src/lib.rt:115:5
-ols-idx-requires : tie.Need-ols-idx-requires
-ols-idx-requires c κs = search needs
-
--- src/lib.rt:109:1
 returns-2 : tie.Need-returns-2
-returns-2 c = search needs
+returns-2 c = opi-short (c .before .before .before .args .nal .now) (c .if2 .taken)
+
+sub-parse-payload : tie.Need-sub-parse-payload
+sub-parse-payload c = search needs
+
+part-parse-payload-start : tie.Need-part-parse-payload-start
+part-parse-payload-start c = search needs
+
+part-parse-payload-end : tie.Need-part-parse-payload-end
+part-parse-payload-end c = search needs
+
+parse-payload-requires : tie.Need-parse-payload-requires
+parse-payload-requires c κs = search needs
+
+returns-3 : tie.Need-returns-3
+returns-3 c = c .parse-payload .ensures ∙ opi-read (c .before .before .before .before .before .args .nal .now) (c .before .before .before .if1 .left)
 
 pub opi-ols-idx-spec : {M : Type 1} → statement M
-opi-ols-idx-spec = tie.close (tie.spec returns ols-idx-requires returns-2)
+opi-ols-idx-spec =
+    tie.close
+    (tie.spec
+    returns
+    returns-2
+    sub-parse-payload
+    part-parse-payload-start
+    part-parse-payload-end
+    parse-payload-requires
+    returns-3)

@@ -1,81 +1,101 @@
-use Prim.Native.Nat.{ℕ, zero, suc, _+_, _*_, _-_, _/_, _%_, _^_, _≤_, _<_}
+-- `CompactVvcConfig::parse` reads a record and leaves the list of its units, or gives the refusal that comes first.
+use Prim.Native.Nat.{ℕ, _+_, _%_, _^_, _≤_, _<_}
 use mathlib.Core.Path.{_≡_, refl, sym, ap, _∙_, subst}
-use mathlib.Core.List.{List, [], _∷_, _++_}
-use mathlib.Core.Logic.{⊎-elim}
+use mathlib.Core.List.{List, map}
 use native.Mathlib.Omega.{arith}
-use lib.ListN.{length, getD, take, drop}
 use borrow.Author.Needs.{needs}
+use lib.ListN.{length, getD}
+use lib.Seq.{sets}
+use Rattle.error.specs.Outcome.{Outcome}
+use Rattle.error.specs.Parse.{Parsed, outcome}
+use Rattle.boxes.specs.Parts.{held}
+use Rattle.boxes.specs.declared.Span.{Span}
+use Rattle.compact.specs.Compact.{oneArray, parseCompact}
+use Rattle.compact.specs.Inside.{recordUnits, roomOf, RoomFits, foundBytes, foundList}
+use Rattle.compact.proofs.Output.{output-refused, output-short, output-fits}
+use Rattle.compact.proofs.RecordUnits.{Measured, measured-units, measured-refused, list-long}
+use Rattle.compact.proofs.RecordRead.{parse-too-long, parse-empty, parse-short, parse-over, parse-read}
 use Rattle.compact.proofs.CompactVvcConfig.parse.Statement.{statement}
 use Rattle.compact.proofs.CompactVvcConfig.parse.Tie as tie
-use Rattle.compact.proofs.CompactVvcConfig.parse.Reads as reads
-use Rattle.compact.proofs.CompactVvcConfig.parse.Lts as lts
-use Rattle.boxes.proofs.place.byte.Reads as byte-reads
-use Rattle.boxes.proofs.place.wide.Reads as wide-reads
-use Rattle.compact.proofs.record_units.config_of.Reads as config-of-reads
-use Rattle.compact.proofs.record_units.put_list.Reads as put-list-reads
-use Rattle.compact.proofs.record_units.units_room.Reads as units-room-reads
 
--- src/lib.rt:40:13
+-- the unit count, by the record's first byte
+count-at : (c : tie.After-wide) → c .wide .result % 32 + 2 ≡ getD (c .before .before .before .before .before .before .args .«record» .now) 0 0 % 32 + 2
+count-at c = ap (λ (b : ℕ). b % 32 + 2) (c .wide .ensures .0 ∙ c .before .before .byte .ensures)
+
+-- what the measurement says
+measured-at : (c : tie.After-known-told)
+    → Measured (c .before .before .before .before .before .before .before .before .before .before .args .«record» .now) (recordUnits (c .before .before .before .before .before .before .before .before .before .before .args .«record» .now) (c .before .before .before .before .wide .result % 32 + 2)) (c .before .room .given .0 .0) (c .before .room .given .0 .1 .0)
+measured-at c = measured-units _ _ _ _ (sym (ap roomOf (c .before .room .given .1)) ∙ c .before .before .before .units-room .ensures .0)
+
+room-at : (c : tie.After-known-told) → c .before .room .given .0 .0 ≤ 2 ^ 32
+room-at c = subst RoomFits (c .before .room .given .1) (c .before .before .before .units-room .ensures .1)
+
 returns : tie.Need-returns
-returns c = ?
+returns c =
+    let a = c .before .before .before .args in
+    output-refused (parseCompact (a .«record» .now)) (a .out .now) 23 (parse-too-long (a .«record» .now) (c .if1 .taken))
 
--- src/lib.rt:42:13
 byte-requires : tie.Need-byte-requires
 byte-requires c κs = search needs
 
--- src/lib.rt:44:13
 returns-2 : tie.Need-returns-2
-returns-2 c = ?
+returns-2 c =
+    let a = c .before .before .before .before .before .args in
+    output-refused (parseCompact (a .«record» .now)) (a .out .now) 1 (parse-empty (a .«record» .now) (c .before .before .if1 .left) (c .if2 .taken))
 
--- src/lib.rt:46:21
 wide-requires : tie.Need-wide-requires
 wide-requires c κs = search needs
 
--- src/lib.rt:46:21
 add-count : tie.Need-add-count
 add-count c = search needs
 
--- src/lib.rt:47:45
 units-room-requires : tie.Need-units-room-requires
 units-room-requires c κs = search needs
 
--- src/lib.rt:47:29
 enum-known-room : tie.Need-enum-known-room
 enum-known-room c = search needs
 
--- src/lib.rt:48:41
 enum-told : tie.Need-enum-told
 enum-told c = search needs
 
--- src/lib.rt:48:13
 returns-3 : tie.Need-returns-3
-returns-3 c = ?
+returns-3 c =
+    let a = c .before .before .before .before .before .before .before .before .before .args in
+    let s = a .«record» .now in
+    output-refused (parseCompact s) (a .out .now) 1
+    (parse-short s (c .before .before .before .before .before .before .if1 .left) (omega (arith, c .before .before .before .before .if2 .left)) _ (count-at (c .before .before .before))
+    (measured-refused s _ 1 (sym (ap roomOf (c .enum-told .given .1)) ∙ c .before .before .units-room .ensures .0)))
 
--- src/lib.rt:51:13
 returns-4 : tie.Need-returns-4
-returns-4 c = ?
+returns-4 c =
+    let a = c .before .before .before .before .before .before .before .before .before .before .before .args in
+    let s = a .«record» .now in
+    let m = measured-at (c .before) in
+    output-refused (parseCompact s) (a .out .now) 7
+    (parse-over s (c .before .before .before .before .before .before .before .before .if1 .left) (omega (arith, c .before .before .before .before .before .before .if2 .left)) _ (count-at (c .before .before .before .before .before)) (m .units) _ (m .read) (c .if3 .taken))
 
--- src/lib.rt:53:19
 add-len : tie.Need-add-len
-add-len c = ?
+add-len c = let h = room-at (c .before) in omega arith
 
--- src/lib.rt:55:13
 returns-5 : tie.Need-returns-5
-returns-5 c = ?
+returns-5 c =
+    let a = c .before .before .before .before .before .before .before .before .before .before .before .before .args in
+    let s = a .«record» .now in
+    let m = measured-at (c .before .before) in
+    let l = list-long (map (held s) (m .units)) in
+    output-short (parseCompact s) (a .out .now) _ (oneArray (map (held s) (m .units)))
+    (parse-read s (c .before .before .before .before .before .before .before .before .before .if1 .left) (omega (arith, c .before .before .before .before .before .before .before .if2 .left)) _ (count-at (c .before .before .before .before .before .before)) (m .units) _ (m .read) (c .before .if3 .left) _ (7 + c .before .before .before .room .given .0 .0) refl (omega (arith, m .long)))
+    (omega (arith, l, m .long, c .if4 .taken))
 
--- src/lib.rt:57:9
 put-list-requires : tie.Need-put-list-requires
 put-list-requires c κs = ?
 
--- src/lib.rt:58:27
 config-of-requires : tie.Need-config-of-requires
 config-of-requires c κs = search needs
 
--- src/lib.rt:36:5
 same-length : tie.Need-same-length
 same-length c = search needs
 
--- src/lib.rt:36:5
 returns-6 : tie.Need-returns-6
 returns-6 c = ?
 

@@ -1,44 +1,45 @@
-use Prim.Native.Nat.{ℕ, zero, suc, _+_, _*_, _-_, _/_, _%_, _^_, _≤_, _<_}
-use mathlib.Core.Path.{_≡_, refl, sym, ap, _∙_, subst}
-use mathlib.Core.List.{List, [], _∷_, _++_}
-use mathlib.Core.Logic.{⊎-elim}
-use native.Mathlib.Omega.{arith}
-use lib.ListN.{length, getD, take, drop}
+-- `CompactVvcConfig::serialize` gives the record of the units behind the list's start, or the refusal of the start.
+use Prim.Native.Nat.{ℕ}
+use mathlib.Core.Path.{_≡_, sym, ap, _∙_, subst}
+use mathlib.Core.List.{List}
 use borrow.Author.Needs.{needs}
+use Rattle.error.specs.Outcome.{Outcome, lentOutput, counted}
+use Rattle.unit_list.specs.Walk.{StartFits}
+use Rattle.compact.specs.Inside.{recordOf}
+use Rattle.compact.proofs.Output.{written-refused}
+use Rattle.compact.proofs.ListUnits.{serialize-start, serialize-refused}
 use Rattle.compact.proofs.CompactVvcConfig.serialize.Statement.{statement}
 use Rattle.compact.proofs.CompactVvcConfig.serialize.Tie as tie
-use Rattle.compact.proofs.CompactVvcConfig.serialize.Reads as reads
-use Rattle.compact.proofs.CompactVvcConfig.serialize.Lts as lts
-use Rattle.compact.proofs.list_units.put_record.Reads as put-record-reads
-use Rattle.unit_list.proofs.walk.start.Reads as start-reads
 
--- src/lib.rt:65:15
 start-requires : tie.Need-start-requires
 start-requires c κs = search needs
 
--- src/lib.rt:66:27
 enum-known-c : tie.Need-enum-known-c
 enum-known-c c = search needs
 
--- src/lib.rt:66:33
 put-record-requires : tie.Need-put-record-requires
-put-record-requires c κs = ?
+put-record-requires c κs = let g = c .before .before .c .given in subst (StartFits (c .before .before .before .before .before .before .before .args .list .now)) (g .1) (c .before .before .before .before .start .ensures .2)
 
--- src/lib.rt:67:32
 enum-known-e : tie.Need-enum-known-e
 enum-known-e c = search needs
 
--- src/lib.rt:62:5
 same-length : tie.Need-same-length
 same-length c = search needs
 
--- src/lib.rt:62:5
 returns : tie.Need-returns
-returns c = ?
+returns c =
+    let a = c .before .before .before .before .before .before .before .before .before .before .args in
+    let s = c .before .before .before .before .before .before .before .start in
+    let g = c .before .before .before .before .before .c .given in
+    c .before .before .put-record .ensures
+    ∙ ap (λ (o : Outcome (List ℕ)). lentOutput (counted o) (a .out .now)) (serialize-start (a .self) (a .list .now) (s .result) (s .ensures .0) (g .0 .0) (g .1))
 
--- src/lib.rt:62:5
 returns-2 : tie.Need-returns-2
-returns-2 c = ?
+returns-2 c =
+    let a = c .before .before .before .before .before .before .args in
+    let s = c .before .before .before .start in
+    let g = c .before .e .given in
+    written-refused _ (a .out .now) _ (serialize-refused (a .self) (a .list .now) (s .result) (s .ensures .0) (g .0 .0) (g .1))
 
 pub serialize-spec : {M : Type 1} → statement M
 serialize-spec =

@@ -25,10 +25,10 @@ add-result : tie.Need-add-result
 add-result c = search needs
 
 returns : tie.Need-returns
-returns c = ?
+returns c = let h = c .if1 .taken in rw h (omega arith)
 
 returns-2 : tie.Need-returns-2
-returns-2 c = ?
+returns-2 c = let h = c .if1 .left in rw h (omega arith)
 
 pub first-byte-spec : {M : Type 1} → statement M
 first-byte-spec =

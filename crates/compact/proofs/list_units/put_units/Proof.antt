@@ -1,62 +1,89 @@
-use Prim.Native.Nat.{ℕ, zero, suc, _+_, _*_, _-_, _/_, _%_, _^_, _≤_, _<_}
-use mathlib.Core.Path.{_≡_, refl, sym, ap, _∙_, subst}
-use mathlib.Core.List.{List, [], _∷_, _++_}
+-- `list_units::put_units` stores the units behind a cursor. The loop's invariant: those stored and those left make the whole.
+use Prim.Native.Nat.{ℕ, _+_, _-_, _≤_, _<_}
 use mathlib.Core.Logic.{⊎-elim}
 use native.Mathlib.Omega.{arith}
 use borrow.Author.Needs.{needs}
-use lib.ListN.{length, getD, take, drop}
+use lib.ListN.{length}
+use Rattle.unit_list.specs.Walk.{Fits}
+use Rattle.compact.specs.Inside.{unitsLeft}
+use Rattle.compact.proofs.Copying.{Copying, copying-start, copying-never, copying-end, copying-room, copying-again}
+use Rattle.compact.proofs.ListUnits.{left-next, left-none, next-fits, next-ahead, unit-within}
 use Rattle.compact.proofs.list_units.put_units.Statement.{statement}
 use Rattle.compact.proofs.list_units.put_units.Tie as tie
-use Rattle.compact.proofs.list_units.put_units.Reads as reads
-use Rattle.compact.proofs.list_units.put_units.Lts as lts
-use Rattle.compact.proofs.copied.put_unit.Reads as put-unit-reads
-use Rattle.unit_list.proofs.walk.step.Reads as step-reads
 
 abbrev Inv-loop : tie.InvT-loop
-Inv-loop list out₀ to here₀ at₀ out here at = ?
+Inv-loop list out₀ to c at₀ out here at = Fits list here × Copying 1 list out₀ to (unitsLeft list c) (unitsLeft list here) out at
 
 abbrev μ-loop : tie.MeasureT-loop
-μ-loop list out₀ to here₀ at₀ out here at = ?
+μ-loop list out₀ to c at₀ out here at = length list - here .at
 
--- src/list_units.rt:73:5
 loop-holds : tie.Need-loop-holds Inv-loop μ-loop
-loop-holds c = ?
+loop-holds c =
+    let b = c .before .before in
+    let a = b .args in
+    (b .pre .0, copying-start 1 (a .list .now) (a .out .now) (a .to) (unitsLeft (a .list .now) (a .c)) (b .pre .1))
 
--- src/list_units.rt:74:39
 step-requires : tie.Need-step-requires Inv-loop μ-loop
-step-requires c κs = ?
+step-requires c κs = c .loop .inv .0
 
--- src/list_units.rt:74:28
 enum-known-a : tie.Need-enum-known-a Inv-loop μ-loop
-enum-known-a c = ?
+enum-known-a c = search needs
 
--- src/list_units.rt:75:13
 same-length : tie.Need-same-length Inv-loop μ-loop
-same-length c = ?
+same-length c = c .before .before .loop .inv .1 .same
 
--- src/list_units.rt:75:13
 returns : tie.Need-returns Inv-loop μ-loop
-returns c = ?
+returns c =
+    let l = c .before .before in
+    let t = c .before .step in
+    ⊎-elim (λ e. copying-end _ _ _ _ _ _ _ _ (l .loop .inv .1) e) (λ e. absurd (copying-never _ _ _ _ _ _ _ _ (l .loop .inv .1) 21 e))
+    (left-none (l .before .before .before .args .list .now) (l .loop .here) (t .result) (t .ensures .0) (c .match .keys2))
 
--- src/list_units.rt:77:9
+-- a place ahead leaves less of the list
+less : (n p q e k : ℕ) → p + 4 + k ≤ q → q ≤ e → e ≤ n → n - q < n - p
+less n p q e k h i j = omega arith
+
+room-at : (c : tie.After-known-told Inv-loop μ-loop) → c .before .before .before .before .loop .at + 1 + c .before .a .given .0 .0 .len ≤ length (c .before .before .before .before .loop .out)
+room-at c =
+    let l = c .before .before .before .before in
+    let t = c .before .before .before .step in
+    let g = c .before .a .given in
+    let s = l .before .before .before .args .list .now in
+    copying-room _ _ _ _ _ _ _ _ (l .loop .inv .1) _ (unit-within s (l .loop .here) (t .result) (t .ensures) (g .0 .0) (g .0 .1 .0) (g .1)) (unitsLeft s (g .0 .1 .0))
+    (left-next s (l .loop .here) (t .result) (t .ensures) (g .0 .0) (g .0 .1 .0) (g .1))
+
 put-unit-requires : tie.Need-put-unit-requires Inv-loop μ-loop
-put-unit-requires c κs = ?
+put-unit-requires c κs =
+    let l = c .before .before .before .before .before in
+    let t = c .before .before .before .before .step in
+    let g = c .before .before .a .given in
+    (unit-within (l .before .before .before .args .list .now) (l .loop .here) (t .result) (t .ensures) (g .0 .0) (g .0 .1 .0) (g .1), omega arith, room-at (c .before))
 
--- src/list_units.rt:78:14
 add-at : tie.Need-add-at Inv-loop μ-loop
-add-at c = ?
+add-at c = let h = room-at (c .before .before .before .before) in omega arith
 
--- src/list_units.rt:78:14
 add-at-2 : tie.Need-add-at-2 Inv-loop μ-loop
-add-at-2 c = ?
+add-at-2 c = let h = room-at (c .before .before .before .before .before) in omega arith
 
--- src/list_units.rt:73:5
 loop-less : tie.Need-loop-less Inv-loop μ-loop
-loop-less c = ?
+loop-less c =
+    let l = c .before .before .before .before .before .before .before .before .before in
+    let t = c .before .before .before .before .before .before .before .before .step in
+    let g = c .before .before .before .before .before .before .a .given in
+    let s = l .before .before .before .args .list .now in
+    let n = next-fits s (l .loop .here) (t .result) (t .ensures) (g .0 .0) (g .0 .1 .0) (g .1) in
+    let h = next-ahead s (l .loop .here) (t .result) (t .ensures) (g .0 .0) (g .0 .1 .0) (g .1) in
+    less (length s) (l .loop .here .at) (g .0 .1 .0 .at) (g .0 .1 .0 .end) (g .0 .0 .len) h (n .before) (n .within)
 
--- src/list_units.rt:73:5
 loop-again : tie.Need-loop-again Inv-loop μ-loop
-loop-again c = ?
+loop-again c =
+    let l = c .before .before .before .before .before .before .before .before .before in
+    let t = c .before .before .before .before .before .before .before .before .step in
+    let g = c .before .before .before .before .before .before .a .given in
+    let s = l .before .before .before .args .list .now in
+    (next-fits s (l .loop .here) (t .result) (t .ensures) (g .0 .0) (g .0 .1 .0) (g .1),
+    copying-again _ _ _ _ _ _ _ _ (l .loop .inv .1) _ (unit-within s (l .loop .here) (t .result) (t .ensures) (g .0 .0) (g .0 .1 .0) (g .1)) (unitsLeft s (g .0 .1 .0))
+    (left-next s (l .loop .here) (t .result) (t .ensures) (g .0 .0) (g .0 .1 .0) (g .1)) _ (c .before .before .before .put-unit .ensures))
 
 pub put-units-spec : {M : Type 1} → statement M
 put-units-spec =

@@ -1,62 +1,73 @@
-use Prim.Native.Nat.{ℕ, zero, suc, _+_, _*_, _-_, _/_, _%_, _^_, _≤_, _<_}
-use mathlib.Core.Path.{_≡_, refl, sym, ap, _∙_, subst}
-use mathlib.Core.List.{List, [], _∷_, _++_}
-use mathlib.Core.Logic.{⊎-elim}
+-- `list_units::units_sum` measures the units behind a cursor. The loop's invariant: those passed and those left make the whole.
+use Prim.Native.Nat.{_-_}
+use mathlib.Core.Path.{refl, sym, ap, _∙_, subst}
 use native.Mathlib.Omega.{arith}
 use borrow.Author.Needs.{needs}
-use lib.ListN.{length, getD, take, drop}
+use lib.ListN.{length}
+use Rattle.compact.specs.Inside.{summed, adding}
+use Rattle.compact.proofs.ListUnits.{Summing, summing-start, summing-room, summing-less, summing-again, summing-end, summing-malformed}
 use Rattle.compact.proofs.list_units.units_sum.Statement.{statement}
 use Rattle.compact.proofs.list_units.units_sum.Tie as tie
-use Rattle.compact.proofs.list_units.units_sum.Reads as reads
-use Rattle.compact.proofs.list_units.units_sum.Lts as lts
-use Rattle.compact.proofs.list_units.add.Reads as add-reads
-use Rattle.unit_list.proofs.walk.step.Reads as step-reads
 
 abbrev Inv-loop : tie.InvT-loop
-Inv-loop list here₀ sum₀ here sum = ?
+Inv-loop list c sum₀ here sum = Summing list c here sum
 
 abbrev μ-loop : tie.MeasureT-loop
-μ-loop list here₀ sum₀ here sum = ?
+μ-loop list c sum₀ here sum = length list - here .at
 
--- src/list_units.rt:54:5
 loop-holds : tie.Need-loop-holds Inv-loop μ-loop
-loop-holds c = ?
+loop-holds c = let b = c .before in summing-start (b .args .list .now) (b .args .c) (b .pre)
 
--- src/list_units.rt:55:15
 step-requires : tie.Need-step-requires Inv-loop μ-loop
-step-requires c κs = ?
+step-requires c κs = c .loop .inv .fits
 
--- src/list_units.rt:56:28
 enum-known-a : tie.Need-enum-known-a Inv-loop μ-loop
-enum-known-a c = ?
+enum-known-a c = search needs
 
--- src/list_units.rt:57:17
 add-requires : tie.Need-add-requires Inv-loop μ-loop
-add-requires c κs = ?
+add-requires c κs =
+    let t = c .before .before .before in
+    let l = t .before in
+    let a = l .before .before .args in
+    let g = c .before .a .given in
+    summing-room (a .list .now) (a .c) (l .loop .here) (l .loop .sum) (l .loop .inv) (t .step .result) (t .step .ensures) (g .0 .0) (g .0 .1 .0) (g .1)
 
--- src/list_units.rt:54:5
 loop-less : tie.Need-loop-less Inv-loop μ-loop
-loop-less c = ?
+loop-less c =
+    let t = c .before .before .before .before in
+    let l = t .before in
+    let a = l .before .before .args in
+    let g = c .before .before .a .given in
+    summing-less (a .list .now) (a .c) (l .loop .here) (l .loop .sum) (l .loop .inv) (t .step .result) (t .step .ensures) (g .0 .0) (g .0 .1 .0) (g .1)
 
--- src/list_units.rt:54:5
 loop-again : tie.Need-loop-again Inv-loop μ-loop
-loop-again c = ?
+loop-again c =
+    let t = c .before .before .before .before in
+    let l = t .before in
+    let a = l .before .before .args in
+    let g = c .before .before .a .given in
+    subst (Summing (a .list .now) (a .c) (g .0 .1 .0)) (sym (c .add .ensures))
+    (summing-again (a .list .now) (a .c) (l .loop .here) (l .loop .sum) (l .loop .inv) (t .step .result) (t .step .ensures) (g .0 .0) (g .0 .1 .0) (g .1))
 
--- src/list_units.rt:60:30
 enum-told : tie.Need-enum-told Inv-loop μ-loop
-enum-told c = ?
+enum-told c = search needs
 
--- src/list_units.rt:60:30
 returns : tie.Need-returns Inv-loop μ-loop
-returns c = ?
+returns c =
+    let t = c .before .before in
+    let l = t .before in
+    let a = l .before .before .args in
+    summing-end (a .list .now) (a .c) (l .loop .here) (l .loop .sum) (l .loop .inv) (t .step .result) (t .step .ensures) (c .enum-told .given .1)
 
--- src/list_units.rt:61:36
 enum-told-2 : tie.Need-enum-told-2 Inv-loop μ-loop
-enum-told-2 c = ?
+enum-told-2 c = search needs
 
--- src/list_units.rt:61:36
 returns-2 : tie.Need-returns-2 Inv-loop μ-loop
-returns-2 c = ?
+returns-2 c =
+    let t = c .before .before in
+    let l = t .before in
+    let a = l .before .before .args in
+    (summing-malformed (a .list .now) (a .c) (l .loop .here) (l .loop .sum) (l .loop .inv) (t .step .result) (t .step .ensures) (c .enum-told2 .given .1), tt)
 
 pub units-sum-spec : {M : Type 1} → statement M
 units-sum-spec =

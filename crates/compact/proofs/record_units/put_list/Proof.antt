@@ -1,49 +1,48 @@
-use Prim.Native.Nat.{ℕ, zero, suc, _+_, _*_, _-_, _/_, _%_, _^_, _≤_, _<_}
-use mathlib.Core.Path.{_≡_, refl, sym, ap, _∙_, subst}
-use mathlib.Core.List.{List, [], _∷_, _++_}
-use mathlib.Core.Logic.{⊎-elim}
+-- `record_units::put_list` leaves the list from the front on.
+use Prim.Native.Nat.{ℕ, _+_, _≤_}
+use mathlib.Core.Path.{_≡_, _∙_}
 use native.Mathlib.Omega.{arith}
-use lib.ListN.{length, getD, take, drop}
 use borrow.Author.Needs.{needs}
+use lib.ListN.{length}
+use Rattle.error.specs.Parse.{outcome}
+use Rattle.compact.specs.Inside.{recordUnits}
+use Rattle.compact.proofs.Copying.{copies-room, copies-on}
+use Rattle.compact.proofs.RecordUnits.{list-stored}
 use Rattle.compact.proofs.record_units.put_list.Statement.{statement}
 use Rattle.compact.proofs.record_units.put_list.Tie as tie
-use Rattle.compact.proofs.record_units.put_list.Reads as reads
-use Rattle.compact.proofs.record_units.put_list.Lts as lts
-use Rattle.boxes.proofs.place.put.Reads as put-reads
-use Rattle.compact.proofs.record_units.put_units.Reads as put-units-reads
-use Rattle.unit_list.proofs.write.put_array_head.Reads as put-array-head-reads
 
--- src/record_units.rt:73:5
+-- there is room for all of it
+room-at : (c : tie.Start) → 7 + c .args .room ≤ length (c .args .out .now)
+room-at c =
+    let a = c .args in
+    let h = copies-room 4 (a .«record» .now) (outcome (recordUnits (a .«record» .now) (a .count))) (a .out .now) 7 (c .pre .2) in
+    omega (arith, c .pre .3)
+
 put-requires : tie.Need-put-requires
 put-requires c κs = search needs
 
--- src/record_units.rt:74:35
 add-put-array-head : tie.Need-add-put-array-head
-add-put-array-head c = ?
+add-put-array-head c = let h = room-at (c .before .before .before .before .before .before .before) in omega arith
 
--- src/record_units.rt:74:5
 put-array-head-requires : tie.Need-put-array-head-requires
-put-array-head-requires c κs = search needs
+put-array-head-requires c κs = let h = room-at (c .before .before .before .before .before .before .before) in ?
 
--- src/record_units.rt:75:5
 put-units-requires : tie.Need-put-units-requires
-put-units-requires c κs = ?
+put-units-requires c κs =
+    let b = c .before .before .before .before .before .before .before .before .before .before .before in
+    (b .pre .0, b .pre .1, copies-on _ _ _ (b .args .out .now) _ _ (b .pre .2) (c .before .before .before .put-array-head .kept .0 ∙ c .before .before .before .before .before .before .before .put .kept .0))
 
--- src/record_units.rt:69:1
 same-length : tie.Need-same-length
 same-length c = search needs
 
--- src/record_units.rt:69:1
 returns : tie.Need-returns
-returns c = ?
+returns c =
+    let b = c .before .before .before .before .before .before .before .before .before .before .before .before .before .before in
+    let a = b .args in
+    list-stored (a .«record» .now) (outcome (recordUnits (a .«record» .now) (a .count))) (a .out .now) (c .before .before .before .before .before .before .before .before .before .before .put .last .0) (c .before .before .before .before .before .before .put-array-head .last .0) _ (a .room) 7
+    (b .pre .2) (b .pre .3) (c .before .before .before .before .before .before .before .before .before .before .put .ensures) (c .before .before .before .before .before .before .put-array-head .ensures) (c .before .before .put-units .ensures)
 
 pub put-list-spec : {M : Type 1} → statement M
 put-list-spec =
     tie.close
-    (tie.spec
-    put-requires
-    add-put-array-head
-    put-array-head-requires
-    put-units-requires
-    same-length
-    returns)
+    (tie.spec put-requires add-put-array-head put-array-head-requires put-units-requires same-length returns)

@@ -7,7 +7,7 @@ use lib.ListN.{length}
 use Rattle.error.specs.Parse.{times}
 use Rattle.boxes.specs.Bytes.{chunk}
 use Rattle.compact.specs.Inside.{recordUnits, measured}
-use Rattle.compact.proofs.RecordUnits.{Turn, turn, turn-short, times-done}
+use Rattle.compact.proofs.RecordUnits.{Turn, turn, turn-short, times-done, measured-done}
 use Rattle.compact.proofs.record_units.units_room.Statement.{statement}
 use Rattle.compact.proofs.record_units.units_room.Tie as tie
 
@@ -35,8 +35,8 @@ returns c =
     let l = c .before .before .before .before in
     let s = l .before .before .args .«record» .now in
     let k = c .before .before .chunk in
-    ap (measured s (l .loop .room)) (sym (turn-short s (l .loop .left) (l .loop .at) (c .before .before .before .loop-test .taken) (k .result) (k .ensures) (c .enum-told .given .1)))
-    ∙ l .loop .inv .2
+    (ap (measured s (l .loop .room)) (sym (turn-short s (l .loop .left) (l .loop .at) (c .before .before .before .loop-test .taken) (k .result) (k .ensures) (c .enum-told .given .1)))
+    ∙ l .loop .inv .2, tt)
 
 -- the unit that the turn found
 unit-at : (c : tie.After-known-told Inv-loop μ-loop)
@@ -68,7 +68,11 @@ loop-again c =
     (t .inside, omega arith, t .measure (l .room) ∙ l .inv .2)
 
 returns-2 : tie.Need-returns-2 Inv-loop μ-loop
-returns-2 c = ?
+returns-2 c =
+    let l = c .before in
+    let s = l .before .before .args .«record» .now in
+    let e = times-done s (l .loop .left) (l .loop .at) (omega arith) in
+    (measured-done s (l .loop .room) (l .loop .at) ∙ ap (measured s (l .loop .room)) (sym e) ∙ l .loop .inv .2, omega arith)
 
 pub units-room-spec : {M : Type 1} → statement M
 units-room-spec =

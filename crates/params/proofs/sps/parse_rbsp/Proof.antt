@@ -2,10 +2,10 @@
 use mathlib.Core.Path.{ap, sym, _∙_}
 use native.Mathlib.Omega.{arith}
 use Rattle.rbsp.proofs.Chain.{told, went, ended}
-use Rattle.ptl.proofs.Parts.{went-part}
+use Rattle.ptl.proofs.Parts.{part-told, went-part}
 use Rattle.params.specs.Heads.{zeroSps}
 use Rattle.params.specs.Answers.{readOr}
-use Rattle.params.proofs.Parts.{part-told, ended-with}
+use Rattle.params.proofs.Parts.{ended-with}
 use Rattle.params.proofs.Bounds.{ids-bounds, depth-bounds}
 use Rattle.params.proofs.SpsSections.{sps-sections}
 use borrow.Author.Needs.{needs}

@@ -1,40 +1,38 @@
-use Prim.Native.Nat.{ℕ, zero, suc, _+_, _*_, _-_, _/_, _%_, _^_, _≤_, _<_}
-use mathlib.Core.Path.{_≡_, refl, sym, ap, _∙_, subst}
-use mathlib.Core.List.{List, [], _∷_, _++_}
-use mathlib.Core.Logic.{⊎-elim}
+-- `parse_payload` of a VPS reads its PTL from as much of the RBSP as it looks at.
+use Prim.Native.Nat.{ℕ}
+use mathlib.Core.Path.{ap, sym, _∙_}
 use native.Mathlib.Omega.{arith}
-use lib.ListN.{length, getD, take, drop}
+use lib.ListN.{length-replicate}
+use Rattle.rbsp.proofs.Filling.{front-count}
+use Rattle.ptl.specs.Ptl.{zeroPtl}
+use Rattle.params.specs.Heads.{vpsPtl}
+use Rattle.params.specs.Answers.{readOr}
+use Rattle.params.proofs.Look.{vps-looks, enough}
 use borrow.Author.Needs.{needs}
 use Rattle.params.proofs.vps.parse_payload.Statement.{statement}
 use Rattle.params.proofs.vps.parse_payload.Tie as tie
-use Rattle.params.proofs.vps.parse_payload.Reads as reads
-use Rattle.params.proofs.vps.parse_payload.Lts as lts
-use Rattle.params.proofs.vps.parse_rbsp.Reads as parse-rbsp-reads
-use Rattle.rbsp.proofs.fill.fill_rbsp.Reads as fill-rbsp-reads
 
--- src/vps.rt:75:44
 slice-aggregate-fill-rbsp : tie.Need-slice-aggregate-fill-rbsp
 slice-aggregate-fill-rbsp c = search needs
 
--- src/vps.rt:75:9
 fill-rbsp-requires : tie.Need-fill-rbsp-requires
 fill-rbsp-requires c κs = search needs
 
--- src/vps.rt:76:16
 array-share-prefix-buf : tie.Need-array-share-prefix-buf
 array-share-prefix-buf c = search needs
 
--- src/vps.rt:76:16
 slice-aggregate-parse-rbsp : tie.Need-slice-aggregate-parse-rbsp
-slice-aggregate-parse-rbsp c = search needs
+slice-aggregate-parse-rbsp c = sym (front-count _ _ _ _ (c .before .before .fill-rbsp .ensures))
 
--- src/vps.rt:76:5
 parse-rbsp-requires : tie.Need-parse-rbsp-requires
-parse-rbsp-requires c κs = search needs
+parse-rbsp-requires c κs =
+    let f = c .before .before .fill-rbsp .ensures in
+    omega (arith, front-count _ _ _ _ f, f .count, length-replicate {A = ℕ} 1132 0)
 
--- src/vps.rt:71:1
 returns : tie.Need-returns
-returns c = search needs
+returns c =
+    c .parse-rbsp .ensures
+    ∙ ap (readOr zeroPtl) (enough vpsPtl 1132 vps-looks _ _ _ _ (length-replicate {A = ℕ} 1132 0) (c .before .before .before .fill-rbsp .ensures))
 
 pub parse-payload-spec : {M : Type 1} → statement M
 parse-payload-spec =

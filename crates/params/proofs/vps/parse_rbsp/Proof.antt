@@ -115,13 +115,14 @@ returns-5 c =
     (refusal-told (c .before .before .before .before .read-bits4 .ensures) (c .before .before .enum-told4 .given .1) (c .before .refusal4 .ensures))))
 
 align-requires : tie.Need-align-requires
-align-requires c κs = search needs
+align-requires c κs = omega (arith, (read-of (c .before .before .before .read-bits4 .ensures) (c .before .r4 .given .1)) .within, c .before .before .before .before .before .before .before .before .before .before .before .before .before .before .before .before .before .before .pre)
 
 cast-parse-ptl : tie.Need-cast-parse-ptl
 cast-parse-ptl c = search needs
 
 parse-ptl-requires : tie.Need-parse-ptl-requires
-parse-ptl-requires c κs = search needs
+parse-ptl-requires c κs =
+    (omega (arith, c .before .before .before .before .before .before .before .before .before .before .before .before .before .before .before .before .before .before .before .pre), aligned-of _ (c .align .ensures) .whole, omega (arith, (read-of (c .before .before .before .before .before .before .before .before .before .read-bits3 .ensures) (c .before .before .before .before .before .before .before .r3 .given .1)) .low))
 
 params-answer-requires : tie.Need-params-answer-requires
 params-answer-requires c κs = search needs

@@ -1,0 +1,141 @@
+-- Laws of the kept units of an item: what leads among them, and the walk over them.
+use Prim.Native.Nat.{ℕ, _≤_, _<_}
+use mathlib.Core.Path.{_≡_, refl, sym, ap, _∙_}
+use mathlib.Core.Bool.{Bool, true, false, _||_}
+use mathlib.Core.Logic.{⊎-elim}
+use mathlib.Core.List.{List, [], _∷_, _++_}
+use mathlib.Core.Option.{Option}
+use native.Mathlib.Omega.{arith}
+use lib.Dec.{eqb}
+use lib.ListN.{length, take, drop}
+use lib.Seq.{take-append-seam, drop-append-seam}
+use types.Run.{OneOf}
+use denote.Enum.Declared.{tagOf}
+use Rattle.error.specs.Logic.{if_then_else_}
+use Rattle.error.specs.Outcome.{Outcome, accept, refuse, andThen}
+use Rattle.error.specs.Refusals.{numberOf}
+use Rattle.error.specs.declared.Refusal.{Refusal}
+use Rattle.boxes.specs.Parts.{held}
+use Rattle.boxes.specs.Walk.{more}
+use Rattle.boxes.specs.declared.Span.{Span}
+use Rattle.boxes.proofs.Walk.{total}
+use Rattle.nal.specs.Header.{typeOr31}
+use Rattle.params.specs.Heads.{opiOlsIdx}
+use Rattle.hvcc.specs.Answers.{leftOf, stepped, UnitAhead, Onward}
+use Rattle.hvcc.specs.declared.ItemStep.{ItemStep}
+use Rattle.hvcc.specs.declared.ItemStep.the-variants as I
+use Rattle.hvcc.proofs.ItemStep.{the-type}
+use Rattle.access_unit.specs.AccessUnit.{agrees, isOpi, keeps, mayLead, leading, following, kept}
+use Rattle.access_unit.specs.Inside.{keptLeft, keptStepped}
+
+-- a unit that is dropped is an OPI, which may lead
+either : (b c d : Bool) → (if b then c else true) ≡ false → (d || b) ≡ true
+either true c true e = refl
+either true c false e = refl
+either false c d e = absurd (let z : _≡_ {A = ℕ} 0 1 = cc in omega arith)
+
+dropped-leads : (target : Option ℕ) (u : List ℕ) → keeps target u ≡ false → mayLead u ≡ true
+unfolding keeps mayLead
+dropped-leads target u e = either (isOpi u) (agrees target (opiOlsIdx u)) (eqb (typeOr31 u) 20) e
+
+module _ (item : List ℕ) where
+  -- what leads and what follows make the whole
+  pub leads-and-follows : (xs : List Span) → leading item xs ++ following item xs ≡ xs
+  unfolding leading following
+  leads-and-follows [] = refl
+  leads-and-follows (a ∷ xs) = go (leads-and-follows xs) (mayLead (held item a))
+    where
+      go : leading item xs ++ following item xs ≡ xs → (b : Bool) → (if b then a ∷ leading item xs else []) ++ (if b then following item xs else a ∷ xs) ≡ a ∷ xs
+      go h true = ap (λ (l : List Span). a ∷ l) h
+      go h false = refl
+
+  pub leading-take : (xs : List Span) → take (length (leading item xs)) xs ≡ leading item xs
+  leading-take xs = ap (take (length (leading item xs))) (sym (leads-and-follows xs)) ∙ take-append-seam (leading item xs) (following item xs)
+
+  pub following-drop : (xs : List Span) → drop (length (leading item xs)) xs ≡ following item xs
+  following-drop xs = ap (drop (length (leading item xs))) (sym (leads-and-follows xs)) ∙ drop-append-seam (leading item xs) (following item xs)
+
+  module _ (target : Option ℕ) where
+    -- the kept units among those that lead are those that lead among the kept ones
+    pub kept-leading : (xs : List Span) → kept item target (leading item xs) ≡ leading item (kept item target xs)
+    unfolding leading kept
+    kept-leading [] = refl
+    kept-leading (a ∷ xs) = go (kept-leading xs) (keeps target (held item a)) refl (mayLead (held item a)) refl
+      where
+        go : kept item target (leading item xs) ≡ leading item (kept item target xs) → (k : Bool) → keeps target (held item a) ≡ k → (m : Bool) → mayLead (held item a) ≡ m
+            → kept item target (if m then a ∷ leading item xs else []) ≡ leading item (if k then a ∷ kept item target xs else kept item target xs)
+        go h true e true f = rw (e, f) (ap (λ (l : List Span). a ∷ l) h)
+        go h true e false f = rw f
+        go h false e true f = rw e h
+        go h false e false f = absurd (let g = dropped-leads target (held item a) e in let z : _≡_ {A = ℕ} 0 1 = cc in omega arith)
+
+    pub kept-following : (xs : List Span) → kept item target (following item xs) ≡ following item (kept item target xs)
+    unfolding following kept
+    kept-following [] = refl
+    kept-following (a ∷ xs) = go (kept-following xs) (keeps target (held item a)) refl (mayLead (held item a)) refl
+      where
+        go : kept item target (following item xs) ≡ following item (kept item target xs) → (k : Bool) → keeps target (held item a) ≡ k → (m : Bool) → mayLead (held item a) ≡ m
+            → kept item target (if m then following item xs else a ∷ xs) ≡ following item (if k then a ∷ kept item target xs else kept item target xs)
+        go h true e true f = rw f h
+        go h true e false f = rw (e, f)
+        go h false e true f = h
+        go h false e false f = absurd (let g = dropped-leads target (held item a) e in let z : _≡_ {A = ℕ} 0 1 = cc in omega arith)
+
+-- ### the walk
+
+-- what a step found lies behind every earlier place too
+pub onward-earlier : (item : List ℕ) (p q : ℕ) → p ≤ q → (r : ItemStep) → Onward item q r → Onward item p r
+onward-earlier item p q h (I.Unit a next) f = record { some = f .some; ahead = omega arith; behind = f .behind; inside = f .inside }
+onward-earlier item p q h I.End f = tt
+onward-earlier item p q h (I.Refused e) f = tt
+
+module _ (size : ℕ) (target : Option ℕ) (item : List ℕ) where
+  module _ (p : ℕ) (a : Span) (q : ℕ) (rest : leftOf size item p ≡ more a (leftOf size item q)) where
+    over : (b : Bool) → keeps target (held item a) ≡ b
+        → keptLeft size target item p ≡ (if b then more a (keptLeft size target item q) else keptLeft size target item q)
+    unfolding keptLeft kept
+    over b e = rw rest (go b e (leftOf size item q))
+      where
+        go : (b : Bool) → keeps target (held item a) ≡ b → (o : Outcome (List Span))
+            → andThen (more a o) (λ xs. accept (kept item target xs))
+            ≡ (if b then more a (andThen o (λ xs. accept (kept item target xs))) else andThen o (λ xs. accept (kept item target xs)))
+        go true e (accept xs) = rw e
+        go false e (accept xs) = rw e
+        go true e (refuse n) = refl
+        go false e (refuse n) = refl
+
+    pub over-kept : keeps target (held item a) ≡ true → keptLeft size target item p ≡ more a (keptLeft size target item q)
+    over-kept e = over true e
+
+    pub over-dropped : keeps target (held item a) ≡ false → keptLeft size target item p ≡ keptLeft size target item q
+    over-dropped e = over false e
+
+  -- a step that found no unit says the same of the kept units
+  pub over-none : (p : ℕ) (r : ItemStep) → OneOf (1 ∷ 2 ∷ []) (tagOf the-type r) → stepped size item r ≡ leftOf size item p
+      → keptStepped size target item r ≡ keptLeft size target item p
+  unfolding keptLeft kept
+  over-none p (I.Unit a next) k e = absurd (⊎-elim (λ h. omega arith) (λ h. omega arith) k)
+  over-none p I.End k e = rw (← e)
+  over-none p (I.Refused x) k e = rw (← e)
+
+  -- a turn of the walk: the kept unit found from place p on, in front of those behind it
+  pub record KeptTurn (p : ℕ) (a : Span) (next : ℕ) : Type 0 where
+    pub here : UnitAhead item p a next
+    pub rest : keptLeft size target item p ≡ more a (keptLeft size target item next)
+
+  module _ (p : ℕ) (r : ItemStep) (said : (keptStepped size target item r ≡ keptLeft size target item p) × Onward item p r) where
+    pub kept-found : (a : Span) (next : ℕ) → r ≡ I.Unit a next → KeptTurn p a next
+    kept-found a next e = record { here = rw e at (said .1); rest = sym (said .0) ∙ ap (keptStepped size target item) e }
+
+    pub kept-end : r ≡ I.End → keptLeft size target item p ≡ accept []
+    kept-end e = sym (said .0) ∙ ap (keptStepped size target item) e
+
+    pub kept-refused : (e : Refusal) → r ≡ I.Refused e → keptLeft size target item p ≡ refuse (numberOf e)
+    kept-refused e w = sym (said .0) ∙ ap (keptStepped size target item) w
+
+  -- a step that found no unit: there is none
+  pub kept-none : (p : ℕ) (r : ItemStep) → keptStepped size target item r ≡ keptLeft size target item p → OneOf (1 ∷ 2 ∷ []) (tagOf the-type r)
+      → total (keptLeft size target item p) ≡ 0
+  kept-none p (I.Unit a next) e k = absurd (⊎-elim (λ h. omega arith) (λ h. omega arith) k)
+  kept-none p I.End e k = ap total (sym e)
+  kept-none p (I.Refused x) e k = ap total (sym e)

@@ -1,0 +1,6 @@
+pub mod Targets
+pub mod KeptUnits
+pub mod ListWalks
+pub mod Sums
+pub mod Streams
+pub mod Gathering

@@ -1,0 +1,186 @@
+-- Laws of the sums of a walk: one unit more, and how small they are.
+use Prim.Native.Nat.{ℕ, suc, _+_, _*_, _^_, _≤_, _<_}
+use mathlib.Core.Path.{_≡_, refl, sym, ap, _∙_}
+use mathlib.Core.Bool.{Bool, true, false, _&&_}
+use mathlib.Core.List.{List, [], _∷_, _++_, map, map-append, append-assoc, append-nil}
+use mathlib.Core.Option.{Option}
+use native.Mathlib.Omega.{arith}
+use native.Mathlib.Decide.{decLe}
+use lib.Dec.{eqb}
+use lib.ListN.{length, length-append, length-take, length-drop}
+use borrow.Author.Tests.{eq-eqb, ne-eqb}
+use Rattle.error.specs.Logic.{if_then_else_}
+use Rattle.error.specs.Outcome.{Outcome, accept, refuse, andThen}
+use Rattle.boxes.specs.Parts.{held}
+use Rattle.boxes.specs.Walk.{more}
+use Rattle.boxes.specs.declared.Span.{Span}
+use Rattle.unit_list.proofs.Accepted.{held-long}
+use Rattle.access_unit.specs.AccessUnit.{keeps, mayLead, leading, kept}
+use Rattle.access_unit.specs.Inside.{lengths, adding, itemSum, listSum}
+use Rattle.access_unit.specs.declared.sizes.UnitSum.{UnitSum}
+
+-- ### what is done, and what is left behind it
+
+abbrev pub after : List Span → Outcome (List Span) → Outcome (List Span)
+after done (accept us) = accept (done ++ us)
+after done (refuse e) = refuse e
+
+pub after-nil : (o : Outcome (List Span)) → after [] o ≡ o
+after-nil (accept us) = refl
+after-nil (refuse e) = refl
+
+module _ (done : List Span) (left whole : Outcome (List Span)) (so : after done left ≡ whole) where
+  pub done-more : (a : Span) (rest : Outcome (List Span)) → left ≡ more a rest → after (done ++ (a ∷ [])) rest ≡ whole
+  done-more a rest e = go rest ∙ ap (after done) (sym e) ∙ so
+    where
+      go : (o : Outcome (List Span)) → after (done ++ (a ∷ [])) o ≡ after done (more a o)
+      go (accept us) = ap accept (append-assoc done (a ∷ []) us)
+      go (refuse e) = refl
+
+  pub done-end : left ≡ accept [] → accept done ≡ whole
+  done-end e = ap accept (sym (append-nil done)) ∙ ap (after done) (sym e) ∙ so
+
+  pub done-refused : (n : ℕ) → left ≡ refuse n → refuse n ≡ whole
+  done-refused n e = ap (after done) (sym e) ∙ so
+
+-- ### one unit more
+
+pub lengths-append : (us vs : List (List ℕ)) → lengths (us ++ vs) ≡ lengths us + lengths vs
+unfolding lengths
+lengths-append [] vs = omega arith
+lengths-append (u ∷ us) vs = let e = lengths-append us vs in omega arith
+
+module _ (s : List ℕ) (done : List Span) (a : Span) (inside : a .start + a .len ≤ length s) where
+  lengths-last : lengths (map (held s) (done ++ (a ∷ []))) ≡ lengths (map (held s) done) + a .len
+  unfolding lengths
+  lengths-last =
+      let l = held-long s a inside in
+      let e = lengths-append (map (held s) done) (held s a ∷ []) in
+      ap lengths (map-append (held s) done (a ∷ [])) ∙ omega arith
+
+  count-last : length (done ++ (a ∷ [])) ≡ length done + 1
+  count-last = length-append done (a ∷ [])
+
+module _ (item : List ℕ) (a : Span) where
+  -- all before it lead
+  lead-all : (done : List Span) → length (leading item done) ≡ length done
+      → length (leading item (done ++ (a ∷ []))) ≡ (if mayLead (held item a) then length done + 1 else length done)
+  unfolding leading
+  lead-all [] e = go (mayLead (held item a))
+    where
+      go : (m : Bool) → length (if m then a ∷ [] else []) ≡ (if m then 0 + 1 else 0)
+      go true = refl
+      go false = refl
+  lead-all (x ∷ done) e = go (mayLead (held item x)) e (mayLead (held item a)) (lead-all done)
+    where
+      go : (b : Bool) → length (if b then x ∷ leading item done else []) ≡ suc (length done) → (m : Bool)
+          → (length (leading item done) ≡ length done → length (leading item (done ++ (a ∷ []))) ≡ (if m then length done + 1 else length done))
+          → length (if b then x ∷ leading item (done ++ (a ∷ [])) else []) ≡ (if m then suc (length done) + 1 else suc (length done))
+      go true e true h = let w = h (omega arith) in omega arith
+      go true e false h = let w = h (omega arith) in omega arith
+      go false e m h = absurd (omega arith)
+
+  -- one before it does not
+  lead-some : (done : List Span) → length (leading item done) < length done → length (leading item (done ++ (a ∷ []))) ≡ length (leading item done)
+  unfolding leading
+  lead-some [] e = absurd (omega arith)
+  lead-some (x ∷ done) e = go (mayLead (held item x)) e (lead-some done)
+    where
+      go : (b : Bool) → length (if b then x ∷ leading item done else []) < suc (length done)
+          → (length (leading item done) < length done → length (leading item (done ++ (a ∷ []))) ≡ length (leading item done))
+          → length (if b then x ∷ leading item (done ++ (a ∷ [])) else []) ≡ length (if b then x ∷ leading item done else [])
+      go true e h = let w = h (omega arith) in omega arith
+      go false e h = refl
+
+pub leading-le : (item : List ℕ) (xs : List Span) → length (leading item xs) ≤ length xs
+unfolding leading
+leading-le item [] = omega arith
+leading-le item (a ∷ xs) = go (mayLead (held item a)) (leading-le item xs)
+  where
+    go : (b : Bool) → length (leading item xs) ≤ length xs → length (if b then a ∷ leading item xs else []) ≤ suc (length xs)
+    go true h = omega arith
+    go false h = omega arith
+
+lead-last : (item : List ℕ) (done : List Span) (a : Span)
+    → (if mayLead (held item a) && eqb (length (leading item done)) (length done) then length done + 1 else length (leading item done))
+    ≡ length (leading item (done ++ (a ∷ [])))
+lead-last item done a =
+    let l = leading-le item done in
+    elim (decLe (length done) (length (leading item done))) [
+      | yes h ↦ let e : length (leading item done) ≡ length done = omega arith in all e (mayLead (held item a)) (lead-all item a done e)
+      | no h ↦ rw (ne-eqb (length (leading item done)) (length done) (λ e. omega arith), lead-some item a done (omega arith)) (some (mayLead (held item a)))
+    ]
+  where
+    all : length (leading item done) ≡ length done → (m : Bool) → length (leading item (done ++ (a ∷ []))) ≡ (if m then length done + 1 else length done)
+        → (if m && eqb (length (leading item done)) (length done) then length done + 1 else length (leading item done)) ≡ length (leading item (done ++ (a ∷ [])))
+    all e true h = rw (eq-eqb (length (leading item done)) (length done) e) (sym h)
+    all e false h = e ∙ sym h
+
+    some : (m : Bool) → (if m && false then length done + 1 else length (leading item done)) ≡ length (leading item done)
+    some true = refl
+    some false = refl
+
+pub item-sum-more : (item : List ℕ) (done : List Span) (a : Span) → a .start + a .len ≤ length item
+    → adding (mayLead (held item a)) (a .len) (itemSum item done) ≡ itemSum item (done ++ (a ∷ []))
+item-sum-more item done a h = rw (lengths-last item done a h, count-last item done a h, lead-last item done a)
+
+pub list-sum-more : (list : List ℕ) (done : List Span) (a : Span) → a .start + a .len ≤ length list
+    → adding false (a .len) (listSum list done) ≡ listSum list (done ++ (a ∷ []))
+list-sum-more list done a h = rw (lengths-last list done a h, count-last list done a h)
+
+-- ### a walk that sums: f gives the sum of the units passed
+
+pub record Summing (f : List Span → UnitSum) (whole left : Outcome (List Span)) (sum : UnitSum) (at : ℕ) : Type 0 where
+  pub done : List Span
+  pub joined : after done left ≡ whole
+  pub summed : sum ≡ f done
+  pub few : sum .count + sum .lengths ≤ at
+
+abbrev pub noUnits : UnitSum
+noUnits = record { count = 0; lead = 0; lengths = 0 }
+
+module _ (f : List Span → UnitSum) (whole : Outcome (List Span)) where
+  pub summing-start : (at : ℕ) → noUnits ≡ f [] → Summing f whole whole noUnits at
+  summing-start at e = record { done = []; joined = after-nil whole; summed = e; few = omega arith }
+
+  module _ (left : Outcome (List Span)) (sum : UnitSum) (at : ℕ) (i : Summing f whole left sum at) where
+    pub summing-small : ((done : List Span) → f done .lead ≤ f done .count) → (len : ℕ) → at + len < 2 ^ 32
+        → (sum .lead ≤ sum .count) × (sum .count + sum .lengths + len < 2 ^ 32)
+    summing-small h len small = (rw (i .summed) (h (i .done)), omega (arith, i .few))
+
+    pub summing-more : (leads : Bool) (a : Span) → ((done : List Span) → adding leads (a .len) (f done) ≡ f (done ++ (a ∷ [])))
+        → (rest : Outcome (List Span)) → left ≡ more a rest → (next : ℕ) → at + a .len < next → Summing f whole rest (adding leads (a .len) sum) next
+    summing-more leads a h rest e next further =
+        record {
+          done = i .done ++ (a ∷ []);
+          joined = done-more (i .done) left whole (i .joined) a rest e;
+          summed = ap (adding leads (a .len)) (i .summed) ∙ h (i .done);
+          few = omega (arith, i .few);
+        }
+
+    pub summing-end : left ≡ accept [] → accept sum ≡ andThen whole (λ us. accept (f us))
+    summing-end e =
+        ap accept (i .summed) ∙ ap (λ (o : Outcome (List Span)). andThen o (λ us. accept (f us))) (done-end (i .done) left whole (i .joined) e)
+
+    pub summing-refused : (n : ℕ) → left ≡ refuse n → refuse n ≡ andThen whole (λ us. accept (f us))
+    summing-refused n e = ap (λ (o : Outcome (List Span)). andThen o (λ us. accept (f us))) (done-refused (i .done) left whole (i .joined) n e)
+
+pub item-sum-none : (item : List ℕ) → noUnits ≡ itemSum item []
+unfolding leading lengths
+item-sum-none item = refl
+
+pub list-sum-none : (list : List ℕ) → noUnits ≡ listSum list []
+unfolding lengths
+list-sum-none list = refl
+
+-- ### the cases of the code's tests
+
+module _ (leads : Bool) (len : ℕ) (v : UnitSum) where
+  pub add-leads : leads ≡ true → v .lead ≡ v .count → record { count = v .count + 1; lead = v .count + 1; lengths = v .lengths + len } ≡ adding leads len v
+  add-leads e f = rw (e, eq-eqb (v .lead) (v .count) f)
+
+  pub add-behind : leads ≡ true → (v .lead ≡ v .count → ⊥) → record { count = v .count + 1; lead = v .lead; lengths = v .lengths + len } ≡ adding leads len v
+  add-behind e f = rw (e, ne-eqb (v .lead) (v .count) f)
+
+  pub add-last : leads ≡ false → record { count = v .count + 1; lead = v .lead; lengths = v .lengths + len } ≡ adding leads len v
+  add-last e = rw e

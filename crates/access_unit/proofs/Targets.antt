@@ -1,0 +1,78 @@
+-- Laws of the target, of the units that it drops, and of those that may lead, by cases as the code tests them.
+use Prim.Native.Nat.{ℕ, _^_, _≤_}
+use mathlib.Core.Path.{_≡_, refl, sym, ap, _∙_}
+use mathlib.Core.Bool.{Bool, true, false}
+use mathlib.Core.List.{List}
+use mathlib.Core.Option.{Option, none, some}
+use native.Mathlib.Omega.{arith}
+use lib.Dec.{eqb}
+use lib.ListN.{length}
+use borrow.Author.Tests.{eq-eqb, ne-eqb}
+use Rattle.error.specs.Outcome.{Outcome, accept, refuse}
+use Rattle.error.specs.Refusals.{numberOf}
+use Rattle.error.specs.declared.Refusal.{Refusal}
+use Rattle.boxes.proofs.Lent.{lent-within}
+use Rattle.nal.specs.Header.{typeOr31}
+use Rattle.params.specs.Heads.{opiOlsIdx}
+use Rattle.params.specs.Answers.{olsIdxOf, olsIdxGiven}
+use Rattle.params.specs.declared.OlsIdx.{OlsIdx}
+use Rattle.params.specs.declared.OlsIdx.the-variants as O
+use Rattle.full.specs.declared.VvcConfig.{VvcConfig}
+use Rattle.access_unit.specs.AccessUnit.{targetOf, agrees, keeps, mayLead}
+use Rattle.access_unit.specs.Answers.{tolsOf}
+use Rattle.access_unit.specs.declared.Target.{Target}
+use Rattle.access_unit.specs.declared.Target.the-variants as T
+
+-- the target
+module _ (h : VvcConfig) (x : Target) where
+  pub target-caller : (t : ℕ) → x ≡ T.Ols t → some t ≡ targetOf h (tolsOf x)
+  target-caller t e = rw e
+
+  pub target-head : x ≡ T.Unset → h .«ptl_present_flag» ≡ true → some (h .«ols_idx») ≡ targetOf h (tolsOf x)
+  target-head e f = rw (e, f)
+
+  pub target-none : x ≡ T.Unset → h .«ptl_present_flag» ≡ false → none ≡ targetOf h (tolsOf x)
+  target-none e f = rw (e, f)
+
+-- whether a unit may lead
+module _ (u : List ℕ) (t : ℕ) (type : t ≡ typeOr31 u) where
+  pub leads-aud : t ≡ 20 → true ≡ mayLead u
+  unfolding mayLead
+  leads-aud e = rw (← type, e)
+
+  pub leads-opi : (t ≡ 20 → ⊥) → eqb t 12 ≡ mayLead u
+  unfolding mayLead
+  leads-opi e = rw (← type, ne-eqb t 20 e)
+
+-- whether a unit is kept
+module _ (target : Option ℕ) (u : List ℕ) (t : ℕ) (type : t ≡ typeOr31 u) where
+  pub keeps-other : (t ≡ 12 → ⊥) → true ≡ keeps target u
+  unfolding keeps
+  keeps-other e = rw (← type, ne-eqb t 12 e)
+
+  module _ (opi : t ≡ 12) (lent : length u ≤ 2 ^ 30) (r : OlsIdx) (said : olsIdxOf r ≡ olsIdxGiven u) where
+    keeps-opi : agrees target (opiOlsIdx u) ≡ keeps target u
+    unfolding keeps
+    keeps-opi = rw (← type, opi)
+
+    given : olsIdxOf r ≡ accept (opiOlsIdx u)
+    given = said ∙ lent-within u (accept (opiOlsIdx u)) lent
+
+    pub keeps-present : (v : ℕ) → r ≡ O.Present v → agrees target (some v) ≡ keeps target u
+    keeps-present v e =
+        let w : accept (some v) ≡ accept (opiOlsIdx u) = ap olsIdxOf (sym e) ∙ given in
+        let x : some v ≡ opiOlsIdx u = cc in
+        ap (agrees target) x ∙ keeps-opi
+
+    pub keeps-absent : r ≡ O.Absent → true ≡ keeps target u
+    keeps-absent e =
+        let w : accept none ≡ accept (opiOlsIdx u) = ap olsIdxOf (sym e) ∙ given in
+        let x : none ≡ opiOlsIdx u = cc in
+        any target ∙ ap (agrees target) x ∙ keeps-opi
+      where
+        any : (o : Option ℕ) → true ≡ agrees o none
+        any none = refl
+        any (some t) = refl
+
+    pub keeps-never : (e : Refusal) → r ≡ O.Refused e → true ≡ keeps target u
+    keeps-never e w = absurd (let x : refuse (numberOf e) ≡ accept (opiOlsIdx u) = ap olsIdxOf (sym w) ∙ given in let z : _≡_ {A = ℕ} 0 1 = cc in omega arith)

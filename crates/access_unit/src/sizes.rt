@@ -1,0 +1,162 @@
+// For this crate's calls: how many units an access unit has from list and item, and how many bytes they hold.
+use super::Target;
+use super::kept;
+use boxes::place;
+use error::Refusal;
+use hvcc::ItemStep;
+use unit_list::ListCursor;
+use unit_list::ListStart;
+use unit_list::ListStep;
+use unit_list::walk;
+ghost use mathlib.Core.Path.{_≡_};
+ghost use Prim.Native.Nat.{_+_, _≤_, _<_, _^_};
+ghost use lib.ListN.{length};
+ghost use Rattle.error.specs.Outcome.{accept, andThen};
+ghost use Rattle.unit_list.specs.Walk.{Fits};
+ghost use Rattle.unit_list.specs.Answers.{listUnits};
+ghost use Rattle.access_unit.specs.Answers.{tolsOf};
+ghost use Rattle.access_unit.specs.Inside.{Walks, keptLeft, unitsLeft, adding, summedOf, itemSum, listSum, gather, sizesOf, sizesWith, measuredOf};
+
+// Units one after another: how many, how many of them may lead in front of all others, and the bytes that they hold.
+pub struct UnitSum {
+    pub count: usize,
+    pub lead: usize,
+    pub lengths: usize,
+}
+
+// All units of an item or of a list, or the refusal.
+pub enum Summed {
+    Sum(UnitSum),
+    Refused(Refusal),
+}
+
+// An access unit: the units of the list, those kept of the item, how many of these lead, and the bytes that all hold.
+pub struct Sizes {
+    pub listed: usize,
+    pub kept: usize,
+    pub lead: usize,
+    pub lengths: usize,
+}
+
+pub enum Measured {
+    Sized(Sizes),
+    Refused(Refusal),
+}
+
+// One unit more.
+fn add(sum: UnitSum, len: usize, leads: bool) -> UnitSum
+    requires { ⌜ (sum .lead ≤ sum .count) × (sum .count + sum .lengths + len < 2 ^ 32) ⌝ }
+    ensures { λ r. ⌜ r ≡ adding leads len sum ⌝ }
+{
+    let count = sum.count + 1;
+    let lead = sum.lead;
+    let lengths = sum.lengths + len;
+    if leads && lead == sum.count {
+        return UnitSum {
+            count: count,
+            lead: count,
+            lengths: lengths,
+        };
+    }
+    UnitSum {
+        count: count,
+        lead: lead,
+        lengths: lengths,
+    }
+}
+
+// The kept units of an item. Refusals: in byte order 1 and 5.
+fn item_sum(item: &[u8], size: usize, target: Target) -> Summed
+    requires { ⌜ Walks size (now item) 0 ⌝ }
+    ensures { λ r. ⌜ summedOf r ≡ andThen (keptLeft size (tolsOf target) (now (item .entry)) 0) (λ ks. accept (itemSum (now (item .entry)) ks)) ⌝ }
+{
+    let mut at: usize = 0;
+    let mut sum = UnitSum {
+        count: 0,
+        lead: 0,
+        lengths: 0,
+    };
+    loop {
+        match kept::next_kept(item, size, target, at) {
+            ItemStep::Unit(a, next) => {
+                let leads = kept::may_lead(place::part(item, a));
+                sum = add(sum, a.len, leads);
+                at = next;
+            }
+            ItemStep::End => return Summed::Sum(sum),
+            ItemStep::Refused(e) => return Summed::Refused(e),
+        }
+    }
+}
+
+// The units of a list behind a cursor. Refusal: 21.
+fn units_sum(list: &[u8], c: ListCursor) -> Summed
+    requires { ⌜ Fits (now list) c ⌝ }
+    ensures { λ r. ⌜ summedOf r ≡ andThen (unitsLeft (now (list .entry)) c) (λ us. accept (listSum (now (list .entry)) us)) ⌝ }
+{
+    let mut here = c;
+    let mut sum = UnitSum {
+        count: 0,
+        lead: 0,
+        lengths: 0,
+    };
+    loop {
+        match walk::step(list, here) {
+            ListStep::Unit(a, next) => {
+                sum = add(sum, a.len, false);
+                here = next;
+            }
+            ListStep::End => return Summed::Sum(sum),
+            ListStep::Malformed => return Summed::Refused(Refusal::UnitList),
+        }
+    }
+}
+
+// The units of a list. Refusals: 23, 21.
+fn list_sum(list: &[u8]) -> Summed
+    ensures { λ r. ⌜ summedOf r ≡ andThen (listUnits (now (list .entry))) (λ us. accept (listSum (now (list .entry)) us)) ⌝ }
+{
+    match walk::start(list) {
+        ListStart::At(c) => units_sum(list, c),
+        ListStart::Refused(e) => Summed::Refused(e),
+    }
+}
+
+// An access unit of a list's units, which are measured, and those of an item. Refusals: 4, then in byte order 1 and 5, 19.
+fn measure_item(item: &[u8], length_size: u8, target: Target, listed: UnitSum) -> Measured
+    requires { ⌜ (length (now item) ≤ 2 ^ 30) × (listed .count + listed .lengths ≤ 2 ^ 30) ⌝ }
+    ensures { λ r. ⌜ measuredOf r ≡ sizesWith «length_size» (tolsOf target) (now (item .entry)) listed ⌝ }
+{
+    if length_size == 0 || 4 < length_size {
+        return Measured::Refused(Refusal::PrefixSize);
+    }
+    let summed = item_sum(item, place::wide(length_size), target);
+    match summed {
+        Summed::Sum(kept) => {
+            if listed.count + kept.count == 0 {
+                return Measured::Refused(Refusal::NothingToWrite);
+            }
+            Measured::Sized(Sizes {
+                listed: listed.count,
+                kept: kept.count,
+                lead: kept.lead,
+                lengths: listed.lengths + kept.lengths,
+            })
+        }
+        Summed::Refused(e) => Measured::Refused(e),
+    }
+}
+
+// An access unit. Refusals: 23, 21, 4, then in byte order 1 and 5, 19.
+pub fn measure(list: &[u8], item: &[u8], length_size: u8, target: Target) -> Measured
+    ensures { λ r. ⌜ measuredOf r ≡ andThen (gather «length_size» (tolsOf target) (now (list .entry)) (now (item .entry))) (λ g. accept (sizesOf (now (list .entry)) (now (item .entry)) g)) ⌝ }
+{
+    if 0x4000_0000 < item.len() {
+        return Measured::Refused(Refusal::InputTooLong);
+    }
+    let summed = list_sum(list);
+    match summed {
+        Summed::Sum(listed) => measure_item(item, length_size, target, listed),
+        Summed::Refused(e) => Measured::Refused(e),
+    }
+}

@@ -1,0 +1,101 @@
+// For this crate's calls: units stored as an Annex B stream.
+use super::Target;
+use super::kept;
+use super::sizes::Sizes;
+use boxes::Span;
+use boxes::place;
+use hvcc::ItemStep;
+use unit_list::ListCursor;
+use unit_list::ListStart;
+use unit_list::ListStep;
+use unit_list::walk;
+ghost use mathlib.Core.Path.{_≡_};
+ghost use mathlib.Core.List.{_++_};
+ghost use Prim.Native.Nat.{_+_, _*_, _≤_, _^_};
+ghost use lib.ListN.{length};
+ghost use lib.Seq.{sets};
+ghost use Rattle.boxes.specs.Parts.{held};
+ghost use Rattle.unit_list.specs.Walk.{Fits};
+ghost use Rattle.access_unit.specs.AccessUnit.{startCode};
+ghost use Rattle.access_unit.specs.Answers.{tolsOf};
+ghost use Rattle.access_unit.specs.Inside.{keptLeft, unitsLeft, foundBytes, PutsFirst, FirstPut, PutsAll, gather, PutsStream, gatheredBytes};
+
+// How many bytes a start code has: those of the number 1.
+pub const START_CODE_LEN: usize = 4;
+
+// Behind the units that were stored: the place of the item to read on from, and the place of the output.
+pub struct Places {
+    pub item: usize,
+    pub out: usize,
+}
+
+// How many bytes the stream of so many units has that hold so many bytes.
+pub fn stream_len(count: usize, lengths: usize) -> usize
+    requires { ⌜ (count ≤ 2 ^ 32) × (lengths ≤ 2 ^ 32) ⌝ }
+    ensures { λ r. ⌜ r ≡ length startCode * count + lengths ⌝ }
+{
+    START_CODE_LEN * count + lengths
+}
+
+// Stores the bytes at a span of `src` behind a start code; gives the place behind them.
+fn put_unit(src: &[u8], a: Span, out: &mut [u8], at: usize) -> usize
+    requires { ⌜ (a .start + a .len ≤ length (now src)) × (at + length startCode + a .len ≤ length (now out)) ⌝ }
+    ensures { λ r. ⌜ (r ≡ at + length startCode + a .len) × (now (out .exit) ≡ sets (now (out .entry)) at (startCode ++ held (now (src .entry)) a)) ⌝ }
+{
+    let unit = place::part(src, a);
+    let start = at + START_CODE_LEN;
+    place::put_number(out, at, START_CODE_LEN, 1);
+    place::copy(unit, out, start);
+    start + a.len
+}
+
+// Stores the first `n` of the kept units from a place of the item on.
+fn put_kept(item: &[u8], size: usize, target: Target, from: usize, n: usize, out: &mut [u8], to: usize) -> Places
+    requires { ⌜ PutsFirst size (tolsOf target) (now item) from n (now out) to ⌝ }
+    ensures { λ r. ⌜ FirstPut size (tolsOf target) (now (item .entry)) from n (now (out .entry)) to r (now (out .exit)) ⌝ }
+{
+    let mut at = from;
+    let mut end = to;
+    let mut left = n;
+    while 0 < left {
+        let step = kept::next_kept(item, size, target, at);
+        let ItemStep::Unit(a, next) = step else {
+            return Places { item: at, out: end };
+        };
+        end = put_unit(item, a, out, end);
+        at = next;
+        left -= 1;
+    }
+    Places { item: at, out: end }
+}
+
+// Stores the units of a list behind a cursor; gives the place behind them.
+fn put_units(list: &[u8], c: ListCursor, out: &mut [u8], to: usize) -> usize
+    requires { ⌜ Fits (now list) c × PutsAll (now list) (unitsLeft (now list) c) (now out) to ⌝ }
+    ensures { λ r. ⌜ (r ≡ to + length (foundBytes (now (list .entry)) (unitsLeft (now (list .entry)) c))) × (now (out .exit) ≡ sets (now (out .entry)) to (foundBytes (now (list .entry)) (unitsLeft (now (list .entry)) c))) ⌝ }
+{
+    let mut here = c;
+    let mut end = to;
+    loop {
+        let ListStep::Unit(a, next) = walk::step(list, here) else {
+            return end;
+        };
+        end = put_unit(list, a, out, end);
+        here = next;
+    }
+}
+
+// Stores the stream of an access unit that was measured: the kept units of the item that lead, the list's units, the rest.
+pub fn put_stream(list: &[u8], item: &[u8], length_size: u8, target: Target, sizes: Sizes, out: &mut [u8])
+    requires { ⌜ PutsStream «length_size» (tolsOf target) (now list) (now item) sizes (now out) ⌝ }
+    ensures { λ _. ⌜ now (out .exit) ≡ sets (now (out .entry)) 0 (gatheredBytes (now (list .entry)) (now (item .entry)) (gather «length_size» (tolsOf target) (now (list .entry)) (now (item .entry)))) ⌝ }
+{
+    let ListStart::At(c) = walk::start(list) else {
+        return;
+    };
+    let size = place::wide(length_size);
+    let led = put_kept(item, size, target, 0, sizes.lead, out, 0);
+    let behind = put_units(list, c, out, led.out);
+    let rest = sizes.kept - sizes.lead;
+    put_kept(item, size, target, led.item, rest, out, behind);
+}

@@ -1,0 +1,208 @@
+-- The whole path of a still, one claim (document 01, demand 3).
+use Prim.Native.Nat.{ℕ, _+_, _≤_, _<_}
+use native.Mathlib.Omega.{arith}
+use mathlib.Core.Path.{_≡_, refl, sym, ap, _∙_, subst}
+use mathlib.Core.Bool.{true}
+use mathlib.Core.Option.{Option}
+use mathlib.Core.List.{List, [], _∷_, _++_}
+use lib.Dec.{leb}
+use lib.ListN.{length, getD, drop, length-map}
+use lib.Seq.{ext-getD}
+use borrow.Author.Tests.{le-leb}
+use Rattle.error.specs.Outcome.{Outcome, accept, overlay, lentOutput, counted}
+use Rattle.boxes.specs.Parts.{held, nowhere}
+use Rattle.boxes.specs.declared.Span.{Span}
+use Rattle.hvcc.specs.Stream.{splitStream}
+use Rattle.compact.specs.Compact.{CompactParsed, parseCompact}
+use Rattle.compact.specs.ItemData.{restore}
+use Rattle.compact.specs.declared.CompactVvcConfig.{CompactVvcConfig}
+use Rattle.full.specs.Read.{FullParsed, parseFull}
+use Rattle.full.specs.Write.{serializeFull}
+use Rattle.full.specs.declared.VvcConfig.{VvcConfig}
+use Rattle.expand.specs.Expand.{Picture, FullHead, toFull}
+use Rattle.expand.proofs.Grouping.{GroupedAs}
+use Rattle.access_unit.specs.AccessUnit.{assemble}
+use Rattle.nal.specs.Header.{typeOr31}
+use Rattle.nal.proofs.Checks.{Splittable}
+use Rattle.unit_list.specs.UnitList.{unitsOf}
+use Rattle.hvcc.specs.Stream.{annexB, unitsFrom}
+use Rattle.ptl.specs.declared.VvcPtlRecord.{VvcPtlRecord}
+use Rattle.ptl_record.proofs.RoundTrip as P
+use Rattle.params.specs.Heads.{parseSps, vpsFirstPtl}
+use Rattle.params.specs.declared.SpsHead.{SpsHead}
+use Rattle.full.specs.Write.{fullBytes}
+use Rattle.expand.specs.Expand.{grouped, expandedHead, expandUnits}
+use Rattle.expand.proofs.Grouping.{grouped-as}
+use Rattle.expand.proofs.GroupedFits.{Every, Groupable}
+use Rattle.access_unit.specs.AccessUnit.{startCode}
+use Rattle.vvcc.proofs.Premises.{Bytes, Still, unitsIn}
+use Rattle.vvcc.proofs.Units.{every-of, every-at, one-of, type-small, clean-splits}
+use Rattle.vvcc.proofs.Record.{Facts, facts}
+use Rattle.vvcc.proofs.Expansion.{Expansion, expansion, of-units}
+use Rattle.vvcc.proofs.Carried.{Expanded, back, item, written, read-back, restored, assembles, splits, split-count, unit-below, unit-last}
+
+-- A call that writes is accepted with any output that is long enough: it hands back a, and its bytes stand at the front.
+abbrev pub Writes : {A : Type 0} → Outcome (A × List ℕ) → A → List ℕ → Type 0
+Writes o a bytes = (out : List ℕ) → length bytes ≤ length out → lentOutput o out ≡ (accept a, overlay bytes out)
+
+-- All steps accepted, each taking what those before it gave, and the units that are split off in the end.
+pub record Path (C S : List ℕ) (pic : Picture) (tols : Option ℕ) : Type 0 where
+  pub read : CompactParsed
+  pub list : List ℕ
+  pub reads : Writes (parseCompact C) read list
+  pub full : FullHead
+  pub full-list : List ℕ
+  pub expands : Writes (toFull (read .config) pic list) full full-list
+  pub bytes : List ℕ
+  pub writes : Writes (counted (serializeFull (full .head) full-list)) (length bytes) bytes
+  pub head : VvcConfig
+  pub reads-back : Writes (parseFull bytes) (record { head = head; consumed = length bytes; listLength = length full-list }) full-list
+  pub item : List ℕ
+  pub restores : Writes (counted (restore (read .config) S)) (length item) item
+  pub stream : List ℕ
+  pub assembles : Writes (counted (assemble head full-list item tols)) (length stream) stream
+  pub spans : List Span
+  pub splits : splitStream stream ≡ accept spans
+  -- n + 1 units: below n the grouped units, C's units in the described order, one place each; then 00 41 S
+  pub grouped : List (List ℕ)
+  pub order : GroupedAs (unitsIn C) grouped
+  pub count : length spans ≡ length (unitsIn C) + 1
+  pub unit : (k : ℕ) → k < length (unitsIn C) → held stream (getD spans k nowhere) ≡ getD grouped k []
+  pub last : held stream (getD spans (length (unitsIn C)) nowhere) ≡ 0x00 ∷ 0x41 ∷ S
+  -- the stream's bytes: each of these units behind 00 00 00 01
+  pub is-stream : stream ≡ annexB (0x00 ∷ 0x00 ∷ 0x00 ∷ 0x01 ∷ []) (grouped ++ ((0x00 ∷ 0x41 ∷ S) ∷ []))
+
+-- what is accepted is written to any output that is long enough
+writes-of : {A : Type 0} (o : Outcome (A × List ℕ)) (a : A) (b : List ℕ) → o ≡ accept (a, b) → Writes o a b
+writes-of o a b e out h = rw e (rw (le-leb (length b) (length out) h))
+
+counts-of : (o : Outcome (List ℕ)) (b : List ℕ) → o ≡ accept b → Writes (counted o) (length b) b
+counts-of o b e out h = rw e (rw (le-leb (length b) (length out) h))
+
+module _
+    (sps-ptl : (u : List ℕ) (h : SpsHead) → Bytes u → parseSps u ≡ accept h → h .«ptl_present_flag» ≡ true → P.Writable (h .ptl))
+    (vps-ptl : (u : List ℕ) (p : VvcPtlRecord) → Bytes u → vpsFirstPtl u ≡ accept p → P.Writable p) where
+  module _ (C S : List ℕ) (pic : Picture) (still : Still C S pic) where
+    abbrev us : List (List ℕ)
+    us = unitsIn C
+
+    known : Facts C (still .bytes) (still .read) (still .list)
+    known = facts C (still .bytes) (still .read) (still .list) (still .reads)
+
+    groupable : Groupable us
+    groupable = record {
+        count = omega (arith, known .few);
+        short = known .short;
+        types = every-of (λ u. typeOr31 u ≤ 31) us (λ k h. type-small (getD us k []) (every-at Bytes us (known .all-bytes) k h));
+        opi = one-of 12 us (still .one-opi);
+        dci = one-of 13 us (still .one-dci) }
+
+    splittable : Every Splittable us
+    splittable = every-of Splittable us (λ k h. clean-splits (getD us k []) (still .some k h) (still .clean k h))
+
+    expanded : Expansion sps-ptl vps-ptl us (known .all-bytes) (still .read .config) pic (still .full) (still .full-list)
+    expanded =
+        expansion sps-ptl vps-ptl us (known .all-bytes) (still .read .config) pic (still .full) (still .full-list) (still .plain)
+        (subst (λ (vs : List (List ℕ)). expandUnits (still .read .config) pic vs ≡ accept (still .full, still .full-list)) (known .units .bytes)
+        (of-units (still .read .config) pic (still .list) (known .units .spans) (still .full, still .full-list) (known .units .read) (still .expands)))
+
+    carries : Expanded (still .read .config) pic (expanded .ptl) us S
+    carries = record {
+        plain = still .plain;
+        size-low = known .size-low;
+        size-high = known .size-high;
+        size = still .size;
+        chroma = still .chroma;
+        depth = still .depth;
+        ptl-ok = expanded .writable;
+        units = groupable;
+        few = known .few;
+        split = splittable;
+        clean = still .picture-clean;
+        short = still .short;
+        fits = still .fits }
+
+    -- the stream, which depends on neither the picture's numbers nor the target
+    abbrev streamOf : List ℕ
+    streamOf = annexB startCode (unitsOf (grouped us) ++ ((0 ∷ 65 ∷ S) ∷ []))
+
+    abbrev c : CompactVvcConfig
+    c = still .read .config
+
+    abbrev recordOf : List ℕ
+    recordOf = fullBytes (expandedHead c pic (expanded .ptl)) (grouped us)
+
+    abbrev headBack : VvcConfig
+    headBack = back c pic (expanded .ptl) us S carries
+
+    abbrev itemOf : List ℕ
+    itemOf = item c pic (expanded .ptl) us S carries
+
+    is-written : serializeFull (still .full .head) (still .full-list) ≡ accept recordOf
+    is-written =
+        subst (λ (h : VvcConfig). serializeFull h (still .full-list) ≡ accept recordOf) (sym (expanded .head))
+        (subst (λ (l : List ℕ). serializeFull (expandedHead c pic (expanded .ptl)) l ≡ accept recordOf) (sym (expanded .is-list))
+        (written c pic (expanded .ptl) us S carries))
+
+    is-read-back : parseFull recordOf ≡ accept (record { head = headBack; consumed = length recordOf; listLength = length (still .full-list) }, still .full-list)
+    is-read-back =
+        subst (λ (l : List ℕ). parseFull recordOf ≡ accept (record { head = headBack; consumed = length recordOf; listLength = length l }, l)) (sym (expanded .is-list))
+        (read-back c pic (expanded .ptl) us S carries)
+
+    is-assembled : (tols : Option ℕ) → assemble headBack (still .full-list) itemOf tols ≡ accept streamOf
+    is-assembled tols =
+        subst (λ (l : List ℕ). assemble headBack l itemOf tols ≡ accept streamOf) (sym (expanded .is-list)) (assembles c pic (expanded .ptl) us S carries tols)
+
+    -- the claim's first half
+    pub path : (tols : Option ℕ) → Path C S pic tols
+    path tols = record {
+        read = still .read;
+        list = still .list;
+        reads = writes-of (parseCompact C) (still .read) (still .list) (still .reads);
+        full = still .full;
+        full-list = still .full-list;
+        expands = writes-of (toFull c pic (still .list)) (still .full) (still .full-list) (still .expands);
+        bytes = recordOf;
+        writes = counts-of (serializeFull (still .full .head) (still .full-list)) recordOf is-written;
+        head = headBack;
+        reads-back = writes-of (parseFull recordOf) (record { head = headBack; consumed = length recordOf; listLength = length (still .full-list) }) (still .full-list) is-read-back;
+        item = itemOf;
+        restores = counts-of (restore c S) itemOf (restored c pic (expanded .ptl) us S carries);
+        stream = streamOf;
+        assembles = counts-of (assemble headBack (still .full-list) itemOf tols) streamOf (is-assembled tols);
+        spans = unitsFrom streamOf 0;
+        splits = splits c pic (expanded .ptl) us S carries;
+        grouped = unitsOf (grouped us);
+        order = grouped-as us;
+        count = split-count c pic (expanded .ptl) us S carries;
+        unit = unit-below c pic (expanded .ptl) us S carries;
+        last = unit-last c pic (expanded .ptl) us S carries;
+        is-stream = refl }
+
+-- The claim's second half: "the streams are the same bytes exactly when the S are equal and the grouped units are equal in order", for
+-- any two stills, each with its own prefix size, target, chroma, depth and dimensions.
+module _ {C S C′ S′ : List ℕ} {pic pic′ : Picture} {tols tols′ : Option ℕ} (p : Path C S pic tols) (q : Path C′ S′ pic′ tols′) where
+  grouped-long : {C S : List ℕ} {pic : Picture} {tols : Option ℕ} (p : Path C S pic tols) → length (p .grouped) ≡ length (unitsIn C)
+  grouped-long p = ap length (p .order .units) ∙ length-map (p .order .order) _ ∙ p .order .count
+
+  pub same-streams : S ≡ S′ → p .grouped ≡ q .grouped → p .stream ≡ q .stream
+  same-streams s g = p .is-stream ∙ rw (s, g) (sym (q .is-stream))
+
+  module _ (e : p .stream ≡ q .stream) where
+    same-spans : p .spans ≡ q .spans
+    same-spans = let r : _≡_ {A = Outcome (List Span)} (accept (p .spans)) (accept (q .spans)) = sym (p .splits) ∙ ap splitStream e ∙ q .splits in cc
+
+    same-count : length (unitsIn C) ≡ length (unitsIn C′)
+    same-count = omega (arith, p .count, q .count, ap length same-spans)
+
+    same-unit : (k : ℕ) → held (p .stream) (getD (p .spans) k nowhere) ≡ held (q .stream) (getD (q .spans) k nowhere)
+    same-unit k = rw (e, same-spans)
+
+    pub same-grouped : p .grouped ≡ q .grouped
+    same-grouped =
+        ext-getD [] (p .grouped) (q .grouped) (grouped-long p ∙ same-count ∙ sym (grouped-long q))
+        (λ k h. sym (p .unit k (omega (arith, grouped-long p))) ∙ same-unit k ∙ q .unit k (omega (arith, grouped-long p, same-count)))
+
+    pub same-picture : S ≡ S′
+    same-picture =
+        ap (drop 2) (sym (p .last) ∙ same-unit (length (unitsIn C)) ∙ ap (λ (k : ℕ). held (q .stream) (getD (q .spans) k nowhere)) same-count ∙ q .last)

@@ -6,3 +6,4 @@ pub mod Carried
 pub mod Expansion
 pub mod Path
 pub mod Record
+pub mod Instance

@@ -1,9 +1,9 @@
 -- Laws of the stream: its length, streams one behind the other, and storing it unit by unit.
-use Prim.Native.Nat.{ℕ, suc, _+_, _*_, _≤_}
+use Prim.Native.Nat.{ℕ, zero, suc, _+_, _-_, _*_, _≤_, _<_}
 use mathlib.Core.Path.{_≡_, refl, sym, ap, _∙_}
 use mathlib.Core.List.{List, [], _∷_, _++_, map, append-assoc}
 use native.Mathlib.Omega.{arith}
-use lib.ListN.{length, length-append}
+use lib.ListN.{length, take, drop, length-append}
 use lib.Seq.{sets, length-sets}
 use Rattle.error.specs.Outcome.{Outcome, accept, refuse}
 use Rattle.boxes.specs.Bytes.{toBe}
@@ -11,10 +11,11 @@ use Rattle.boxes.specs.Parts.{held}
 use Rattle.boxes.specs.Walk.{more}
 use Rattle.boxes.specs.declared.Span.{Span}
 use Rattle.boxes.proofs.Sets.{sets-append}
+use Rattle.boxes.proofs.Walk.{total}
 use Rattle.unit_list.proofs.Accepted.{held-long}
 use Rattle.hvcc.specs.Stream.{annexB}
 use Rattle.access_unit.specs.AccessUnit.{startCode}
-use Rattle.access_unit.specs.Inside.{lengths, bytesAt, foundBytes, PutsAll}
+use Rattle.access_unit.specs.Inside.{lengths, bytesAt, foundBytes, PutsAll, firstOf, restOf}
 
 -- the stream's length is 4 times the units plus their lengths
 pub stream-length : (us : List (List ℕ)) → length (annexB startCode us) ≡ 4 * length us + lengths us
@@ -122,3 +123,48 @@ module _ (s : List ℕ) (n E : ℕ) (B : List ℕ) (o : Outcome (List Span)) (ou
     pub remaining-more : (after : List ℕ) (behind : ℕ) → behind ≡ end + 4 + a .len → after ≡ sets out end (startCode ++ held s a) → Remaining s n E B left after behind
     remaining-more after behind f g =
         record { rest = ahead .tail; found = ahead .left; storing = storing-more s n E B a (ahead .tail) out end split inside after behind f g }
+
+-- ### the units left in a walk that stores the first of them: so many are left, and what then comes is known
+
+pub record FirstLeft (s : List ℕ) (n E : ℕ) (B : List ℕ) (then : Outcome (List Span)) (o : Outcome (List Span)) (left : ℕ) (out : List ℕ) (end : ℕ) : Type 0 where
+  pub rest : List Span
+  pub found : o ≡ accept rest
+  pub enough : left ≤ length rest
+  pub next : accept (drop left rest) ≡ then
+  pub storing : Storing s n E B (take left rest) out end
+
+pub first-start : (s : List ℕ) (o : Outcome (List Span)) (us : List Span) → o ≡ accept us → (k : ℕ) → k ≤ length us → (out : List ℕ) (to : ℕ)
+    → to + length (bytesAt s (take k us)) ≤ length out
+    → FirstLeft s (length out) (to + length (foundBytes s (firstOf k o))) (sets out to (foundBytes s (firstOf k o))) (restOf k o) o k out to
+first-start s o us e k h out to r = rw e (record { rest = us; found = refl; enough = h; next = refl; storing = storing-start s (take k us) out to r })
+
+module _ (s : List ℕ) (n E : ℕ) (B : List ℕ) (then : Outcome (List Span)) (o : Outcome (List Span)) where
+  pub first-end : (left : ℕ) (out : List ℕ) (end : ℕ) → FirstLeft s n E B then o left out end → left ≤ 0 → (end ≡ E) × (out ≡ B) × (o ≡ then)
+  first-end zero out end i h = let w = storing-end s n E B out end (i .storing) in (w .0, w .1, i .found ∙ i .next)
+  first-end (suc l) out end i h = absurd (omega arith)
+
+  module _ (a : Span) (o' : Outcome (List Span)) (e : o ≡ more a o') (inside : a .start + a .len ≤ length s) where
+    pub first-room : (left : ℕ) (out : List ℕ) (end : ℕ) → FirstLeft s n E B then o left out end → 0 < left → end + 4 + a .len ≤ length out
+    first-room zero out end i h = absurd (omega arith)
+    first-room (suc l) out end i h =
+        let f = front a o' (i .rest) (sym e ∙ i .found) in
+        storing-room s n E B a (take l (f .tail)) out end (rw (f .is) at (i .storing)) inside
+
+    pub first-more : (left : ℕ) (out : List ℕ) (end : ℕ) → FirstLeft s n E B then o left out end → 0 < left
+        → (after : List ℕ) (behind : ℕ) → behind ≡ end + 4 + a .len → after ≡ sets out end (startCode ++ held s a) → FirstLeft s n E B then o' (left - 1) after behind
+    first-more zero out end i h after behind p q = absurd (omega arith)
+    first-more (suc l) out end i h after behind p q =
+        let f = front a o' (i .rest) (sym e ∙ i .found) in
+        let k = ap length (f .is) in
+        let z : suc l - 1 ≡ l = omega arith in
+        rw z (record {
+          rest = f .tail;
+          found = f .left;
+          enough = omega (arith, k, i .enough);
+          next = rw (f .is) at (i .next);
+          storing = storing-more s n E B a (take l (f .tail)) out end (rw (f .is) at (i .storing)) inside after behind p q;
+        })
+
+  -- a unit is left, so one is found
+  pub first-some : (left : ℕ) (out : List ℕ) (end : ℕ) → FirstLeft s n E B then o left out end → 0 < left → total o ≡ 0 → ⊥
+  first-some left out end i h z = let t = ap total (i .found) in omega (arith, t, i .enough)

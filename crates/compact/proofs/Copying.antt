@@ -1,7 +1,7 @@
 -- Laws of a walk that stores the units it finds, one behind the other: what is stored and what is left make the whole.
-use Prim.Native.Nat.{ℕ, _+_, _≤_, _<_}
+use Prim.Native.Nat.{ℕ, _+_, _≤_}
 use mathlib.Core.Path.{_≡_, refl, sym, ap, _∙_}
-use mathlib.Core.List.{List, [], _∷_, map}
+use mathlib.Core.List.{List, [], _∷_}
 use native.Mathlib.Omega.{arith}
 use lib.ListN.{length, length-append}
 use lib.Seq.{sets, length-sets}
@@ -76,5 +76,5 @@ module _ (w : ℕ) (s out₀ : List ℕ) (to₀ : ℕ) (o₀ : Outcome (List Spa
             same = l ∙ i .same;
             whole =
                 rw (f, k) (sets-append out to (toChunk w (held s a)) (unitBytes w s us))
-                ∙ ap (λ (x : Outcome (List Span)). sets out to (foundBytes w s x)) (sym e) ∙ i .whole
+                ∙ ap (λ (x : Outcome (List Span)). sets out to (foundBytes w s x)) (sym e) ∙ i .whole;
           }

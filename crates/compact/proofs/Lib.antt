@@ -4,3 +4,6 @@ pub mod RecordUnits
 pub mod RecordRead
 pub mod ListUnits
 pub mod Stills
+pub mod Facts
+pub mod Restored
+pub mod Examples

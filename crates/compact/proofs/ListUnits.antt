@@ -9,7 +9,7 @@ use lib.Dec.{leb}
 use lib.ListN.{length, set, length-map}
 use lib.Seq.{sets}
 use borrow.Author.Tests.{le-leb, lt-leb, eq-eqb, ne-eqb, lt-ltb, le-ltb}
-use Rattle.error.specs.Outcome.{Outcome, accept, refuse, andThen}
+use Rattle.error.specs.Outcome.{Outcome, accept, refuse}
 use Rattle.error.specs.Refusals.{numberOf}
 use Rattle.error.specs.declared.Refusal.{Refusal}
 use Rattle.boxes.specs.Parts.{held}
@@ -121,9 +121,10 @@ module _ (s : List ℕ) (c : ListCursor) where
 
   module _ (here : ListCursor) (v : UnitSum) (i : Summing s c here v) (r : ListStep) (f : (stepped s r ≡ leftOf s here) × StepFits s here r) where
     pub summing-end : r ≡ L.End → (accept v ≡ summed s nothing (unitsLeft s c)) × (v .room ≤ 2 ^ 32)
-    summing-end e =
-        (ap accept (sym (adding-none s v)) ∙ ap (summed s v) (sym (left-end s here r f e)) ∙ i .whole,
-        omega (arith, i .few, i .fits .before, i .fits .within, i .fits .lent))
+    summing-end e = (
+      ap accept (sym (adding-none s v)) ∙ ap (summed s v) (sym (left-end s here r f e)) ∙ i .whole,
+      omega (arith, i .few, i .fits .before, i .fits .within, i .fits .lent),
+    )
 
     pub summing-malformed : r ≡ L.Malformed → refuse 21 ≡ summed s nothing (unitsLeft s c)
     summing-malformed e = ap (summed s v) (sym (left-malformed s here r f e)) ∙ i .whole
@@ -146,7 +147,7 @@ module _ (s : List ℕ) (c : ListCursor) where
             few = omega (arith, i .few, next-ahead s here r f a next e);
             whole =
                 summed-more s a (unit-within s here r f a next e) v (unitsLeft s next)
-                ∙ ap (summed s v) (sym (left-next s here r f a next e)) ∙ i .whole
+                ∙ ap (summed s v) (sym (left-next s here r f a next e)) ∙ i .whole;
           }
 
 -- what is known of a list once it is measured
@@ -165,7 +166,7 @@ sum-of s (accept us) v e =
       found = refl;
       count = ap (λ (x : UnitSum). x .count) w ∙ omega arith;
       room = ap (λ (x : UnitSum). x .room) w ∙ omega arith;
-      fits = ap (λ (x : UnitSum). x .fits) w
+      fits = ap (λ (x : UnitSum). x .fits) w;
     }
 sum-of s (refuse n) v e = absurd (let z : _≡_ {A = ℕ} 0 1 = cc in omega arith)
 

@@ -1,6 +1,6 @@
 -- Laws of lent output: what a call gives and leaves on a refusal, where the result is too long (20), and where it fits.
 use Prim.Native.Nat.{ℕ, _≤_, _<_}
-use mathlib.Core.Path.{_≡_, refl, sym, ap, _∙_}
+use mathlib.Core.Path.{_≡_, ap}
 use mathlib.Core.List.{List}
 use lib.ListN.{length}
 use lib.Seq.{sets}

@@ -1,19 +1,19 @@
 -- Laws of reading a compact record: its answers, in the order of their tests.
-use Prim.Native.Nat.{ℕ, zero, suc, _+_, _/_, _%_, _^_, _≤_, _<_}
+use Prim.Native.Nat.{ℕ, zero, suc, _+_, _%_, _^_, _≤_, _<_}
 use mathlib.Core.Path.{_≡_, refl, sym, ap, _∙_}
 use mathlib.Core.List.{List, [], _∷_, map}
 use native.Mathlib.Omega.{arith}
 use lib.ListN.{length, getD}
-use borrow.Author.Tests.{le-leb, lt-leb, lt-ltb, le-ltb}
-use Rattle.error.specs.Outcome.{Outcome, accept, refuse, andThen}
+use borrow.Author.Tests.{le-leb, lt-ltb, le-ltb}
+use Rattle.error.specs.Outcome.{accept, refuse, andThen}
 use Rattle.error.specs.Parse.{Parsed, value, refused, bind, Parser, times, outcome}
 use Rattle.boxes.specs.Bytes.{chunk}
 use Rattle.boxes.specs.Parts.{held}
 use Rattle.boxes.specs.declared.Span.{Span}
 use Rattle.boxes.proofs.Fields.{uint-there, uint-short}
-use Rattle.boxes.proofs.Lent.{lent-too-long, lent-within}
+use Rattle.boxes.proofs.Lent.{lent-too-long}
 use Rattle.unit_list.proofs.Arrays.{be-one}
-use Rattle.compact.specs.Compact.{atEnd, compactRecord, CompactParsed, oneArray, parsedWith, parseCompact}
+use Rattle.compact.specs.Compact.{atEnd, compactRecord, oneArray, parsedWith, parseCompact}
 use Rattle.compact.specs.Inside.{unitBytes, recordUnits, configOf}
 use Rattle.compact.specs.declared.CompactVvcConfig.{CompactVvcConfig}
 use Rattle.compact.proofs.RecordUnits.{list-long}
@@ -49,14 +49,18 @@ module _ (s : List ℕ) where
     parse-empty h = rw (le-leb (length s) (2 ^ 30) lent, uint-short 1 s 0 (omega arith))
 
     module _ (some : 1 ≤ length s) (n : ℕ) (is-n : n ≡ getD s 0 0 % 32 + 2) where
-      pub parse-short : recordUnits s n ≡ refused 1 → parseCompact s ≡ refuse 1
+      pub parse-short : (m : ℕ) → recordUnits s n ≡ refused m → parseCompact s ≡ refuse m
       unfolding parseCompact compactRecord
-      parse-short e = rw (le-leb (length s) (2 ^ 30) lent, uint-there 1 s 0 (omega arith), be-one s 0, ← is-n, e)
+      parse-short m e = rw (le-leb (length s) (2 ^ 30) lent, uint-there 1 s 0 (omega arith), be-one s 0, ← is-n, e)
 
       module _ (us : List Span) (q : ℕ) (e : recordUnits s n ≡ value us q) where
         pub parse-over : q < length s → parseCompact s ≡ refuse 7
         unfolding parseCompact compactRecord atEnd
         parse-over h = rw (le-leb (length s) (2 ^ 30) lent, uint-there 1 s 0 (omega arith), be-one s 0, ← is-n, e, lt-ltb q (length s) h)
+
+        pub record-given : length s ≤ q → compactRecord s 0 ≡ value (configOf (getD s 0 0), us) q
+        unfolding compactRecord atEnd
+        record-given h = rw (uint-there 1 s 0 (omega arith), be-one s 0, ← is-n, e, le-ltb q (length s) h)
 
         pub parse-given : length s ≤ q → parseCompact s ≡ accept (parsedWith s (configOf (getD s 0 0), us))
         unfolding parseCompact compactRecord atEnd

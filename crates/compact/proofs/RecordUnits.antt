@@ -70,7 +70,7 @@ module _ (s : List ℕ) (n p : ℕ) (some : 0 < n) (r : ChunkRead) (said : chunk
           inside = whole .fits;
           measure =
               λ k. measured-bind s a (whole .fits) k (times (n - 1) (chunk 1) s (a .start + a .len)) ∙ ap (measured s k) (sym times-more);
-          left = ap outcome times-more ∙ outcome-bind a (times (n - 1) (chunk 1) s (a .start + a .len))
+          left = ap outcome times-more ∙ outcome-bind a (times (n - 1) (chunk 1) s (a .start + a .len));
         }
 
 -- none left
@@ -94,6 +94,17 @@ measured-units s (value us q) room behind e =
     let r : room ≡ 0 + length (unitBytes 4 s us) = cc in
     record { units = us; read = ap (value us) (sym z); long = omega arith }
 measured-units s (refused n) room behind e = absurd (let z : _≡_ {A = ℕ} 0 1 = cc in omega arith)
+
+-- there is room for the list
+module _ (s : List ℕ) (x : Parsed (List Span)) (room behind : ℕ) (m : Measured s x room behind) where
+  pub measured-copies : (out : List ℕ) → 7 + room ≤ length out → Copies 4 s (outcome x) out 7
+  measured-copies out h = record { units = m .units; found = ap outcome (m .read); fits = omega (arith, m .long) }
+
+  pub measured-room : room ≡ length (foundBytes 4 s (outcome x))
+  measured-room = m .long ∙ sym (ap (λ (y : Parsed (List Span)). length (foundBytes 4 s (outcome y))) (m .read))
+
+  pub measured-list : foundList s (outcome x) ≡ oneArray (map (held s) (m .units))
+  measured-list = ap (λ (y : Parsed (List Span)). foundList s (outcome y)) (m .read)
 
 pub measured-refused : (s : List ℕ) (x : Parsed (List Span)) (n : ℕ) → refused n ≡ measured s 0 x → x ≡ refused n
 measured-refused s (value us q) n e = absurd (let z : _≡_ {A = ℕ} 0 1 = cc in omega arith)
@@ -126,5 +137,5 @@ list-stored s (refuse n) out d e f room to h l x y z = absurd (let w = h .found 
 list-stored s (accept us) out d e f room to h l x y z =
     let k : 1 + length (listHead room) ≡ 7 = omega (arith, head-long room) in
     let a : sets (sets (set out 0 1) 1 (listHead room)) 7 (unitBytes 4 s us) ≡ sets (set out 0 1) 1 (listHead room ++ unitBytes 4 s us) =
-        rw k at (sets-append (set out 0 1) 1 (listHead room) (unitBytes 4 s us)) in
+    rw k at (sets-append (set out 0 1) 1 (listHead room) (unitBytes 4 s us)) in
     z ∙ rw (y, x, list-bytes (map (held s) us), ← l) a

@@ -1,7 +1,7 @@
 -- Laws of the one unit of a still: its answers, its bytes stored piece by piece, and its header.
 use Prim.Native.Nat.{ℕ, suc, _+_, _-_, _/_, _%_, _^_, _≤_, _<_}
 use mathlib.Core.Path.{_≡_, refl, sym, ap, _∙_}
-use mathlib.Core.Bool.{Bool, true, false, _&&_}
+use mathlib.Core.Bool.{true, false}
 use mathlib.Core.Logic.{_⊎_, ⊎-elim}
 use mathlib.Core.List.{List, [], _∷_, _++_}
 use native.Mathlib.Omega.{arith}
@@ -20,12 +20,13 @@ use Rattle.boxes.proofs.Many.{many-bad}
 use Rattle.boxes.proofs.Numbers.{length-toBe}
 use Rattle.boxes.proofs.Sets.{sets-append}
 use Rattle.unit_list.proofs.Accepted.{held-long}
-use Rattle.hvcc.specs.Item.{itemUnit}
+use Rattle.hvcc.specs.Item.{itemUnit, itemUnits}
 use Rattle.hvcc.specs.Answers.{leftOf}
 use Rattle.hvcc.proofs.Items.{left-step}
 use Rattle.nal.specs.Header.{nalHeader}
 use Rattle.compact.proofs.ListUnits.{and-false}
-use Rattle.compact.specs.ItemData.{stillUnit, prefixed, isStill, onlyStill}
+use Rattle.compact.specs.ItemData.{stillUnit, prefixed, restore, isStill, onlyStill, strip}
+use Rattle.compact.specs.declared.CompactVvcConfig.{CompactVvcConfig}
 
 -- ### restored
 
@@ -51,7 +52,7 @@ still-stored stored out d e f g size header h x y z w =
     let l : 0 + length (toBe size (2 + length stored)) ≡ size = omega (arith, length-toBe size (2 + length stored)) in
     let n : length (stillUnit stored) ≡ 2 + length stored = omega arith in
     let a : sets (sets out 0 (toBe size (2 + length stored))) size (stillUnit stored) ≡ sets out 0 (toBe size (2 + length stored) ++ stillUnit stored) =
-        rw l at (sets-append out 0 (toBe size (2 + length stored)) (stillUnit stored)) in
+    rw l at (sets-append out 0 (toBe size (2 + length stored)) (stillUnit stored)) in
     w ∙ rw (two, z, one, y, x, h, n) a
 
 -- ### stripped
@@ -109,7 +110,7 @@ module _ (item : List ℕ) (a : Span) (inside : a .start + a .len ≤ length ite
         rw (held-header, is-still (getD item (a .start) 0) (getD item (a .start + 1) 0) (held item (record { start = a .start + 2; len = a .len - 2 })) h k l)
 
 -- no unit, one that ends before the item does, and the only one
-module _ (size : ℕ) (item : List ℕ) where
+module _ (item : List ℕ) where
   pub none-still : (o : Outcome (List Span)) → total o ≡ 0 → refuse 24 ≡ onlyStill item o
   none-still (accept []) e = refl
   none-still (accept (a ∷ us)) e = absurd (omega arith)
@@ -119,10 +120,38 @@ module _ (size : ℕ) (item : List ℕ) where
   several a b (accept us) = refl
   several a b (refuse n) = refl
 
-  pub more-behind : (a : Span) (p : ℕ) → p < length item → refuse 24 ≡ onlyStill item (more a (leftOf size item p))
+  pub more-behind : (size : ℕ) (a : Span) (p : ℕ) → p < length item → refuse 24 ≡ onlyStill item (more a (leftOf size item p))
   unfolding leftOf
-  more-behind a p h = go (itemUnit size item p) refl
+  more-behind size a p h = go (itemUnit size item p) refl
     where
       go : (x : Parsed Span) → itemUnit size item p ≡ x → refuse 24 ≡ onlyStill item (more a (leftOf size item p))
       go (refused n) e = rw (many-bad (itemUnit size) item p n h e)
       go (value b q) e = several a b (leftOf size item q) ∙ ap (λ (o : Outcome (List Span)). onlyStill item (more a o)) (sym (left-step size item p b q h e))
+
+-- ### the two calls, by the tests of their input and of the flag
+
+module _ (c : CompactVvcConfig) (s : List ℕ) where
+  pub restore-too-long : 2 ^ 30 < length s → restore c s ≡ refuse 23
+  unfolding restore
+  restore-too-long h = rw (lt-leb (length s) (2 ^ 30) h)
+
+  pub strip-too-long : 2 ^ 30 < length s → strip c s ≡ refuse 23
+  unfolding strip
+  strip-too-long h = rw (lt-leb (length s) (2 ^ 30) h)
+
+  module _ (lent : length s ≤ 2 ^ 30) where
+    pub restore-copy : c .«multi_layer_flag» ≡ true → restore c s ≡ accept s
+    unfolding restore
+    restore-copy e = rw (le-leb (length s) (2 ^ 30) lent, e)
+
+    pub restore-unit : c .«multi_layer_flag» ≡ false → restore c s ≡ prefixed (c .«length_size») (stillUnit s)
+    unfolding restore
+    restore-unit e = rw (le-leb (length s) (2 ^ 30) lent, e)
+
+    pub strip-copy : c .«multi_layer_flag» ≡ true → strip c s ≡ accept s
+    unfolding strip
+    strip-copy e = rw (le-leb (length s) (2 ^ 30) lent, e)
+
+    pub strip-unit : c .«multi_layer_flag» ≡ false → strip c s ≡ onlyStill s (itemUnits (c .«length_size») s)
+    unfolding strip
+    strip-unit e = rw (le-leb (length s) (2 ^ 30) lent, e)

@@ -22,8 +22,8 @@ atEnd s p = if ltb p (length s) then refused 7 else value tt p
 -- the record, with its units where they lie
 unfoldable pub compactRecord : Parser (CompactVvcConfig × List Span)
 compactRecord = do
-  b ← uint 1                             -- multi_layer_flag 1, lengthSizeMinusOne 2, num_nal_units_minus2 5
-  units ← times (b % 32 + 2) (chunk 1)   -- nal_unit_length, nal_unit
+  b ← uint 1  -- multi_layer_flag 1, lengthSizeMinusOne 2, num_nal_units_minus2 5
+  units ← times (b % 32 + 2) (chunk 1)  -- nal_unit_length, nal_unit
   atEnd
   give (record { «multi_layer_flag» = eqb (b / 128) 1; «length_size» = b / 32 % 4 + 1 }, units)
 

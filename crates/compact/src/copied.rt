@@ -4,7 +4,6 @@ use boxes::place;
 use error::Refusal;
 use error::Written;
 use unit_list::write;
-
 ghost use mathlib.Core.Path.{_≡_};
 ghost use Prim.Native.Nat.{_+_, _≤_};
 ghost use lib.ListN.{length};

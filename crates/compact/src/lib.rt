@@ -1,7 +1,7 @@
 // The compact record of a low-overhead still, and the item data that goes with it.
 pub mod copied;
-pub mod record_units;
 pub mod list_units;
+pub mod record_units;
 pub mod still;
 
 use boxes::place;
@@ -11,7 +11,6 @@ use record_units::UnitsRoom;
 use still::Still;
 use unit_list::ListStart;
 use unit_list::walk;
-
 ghost use mathlib.Core.Path.{_≡_};
 ghost use Rattle.error.specs.Outcome.{lentOutput, counted};
 ghost use Rattle.error.specs.Answers.{writtenOf};

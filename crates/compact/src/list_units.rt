@@ -1,16 +1,15 @@
 // For this crate's calls: the units of a unit list, measured and stored as a compact record.
 use super::CompactVvcConfig;
+use super::copied;
 use boxes::place;
 use error::Refusal;
 use error::Written;
 use unit_list::ListCursor;
 use unit_list::ListStep;
 use unit_list::walk;
-
 ghost use mathlib.Core.Path.{_≡_};
 ghost use mathlib.Core.List.{_∷_};
 ghost use Prim.Native.Nat.{_+_, _≤_, _<_, _^_};
-ghost use lib.ListN.{length};
 ghost use lib.Seq.{sets};
 ghost use Rattle.error.specs.Outcome.{lentOutput, counted};
 ghost use Rattle.error.specs.Answers.{writtenOf};
@@ -38,10 +37,18 @@ fn add(sum: UnitSum, len: usize) -> UnitSum
     let count = sum.count + 1;
     let room = sum.room + 1 + len;
     if 255 < len {
-        return UnitSum { count: count, room: room, fits: false };
+        return UnitSum {
+            count: count,
+            room: room,
+            fits: false,
+        };
     }
     let fits = sum.fits;
-    UnitSum { count: count, room: room, fits: fits }
+    UnitSum {
+        count: count,
+        room: room,
+        fits: fits,
+    }
 }
 
 // Measures the units behind a cursor.
@@ -50,7 +57,11 @@ fn units_sum(list: &[u8], c: ListCursor) -> ListSum
     ensures { λ r. ⌜ (sumOf r ≡ summed (now (list .entry)) nothing (unitsLeft (now (list .entry)) c)) × SumFits r ⌝ }
 {
     let mut here = c;
-    let mut sum = UnitSum { count: 0, room: 0, fits: true };
+    let mut sum = UnitSum {
+        count: 0,
+        room: 0,
+        fits: true,
+    };
     loop {
         match walk::step(list, here) {
             ListStep::Unit(a, next) => {
@@ -74,7 +85,7 @@ fn put_units(list: &[u8], c: ListCursor, out: &mut [u8], to: usize)
         let ListStep::Unit(a, next) = walk::step(list, here) else {
             return;
         };
-        super::copied::put_unit(list, a, out, at, 1);
+        copied::put_unit(list, a, out, at, 1);
         at = at + 1 + a.len;
         here = next;
     }

@@ -1,10 +1,10 @@
 // For this crate's calls: the units of a compact record, measured and stored as a unit list.
 use super::CompactVvcConfig;
+use super::copied;
 use boxes::place;
 use unit_list::ChunkRead;
 use unit_list::walk;
 use unit_list::write;
-
 ghost use mathlib.Core.Path.{_≡_};
 ghost use Prim.Native.Nat.{_≤_, _^_};
 ghost use lib.ListN.{length};
@@ -24,7 +24,10 @@ pub fn config_of(first: u8) -> CompactVvcConfig
 {
     let flag = first / 128 == 1;
     let size = first / 32 % 4 + 1;
-    CompactVvcConfig { multi_layer_flag: flag, length_size: size }
+    CompactVvcConfig {
+        multi_layer_flag: flag,
+        length_size: size,
+    }
 }
 
 // Measures `count` units.
@@ -58,7 +61,7 @@ fn put_units(record: &[u8], count: usize, out: &mut [u8], to: usize)
         let ChunkRead::Bytes(a) = walk::chunk(record, at, record.len(), 1) else {
             return;
         };
-        super::copied::put_unit(record, a, out, next, 4);
+        copied::put_unit(record, a, out, next, 4);
         next = next + 4 + a.len;
         at = a.start + a.len;
         left -= 1;

@@ -5,7 +5,6 @@ use error::Refusal;
 use error::Written;
 use hvcc::ItemStep;
 use hvcc::walk;
-
 ghost use mathlib.Core.Path.{_≡_};
 ghost use Prim.Native.Nat.{_+_, _≤_, _^_};
 ghost use lib.ListN.{length};
@@ -108,5 +107,8 @@ fn still_of(item: &[u8], a: Span) -> Still
     if second % 8 != 1 {
         return Still::Other;
     }
-    Still::Payload(Span { start: start + 2, len: a.len - 2 })
+    Still::Payload(Span {
+        start: start + 2,
+        len: a.len - 2,
+    })
 }

@@ -169,7 +169,7 @@ every-left : (P : List ℕ → Type 0) (us vs : List (List ℕ)) → Every P (us
 every-left P [] vs e = (tt, e)
 every-left P (u ∷ us) vs e = let r = every-left P us vs (e .1) in ((e .0, r .0), r .1)
 
-pub arrays-long : (xs : List (Array (List ℕ))) → Every (λ u. length u ≤ 255) (unitsOf xs) → length (encodeArrays 4 xs) ≤ 6 * length xs + 259 * length (unitsOf xs)
+arrays-long : (xs : List (Array (List ℕ))) → Every (λ u. length u ≤ 255) (unitsOf xs) → length (encodeArrays 4 xs) ≤ 6 * length xs + 259 * length (unitsOf xs)
 unfolding encodeArrays encodeArray unitsOf
 arrays-long [] e = omega arith
 arrays-long (a ∷ xs) e =

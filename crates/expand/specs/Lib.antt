@@ -1,2 +1,3 @@
 pub mod Expand
 pub mod Answers
+pub mod Inside

@@ -1,4 +1,7 @@
 // Expansion of a compact record into the head and unit list of a full one.
+pub mod groups;
+pub mod units;
+
 use error::Refusal;
 use full::VvcConfig;
 

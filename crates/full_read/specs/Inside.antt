@@ -7,9 +7,9 @@ use lib.ListN.{length}
 use lib.Seq.{sets}
 use Rattle.error.specs.Logic.{if_then_else_}
 use Rattle.error.specs.Outcome.{Outcome, refuse, handsBack, lentOutput}
-use Rattle.error.specs.Parse.{Parsed, value, refused, bind, Parser, _>>=_, give, times}
+use Rattle.error.specs.Parse.{Parsed, value, refused, Parser, _>>=_, give, times}
 use Rattle.error.specs.Refusals.{numberOf}
-use Rattle.boxes.specs.Bytes.{uint, chunk}
+use Rattle.boxes.specs.Bytes.{uint}
 use Rattle.boxes.specs.Parts.{held}
 use Rattle.boxes.specs.declared.Span.{Span}
 use Rattle.unit_list.specs.UnitList.{Array, heldArray, heldArrays, encodeUnits, encodeArray, encodeArrays}
@@ -50,9 +50,18 @@ orZeroHead (refused e) = (refused e, zeroHead)
 -- the fields under the PTL flag, from the numbers that hold them
 abbrev pub headFields : ℕ → ℕ → ℕ → VvcPtlRecord → ℕ → ℕ → ℕ → VvcConfig
 headFields size w d ptl width height rate = record {
-    «length_size» = size; «ptl_present_flag» = true; «ols_idx» = w / 128; «num_sublayers» = w / 16 % 8;
-    «constant_frame_rate» = w / 4 % 4; «chroma_format_idc» = w % 4; «bit_depth_minus8» = d / 32; «native_ptl» = ptl;
-    «max_picture_width» = width; «max_picture_height» = height; «avg_frame_rate» = rate }
+  «length_size» = size;
+  «ptl_present_flag» = true;
+  «ols_idx» = w / 128;
+  «num_sublayers» = w / 16 % 8;
+  «constant_frame_rate» = w / 4 % 4;
+  «chroma_format_idc» = w % 4;
+  «bit_depth_minus8» = d / 32;
+  «native_ptl» = ptl;
+  «max_picture_width» = width;
+  «max_picture_height» = height;
+  «avg_frame_rate» = rate;
+}
 
 -- the rest of a head behind its PTL
 unfoldable pub sizesBehind : ℕ → ℕ → ℕ → VvcPtlRecord → Parser VvcConfig

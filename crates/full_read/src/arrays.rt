@@ -2,7 +2,6 @@
 use boxes::place;
 use unit_list::ChunkRead;
 use unit_list::walk;
-
 ghost use mathlib.Core.Path.{_≡_};
 ghost use Prim.Native.Nat.{_≤_, _^_};
 ghost use lib.ListN.{length};
@@ -42,13 +41,27 @@ pub fn array_head(record: &[u8], at: usize) -> ArrayHeadRead
     let complete = first / 128;
     let unit_type = first % 32;
     if unit_type == 12 || unit_type == 13 {
-        return ArrayHeadRead::Head(ArrayHead { complete: complete, unit_type: unit_type, count: 1 }, at + 1);
+        return ArrayHeadRead::Head(
+            ArrayHead {
+                complete: complete,
+                unit_type: unit_type,
+                count: 1,
+            },
+            at + 1,
+        );
     }
     if record.len() - at < 3 {
         return ArrayHeadRead::Short;
     }
     let count = place::number(record, at + 1, 2);
-    ArrayHeadRead::Head(ArrayHead { complete: complete, unit_type: unit_type, count: count }, at + 3)
+    ArrayHeadRead::Head(
+        ArrayHead {
+            complete: complete,
+            unit_type: unit_type,
+            count: count,
+        },
+        at + 3,
+    )
 }
 
 // Measures `count` units from a place on.

@@ -6,7 +6,6 @@ use ptl::VvcPtlRecord;
 use ptl::bits;
 use ptl_record::PtlRecordAnswer;
 use ptl_record::read;
-
 ghost use mathlib.Core.Path.{_≡_};
 ghost use Prim.Native.Nat.{_+_, _≤_, _^_};
 ghost use lib.ListN.{length};
@@ -53,7 +52,10 @@ fn refused(e: Refusal) -> HeadRead
 {
     let head = plain_head(0);
     let answer = HeadAnswer::Refused(e);
-    HeadRead { answer: answer, head: head }
+    HeadRead {
+        answer: answer,
+        head: head,
+    }
 }
 
 // The fields of a head whose PTL ends at a place.
@@ -91,7 +93,10 @@ fn read_sizes(s: &[u8], size: u8, ptl: VvcPtlRecord, at: usize) -> HeadRead
     }
     let head = head_fields(s, size, ptl, at);
     let answer = HeadAnswer::Read(at + 6);
-    HeadRead { answer: answer, head: head }
+    HeadRead {
+        answer: answer,
+        head: head,
+    }
 }
 
 // What the PTL flag in the first byte announces. Refusals in byte order: 1, 2.
@@ -131,5 +136,8 @@ pub fn read_head(s: &[u8]) -> HeadRead
     }
     let head = plain_head(size);
     let answer = HeadAnswer::Read(1);
-    HeadRead { answer: answer, head: head }
+    HeadRead {
+        answer: answer,
+        head: head,
+    }
 }

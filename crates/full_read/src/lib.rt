@@ -1,6 +1,6 @@
 // Reading a full record into a head and a unit list.
-pub mod head;
 pub mod arrays;
+pub mod head;
 pub mod written;
 
 use arrays::Measured;
@@ -8,7 +8,6 @@ use boxes::place;
 use error::Refusal;
 use full::VvcConfig;
 use head::HeadAnswer;
-
 ghost use mathlib.Core.Path.{_≡_};
 ghost use Prim.Native.Nat.{_≤_, _^_};
 ghost use lib.ListN.{length};
@@ -35,7 +34,10 @@ fn refused(e: Refusal) -> FullRead
 {
     let head = head::plain_head(0);
     let answer = FullAnswer::Refused(e);
-    FullRead { answer: answer, head: head }
+    FullRead {
+        answer: answer,
+        head: head,
+    }
 }
 
 // What follows the head, which ends at a place: the arrays, measured first and then stored as a unit list. Refusals: 1, 20.
@@ -57,7 +59,10 @@ fn read_arrays(record: &[u8], at: usize, head: VvcConfig, out: &mut [u8]) -> Ful
     place::put(out, 0, 1);
     written::put_arrays(record, at + 1, n, out, 1);
     let answer = FullAnswer::Read(consumed, len);
-    FullRead { answer: answer, head: head }
+    FullRead {
+        answer: answer,
+        head: head,
+    }
 }
 
 // Reads a record, the original's `VvcConfig::parse`; its arrays go to the output as a unit list. Refusals: 23, 3, then in byte order

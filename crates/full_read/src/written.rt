@@ -6,7 +6,6 @@ use boxes::place;
 use unit_list::ChunkRead;
 use unit_list::walk;
 use unit_list::write;
-
 ghost use mathlib.Core.Path.{_≡_};
 ghost use Prim.Native.Nat.{_+_, _≤_, _^_};
 ghost use lib.ListN.{length};

@@ -1,9 +1,8 @@
 -- The VPS's first PTL behind the reads in front of it.
-use mathlib.Core.Path.{_≡_, refl, ap, sym, _∙_}
+use mathlib.Core.Path.{_≡_, refl, ap, _∙_}
 use mathlib.Core.List.{List}
 use Prim.Native.Nat.{ℕ}
 use borrow.Author.Tests.{eq-eqb, ne-eqb}
-use Rattle.error.specs.Outcome.{Outcome}
 use Rattle.error.specs.Parse.{Parsed, value, refused, outcome}
 use Rattle.rbsp.specs.Bits.{u, align}
 use Rattle.ptl.specs.Ptl.{profileTierLevel, zeroPtl}

@@ -2,7 +2,7 @@
 use mathlib.Core.Path.{_≡_, ap, _∙_}
 use mathlib.Core.Bool.{not}
 use mathlib.Core.List.{List}
-use Prim.Native.Nat.{ℕ, _+_, _≤_, _*_}
+use Prim.Native.Nat.{ℕ}
 use native.Mathlib.Omega.{arith}
 use lib.Dec.{ltb, eqb, lit≤}
 use lib.ListN.{length, take}
@@ -32,8 +32,8 @@ local-sps =
     local-bind 2 9039 (local-u 2) (λ ctu.
     local-bind 1 9038 (local-u 1) (λ hasPtl.
     local-bind 8592 446
-      (local-if 8592 (isSet hasPtl) (local-ptl m (omega (arith, u-read 3 s p m q e))) (local-more 0 8592 (lit≤ tt) (local-give zeroPtl)))
-      (λ l.
+    (local-if 8592 (isSet hasPtl) (local-ptl m (omega (arith, u-read 3 s p m q e))) (local-more 0 8592 (lit≤ tt) (local-give zeroPtl)))
+    (λ l.
     local-bind 1 445 (local-u 1) (λ gdr.
     local-bind 1 444 (local-u 1) (λ resampling.
     local-bind 1 443 (local-if 1 (isSet resampling) (local-u 1) (local-more 0 1 (lit≤ tt) (local-give 0))) (λ change.

@@ -1,14 +1,17 @@
 -- A head of a whole unit: the tests in front of its bits.
-use mathlib.Core.Path.{_≡_}
+use mathlib.Core.Path.{_≡_, refl}
+use mathlib.Core.Bool.{Bool, true, false}
 use mathlib.Core.List.{List, [], _∷_}
 use mathlib.Core.Option.{none}
 use Prim.Native.Nat.{ℕ, _-_, _^_, _≤_, _<_}
 use native.Mathlib.Omega.{arith}
+use lib.Dec.{leb, eqb}
 use lib.ListN.{length, take, drop, length-drop, drop-of-length-le}
 use lib.Seq.{take-all}
-use borrow.Author.Tests.{le-leb, lt-leb, eq-eqb, ne-eqb}
+use borrow.Author.Tests.{leb-true, eqb-true, le-leb, lt-leb, eq-eqb, ne-eqb}
+use Rattle.error.specs.Logic.{if_then_else_}
 use Rattle.error.specs.Outcome.{accept, refuse, handsBack}
-use Rattle.error.specs.Parse.{Parser}
+use Rattle.error.specs.Parse.{Parsed, value, refused, Parser, outcome}
 use Rattle.nal.specs.Header.{typeOr31}
 use Rattle.rbsp.specs.Rbsp.{unescape, rbsp}
 use Rattle.rbsp.specs.Bits.{u}
@@ -35,6 +38,29 @@ module _ {A : Type 0} (zeros : A) (t : ℕ) (P : Parser A) (unit : List ℕ) whe
   pub unit-read : length unit ≤ 2 ^ 30 → typeOr31 unit ≡ t
       → readOr zeros (P (rbsp (take (length unit - 2) (drop 2 unit))) 0) ≡ handsBack (λ a. a) zeros (ofUnit t P unit)
   unit-read h e = rw (behind-header unit, le-leb (length unit) (2 ^ 30) h, eq-eqb (typeOr31 unit) t e)
+
+-- A unit is accepted exactly where it is no longer than 2^30, is of the type, and its bits read.
+pub record Accepted {A : Type 0} (t : ℕ) (P : Parser A) (unit : List ℕ) (a : A) : Type 0 where
+  pub fits : length unit ≤ 2 ^ 30
+  pub type-is : typeOr31 unit ≡ t
+  pub end : ℕ
+  pub read : P (rbsp (drop 2 unit)) 0 ≡ value a end
+
+module _ {A : Type 0} (t : ℕ) (P : Parser A) (unit : List ℕ) (a : A) where
+  pub accepted : ofUnit t P unit ≡ accept a → Accepted t P unit a
+  accepted = go (leb (length unit) (2 ^ 30)) (eqb (typeOr31 unit) t) (P (rbsp (drop 2 unit)) 0) refl refl refl
+    where
+      go : (b d : Bool) (x : Parsed A) → leb (length unit) (2 ^ 30) ≡ b → eqb (typeOr31 unit) t ≡ d → P (rbsp (drop 2 unit)) 0 ≡ x
+          → (if b then (if d then outcome x else refuse 10) else refuse 23) ≡ accept a → Accepted t P unit a
+      go true true (value v q) h k r e =
+          let z : v ≡ a = cc in
+          record { fits = leb-true (length unit) (2 ^ 30) h; type-is = eqb-true (typeOr31 unit) t k; end = q; read = rw (← z) r }
+      go true true (refused n) h k r e = let z : _≡_ {A = ℕ} 0 1 = cc in absurd (omega arith)
+      go true false x h k r e = let z : _≡_ {A = ℕ} 0 1 = cc in absurd (omega arith)
+      go false d x h k r e = let z : _≡_ {A = ℕ} 0 1 = cc in absurd (omega arith)
+
+  pub accepts : Accepted t P unit a → ofUnit t P unit ≡ accept a
+  accepts h = rw (le-leb (length unit) (2 ^ 30) (h .fits), eq-eqb (typeOr31 unit) t (h .type-is), h .read)
 
 -- an OPI's operating point, which without its header it does not have
 module _ (unit : List ℕ) where

@@ -4,7 +4,6 @@ use Prim.Native.Nat.{ℕ, _+_}
 use lib.Dec.{ltb}
 use Rattle.error.specs.Logic.{if_then_else_}
 use Rattle.error.specs.Parse.{Parser, _>>=_, _>>_, give, refuseIf}
-use Rattle.error.specs.Refusals.{numberOf}
 use Rattle.error.specs.declared.Refusal.{Refusal}
 use Rattle.error.specs.declared.Refusal.the-variants.{BitsRunOut}
 use Rattle.rbsp.specs.Bits.{u, isSet, ue}
@@ -33,7 +32,8 @@ ids = do
     «max_sublayers_minus1» = s;
     «chroma_format_idc» = chroma;
     «log2_ctu_size» = ctu + 5;
-    «ptl_present_flag» = isSet hasPtl })
+    «ptl_present_flag» = isSet hasPtl;
+  })
 
 -- profile_tier_level( 1, s ) where the flag is set, all zeros where not
 abbrev pub ptlWhere : Bool → ℕ → Parser VvcPtlRecord
@@ -70,21 +70,22 @@ depth = do
 -- the head that the sections make up
 abbrev pub headOf : SpsIds → VvcPtlRecord → SpsSize → Window → ℕ → SpsHead
 headOf i p z w d = record {
-    «sps_id» = i .«sps_id»;
-    «vps_id» = i .«vps_id»;
-    «max_sublayers_minus1» = i .«max_sublayers_minus1»;
-    «chroma_format_idc» = i .«chroma_format_idc»;
-    «log2_ctu_size» = i .«log2_ctu_size»;
-    «ptl_present_flag» = i .«ptl_present_flag»;
-    ptl = p;
-    «pic_width» = z .«pic_width»;
-    «pic_height» = z .«pic_height»;
-    «conformance_window_flag» = z .«conformance_window_flag»;
-    «conf_win_left_offset» = w .left;
-    «conf_win_right_offset» = w .right;
-    «conf_win_top_offset» = w .top;
-    «conf_win_bottom_offset» = w .bottom;
-    «bit_depth» = d + 8 }
+  «sps_id» = i .«sps_id»;
+  «vps_id» = i .«vps_id»;
+  «max_sublayers_minus1» = i .«max_sublayers_minus1»;
+  «chroma_format_idc» = i .«chroma_format_idc»;
+  «log2_ctu_size» = i .«log2_ctu_size»;
+  «ptl_present_flag» = i .«ptl_present_flag»;
+  ptl = p;
+  «pic_width» = z .«pic_width»;
+  «pic_height» = z .«pic_height»;
+  «conformance_window_flag» = z .«conformance_window_flag»;
+  «conf_win_left_offset» = w .left;
+  «conf_win_right_offset» = w .right;
+  «conf_win_top_offset» = w .top;
+  «conf_win_bottom_offset» = w .bottom;
+  «bit_depth» = d + 8;
+}
 
 -- the refusal of a refused part; one that was read has none, and some refusal stands for that
 abbrev pub partRefusal : PtlAnswer → Refusal

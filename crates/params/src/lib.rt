@@ -82,12 +82,25 @@ impl SpsHead {
         ensures { λ r. ⌜ r ≡ croppedSize self ⌝ }
     {
         if !self.conformance_window_flag {
-            return PictureSize { width: self.pic_width, height: self.pic_height };
+            return PictureSize {
+                width: self.pic_width,
+                height: self.pic_height,
+            };
         }
         let unit_width = cropped::sub_width(self.chroma_format_idc);
         let unit_height = cropped::sub_height(self.chroma_format_idc);
-        let width = cropped::cropped_side(self.pic_width, unit_width, self.conf_win_left_offset, self.conf_win_right_offset);
-        let height = cropped::cropped_side(self.pic_height, unit_height, self.conf_win_top_offset, self.conf_win_bottom_offset);
+        let width = cropped::cropped_side(
+            self.pic_width,
+            unit_width,
+            self.conf_win_left_offset,
+            self.conf_win_right_offset,
+        );
+        let height = cropped::cropped_side(
+            self.pic_height,
+            unit_height,
+            self.conf_win_top_offset,
+            self.conf_win_bottom_offset,
+        );
         PictureSize { width, height }
     }
 }

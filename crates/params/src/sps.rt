@@ -10,7 +10,7 @@ use rbsp::BitPosition;
 use rbsp::BitsRead;
 use rbsp::bits;
 ghost use mathlib.Core.Path.{_≡_};
-ghost use Prim.Native.Nat.{_+_, _%_, _≤_, _<_, _^_};
+ghost use Prim.Native.Nat.{_+_, _%_, _≤_, _<_};
 ghost use lib.ListN.{length};
 ghost use Rattle.error.specs.Logic.{if_then_else_};
 ghost use Rattle.error.specs.Outcome.{refuse};
@@ -19,7 +19,6 @@ ghost use Rattle.error.specs.Refusals.{numberOf};
 ghost use Rattle.rbsp.specs.Rbsp.{rbsp};
 ghost use Rattle.rbsp.specs.Bits.{u, isSet};
 ghost use Rattle.rbsp.specs.Answers.{parsed};
-ghost use Rattle.ptl.specs.Answers.{ptlOf, orZeroPtl};
 ghost use Rattle.ptl.specs.Sections.{partOf};
 ghost use Rattle.params.specs.Heads.{window, noWindow, spsHead, zeroSps};
 ghost use Rattle.params.specs.Answers.{readOr, spsOf};
@@ -160,7 +159,11 @@ fn read_res_change(rbsp: &[u8], at: BitPosition, resampling: u32) -> BitsRead
 fn no_size(e: Refusal) -> SpsSizeRead
     ensures { λ r. ⌜ r .answer ≡ PtlAnswer.Refused e ⌝ }
 {
-    let part = SpsSize { pic_width: 0, pic_height: 0, conformance_window_flag: false };
+    let part = SpsSize {
+        pic_width: 0,
+        pic_height: 0,
+        conformance_window_flag: false,
+    };
     let answer = PtlAnswer::Refused(e);
     SpsSizeRead { answer, part }
 }
@@ -194,7 +197,11 @@ fn read_size(rbsp: &[u8], at: BitPosition) -> SpsSizeRead
     let BitsRead::Value(has_window, p6) = r6 else {
         return no_size(bits::refusal(r6));
     };
-    let part = SpsSize { pic_width, pic_height, conformance_window_flag: has_window == 1 };
+    let part = SpsSize {
+        pic_width,
+        pic_height,
+        conformance_window_flag: has_window == 1,
+    };
     let answer = PtlAnswer::Read(p6);
     SpsSizeRead { answer, part }
 }
@@ -203,7 +210,12 @@ fn read_size(rbsp: &[u8], at: BitPosition) -> SpsSizeRead
 fn no_window(answer: PtlAnswer) -> ConfWindowRead
     ensures { λ r. ⌜ (r .answer ≡ answer) × (windowOf (r .part) ≡ noWindow) ⌝ }
 {
-    let part = ConfWindow { left: 0, right: 0, top: 0, bottom: 0 };
+    let part = ConfWindow {
+        left: 0,
+        right: 0,
+        top: 0,
+        bottom: 0,
+    };
     ConfWindowRead { answer, part }
 }
 
@@ -228,7 +240,12 @@ fn read_offsets(rbsp: &[u8], at: BitPosition) -> ConfWindowRead
     let BitsRead::Value(bottom, p4) = r4 else {
         return no_window(PtlAnswer::Refused(bits::refusal(r4)));
     };
-    let part = ConfWindow { left, right, top, bottom };
+    let part = ConfWindow {
+        left,
+        right,
+        top,
+        bottom,
+    };
     let answer = PtlAnswer::Read(p4);
     ConfWindowRead { answer, part }
 }

@@ -64,7 +64,10 @@ fn parse_rbsp(rbsp: &[u8]) -> PtlRead
     let a5 = r5.answer;
     let answer = params_answer(a5);
     let ptl_read = r5.ptl;
-    PtlRead { answer, ptl: ptl_read }
+    PtlRead {
+        answer,
+        ptl: ptl_read,
+    }
 }
 
 // A VPS's first PTL from its payload, of whose RBSP 1,132 bytes are enough. Refusals in bit order: 11, 15.

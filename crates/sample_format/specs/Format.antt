@@ -6,7 +6,7 @@ use Rattle.error.specs.Logic.{if_then_else_}
 use Rattle.error.specs.Outcome.{Outcome, accept, refuse, andThen}
 use Rattle.boxes.specs.Parts.{held}
 use Rattle.boxes.specs.declared.Span.{Span}
-use Rattle.unit_list.specs.UnitList.{Array, decode, unitsOfType}
+use Rattle.unit_list.specs.UnitList.{decode, unitsOfType}
 use Rattle.params.specs.Heads.{parseSps}
 use Rattle.full.specs.declared.VvcConfig.{VvcConfig}
 
@@ -15,15 +15,21 @@ pub record Format : Type 0 where
   pub chroma : ℕ
   pub depth : ℕ
 
--- of the first unit in an array of type 15: 17 where there is none, then the SPS's refusals
-unfoldable pub spsFormat : List ℕ → List Span → Outcome Format
-spsFormat list [] = refuse 17
-spsFormat list (a ∷ r) = andThen (parseSps (held list a)) (λ h. accept (record { chroma = h .«chroma_format_idc»; depth = h .«bit_depth» }))
+-- the head's: "only 22 for depth minus 8 above 247", which a byte cannot hold with 8 more
+unfoldable pub headFormat : VvcConfig → Outcome Format
+headFormat h =
+    if ltb 247 (h .«bit_depth_minus8») then refuse 22 else accept (record { chroma = h .«chroma_format_idc»; depth = h .«bit_depth_minus8» + 8 })
 
--- `sample_format`: 23, 21; "PTL flag set, only 22 for depth minus 8 above 247", which a byte cannot hold with 8 more
+-- an SPS's, with its refusals
+unfoldable pub spsFormatOf : List ℕ → Outcome Format
+spsFormatOf sps = andThen (parseSps sps) (λ h. accept (record { chroma = h .«chroma_format_idc»; depth = h .«bit_depth» }))
+
+-- the first SPS's: "17 no unit in an array of type 15, then the SPS refusals"
+unfoldable pub firstFormat : List ℕ → List Span → Outcome Format
+firstFormat list [] = refuse 17
+firstFormat list (a ∷ r) = spsFormatOf (held list a)
+
+-- `sample_format`: 23, 21; "PTL flag set, only 22 ..; else 17 .., then the SPS refusals"
 unfoldable pub sampleFormat : VvcConfig → List ℕ → Outcome Format
 sampleFormat h list =
-    andThen (decode list) (λ xs.
-    if h .«ptl_present_flag»
-    then (if ltb 247 (h .«bit_depth_minus8») then refuse 22 else accept (record { chroma = h .«chroma_format_idc»; depth = h .«bit_depth_minus8» + 8 }))
-    else spsFormat list (unitsOfType 15 xs))
+    andThen (decode list) (λ xs. if h .«ptl_present_flag» then headFormat h else firstFormat list (unitsOfType 15 xs))

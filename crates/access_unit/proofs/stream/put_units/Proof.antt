@@ -46,7 +46,7 @@ put-unit-requires : tie.Need-put-unit-requires Inv-loop μ-loop
 put-unit-requires c κs =
     let t = turn-at (c .before) in
     let l = c .before .before .before .before .before .loop in
-    (t .inside, remaining-room _ _ _ _ _ _ _ (l .inv .1) _ _ (t .rest) (t .inside))
+    (t .inside, remaining-room _ _ _ _ _ _ _ (l .inv .1) _ (unitsLeft _ (c .before .before .a .given .0 .1 .0)) (t .rest) (t .inside))
 
 loop-less : tie.Need-loop-less Inv-loop μ-loop
 loop-less c = let t = turn-at (c .before .before .before .before) in omega (arith, t .passed .start, t .passed .next, t .inside)
@@ -57,7 +57,7 @@ loop-again c =
     let t = turn-at u in
     let l = u .before .before .before .before .loop in
     let p = c .before .before .put-unit .ensures in
-    (t .passed .fits, remaining-more _ _ _ _ _ _ _ (l .inv .1) _ _ (t .rest) (t .inside) _ _ (p .0) (p .1))
+    (t .passed .fits, remaining-more _ _ _ _ _ _ _ (l .inv .1) _ (unitsLeft _ (u .before .a .given .0 .1 .0)) (t .rest) (t .inside) _ _ (p .0) (p .1))
 
 pub put-units-spec : {M : Type 1} → statement M
 put-units-spec =

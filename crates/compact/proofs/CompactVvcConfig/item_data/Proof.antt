@@ -1,44 +1,42 @@
-use Prim.Native.Nat.{ℕ, zero, suc, _+_, _*_, _-_, _/_, _%_, _^_, _≤_, _<_}
-use mathlib.Core.Path.{_≡_, refl, sym, ap, _∙_, subst}
-use mathlib.Core.List.{List, [], _∷_, _++_}
-use mathlib.Core.Logic.{⊎-elim}
-use native.Mathlib.Omega.{arith}
-use lib.ListN.{length, getD, take, drop}
+-- `CompactVvcConfig::item_data` restores the item of stored bytes: 23, a copy, or their unit.
+use Prim.Native.Nat.{ℕ}
+use mathlib.Core.Path.{sym, ap, _∙_}
+use mathlib.Core.List.{List}
 use borrow.Author.Needs.{needs}
+use Rattle.error.specs.Outcome.{Outcome, lentOutput, counted}
+use Rattle.compact.proofs.Output.{written-refused}
+use Rattle.compact.proofs.Stills.{restore-too-long, restore-copy, restore-unit}
 use Rattle.compact.proofs.CompactVvcConfig.item_data.Statement.{statement}
 use Rattle.compact.proofs.CompactVvcConfig.item_data.Tie as tie
-use Rattle.compact.proofs.CompactVvcConfig.item_data.Reads as reads
-use Rattle.compact.proofs.CompactVvcConfig.item_data.Lts as lts
-use Rattle.compact.proofs.copied.put_all.Reads as put-all-reads
-use Rattle.compact.proofs.still.put_still.Reads as put-still-reads
 
--- src/lib.rt:76:13
 returns : tie.Need-returns
-returns c = ?
+returns c =
+    let a = c .before .before .before .args in
+    written-refused _ (a .out .now) 23 (restore-too-long (a .self) (a .stored .now) (c .if1 .taken))
 
--- src/lib.rt:79:13
 put-all-requires : tie.Need-put-all-requires
-put-all-requires c κs = ?
+put-all-requires c κs = search needs
 
--- src/lib.rt:79:13
 same-length : tie.Need-same-length
-same-length c = ?
+same-length c = search needs
 
--- src/lib.rt:79:13
 returns-2 : tie.Need-returns-2
-returns-2 c = ?
+returns-2 c =
+    let a = c .before .before .before .before .before .before .before .before .args in
+    c .before .before .put-all .ensures
+    ∙ ap (λ (o : Outcome (List ℕ)). lentOutput (counted o) (a .out .now)) (sym (restore-copy (a .self) (a .stored .now) (c .before .before .before .before .before .if1 .left) (c .before .before .before .before .if2 .taken)))
 
--- src/lib.rt:81:9
 put-still-requires : tie.Need-put-still-requires
-put-still-requires c κs = ?
+put-still-requires c κs = search needs
 
--- src/lib.rt:72:5
 same-length-2 : tie.Need-same-length-2
-same-length-2 c = ?
+same-length-2 c = search needs
 
--- src/lib.rt:72:5
 returns-3 : tie.Need-returns-3
-returns-3 c = ?
+returns-3 c =
+    let a = c .before .before .before .before .before .before .before .before .args in
+    c .before .before .put-still .ensures
+    ∙ ap (λ (o : Outcome (List ℕ)). lentOutput (counted o) (a .out .now)) (sym (restore-unit (a .self) (a .stored .now) (c .before .before .before .before .before .if1 .left) (c .before .before .before .before .if2 .left)))
 
 pub item-data-spec : {M : Type 1} → statement M
 item-data-spec =

@@ -1,19 +1,16 @@
 -- `CompactVvcConfig::parse` reads a record and leaves the list of its units, or gives the refusal that comes first.
-use Prim.Native.Nat.{ℕ, _+_, _%_, _^_, _≤_, _<_}
+use Prim.Native.Nat.{ℕ, _+_, _%_, _^_, _≤_}
 use mathlib.Core.Path.{_≡_, refl, sym, ap, _∙_, subst}
-use mathlib.Core.List.{List, map}
+use mathlib.Core.List.{map}
 use native.Mathlib.Omega.{arith}
 use borrow.Author.Needs.{needs}
 use lib.ListN.{length, getD}
 use lib.Seq.{sets}
-use Rattle.error.specs.Outcome.{Outcome}
-use Rattle.error.specs.Parse.{Parsed, outcome}
 use Rattle.boxes.specs.Parts.{held}
-use Rattle.boxes.specs.declared.Span.{Span}
 use Rattle.compact.specs.Compact.{oneArray, parseCompact}
-use Rattle.compact.specs.Inside.{recordUnits, roomOf, RoomFits, foundBytes, foundList}
+use Rattle.compact.specs.Inside.{recordUnits, roomOf, RoomFits, configOf}
 use Rattle.compact.proofs.Output.{output-refused, output-short, output-fits}
-use Rattle.compact.proofs.RecordUnits.{Measured, measured-units, measured-refused, list-long}
+use Rattle.compact.proofs.RecordUnits.{Measured, measured-units, measured-copies, measured-room, measured-list, measured-refused, list-long}
 use Rattle.compact.proofs.RecordRead.{parse-too-long, parse-empty, parse-short, parse-over, parse-read}
 use Rattle.compact.proofs.CompactVvcConfig.parse.Statement.{statement}
 use Rattle.compact.proofs.CompactVvcConfig.parse.Tie as tie
@@ -63,7 +60,7 @@ returns-3 c =
     let a = c .before .before .before .before .before .before .before .before .before .args in
     let s = a .«record» .now in
     output-refused (parseCompact s) (a .out .now) 1
-    (parse-short s (c .before .before .before .before .before .before .if1 .left) (omega (arith, c .before .before .before .before .if2 .left)) _ (count-at (c .before .before .before))
+    (parse-short s (c .before .before .before .before .before .before .if1 .left) (omega (arith, c .before .before .before .before .if2 .left)) _ (count-at (c .before .before .before)) 1
     (measured-refused s _ 1 (sym (ap roomOf (c .enum-told .given .1)) ∙ c .before .before .units-room .ensures .0)))
 
 returns-4 : tie.Need-returns-4
@@ -88,7 +85,10 @@ returns-5 c =
     (omega (arith, l, m .long, c .if4 .taken))
 
 put-list-requires : tie.Need-put-list-requires
-put-list-requires c κs = ?
+put-list-requires c κs =
+    let a = c .before .before .before .before .before .before .before .before .before .before .before .before .before .args in
+    let m = measured-at (c .before .before .before) in
+    (omega (arith, c .before .before .before .before .before .before .before .before .if2 .left), c .before .before .before .before .before .before .before .before .before .before .if1 .left, measured-copies _ _ _ _ m (a .out .now) (c .before .if4 .left), measured-room _ _ _ _ m)
 
 config-of-requires : tie.Need-config-of-requires
 config-of-requires c κs = search needs
@@ -97,7 +97,15 @@ same-length : tie.Need-same-length
 same-length c = search needs
 
 returns-6 : tie.Need-returns-6
-returns-6 c = ?
+returns-6 c =
+    let a = c .before .before .before .before .before .before .before .before .before .before .before .before .before .before .before .before .before .args in
+    let s = a .«record» .now in
+    let m = measured-at (c .before .before .before .before .before .before .before) in
+    let l = list-long (map (held s) (m .units)) in
+    output-fits (parseCompact s) (a .out .now) _ (oneArray (map (held s) (m .units)))
+    (parse-read s (c .before .before .before .before .before .before .before .before .before .before .before .before .before .before .if1 .left) (omega (arith, c .before .before .before .before .before .before .before .before .before .before .before .before .if2 .left)) _ (count-at (c .before .before .before .before .before .before .before .before .before .before .before)) (m .units) _ (m .read) (c .before .before .before .before .before .before .if3 .left) (c .config-of .result) (7 + c .before .before .before .before .before .before .before .before .room .given .0 .0)
+    (c .config-of .ensures ∙ ap configOf (c .before .before .before .before .before .before .before .before .before .before .before .before .before .byte .ensures)) (omega (arith, m .long)))
+    _ (omega (arith, l, m .long, c .before .before .before .before .before .if4 .left)) (c .before .before .before .put-list .ensures ∙ ap (sets (a .out .now) 0) (measured-list _ _ _ _ m))
 
 pub parse-spec : {M : Type 1} → statement M
 parse-spec =

@@ -1,11 +1,10 @@
 -- `CompactVvcConfig::serialize` gives the record of the units behind the list's start, or the refusal of the start.
 use Prim.Native.Nat.{ℕ}
-use mathlib.Core.Path.{_≡_, sym, ap, _∙_, subst}
+use mathlib.Core.Path.{ap, _∙_, subst}
 use mathlib.Core.List.{List}
 use borrow.Author.Needs.{needs}
 use Rattle.error.specs.Outcome.{Outcome, lentOutput, counted}
 use Rattle.unit_list.specs.Walk.{StartFits}
-use Rattle.compact.specs.Inside.{recordOf}
 use Rattle.compact.proofs.Output.{written-refused}
 use Rattle.compact.proofs.ListUnits.{serialize-start, serialize-refused}
 use Rattle.compact.proofs.CompactVvcConfig.serialize.Statement.{statement}

@@ -1,65 +1,69 @@
-use Prim.Native.Nat.{ℕ, zero, suc, _+_, _*_, _-_, _/_, _%_, _^_, _≤_, _<_}
-use mathlib.Core.Path.{_≡_, refl, sym, ap, _∙_, subst}
-use mathlib.Core.List.{List, [], _∷_, _++_}
-use mathlib.Core.Logic.{⊎-elim}
-use native.Mathlib.Omega.{arith}
-use lib.ListN.{length, getD, take, drop}
+-- `CompactVvcConfig::strip_item_data` gives the bytes to store for an item: 23, a copy, or what follows its one unit's header.
+use Prim.Native.Nat.{ℕ}
+use mathlib.Core.Path.{_≡_, sym, ap, _∙_, subst}
+use mathlib.Core.List.{List}
 use borrow.Author.Needs.{needs}
+use lib.ListN.{length}
+use Rattle.error.specs.Outcome.{Outcome, accept, lentOutput, counted}
+use Rattle.boxes.specs.Parts.{held}
+use Rattle.compact.specs.ItemData.{strip}
+use Rattle.compact.specs.Inside.{payloadOf, PayloadFits}
+use Rattle.compact.proofs.Output.{written-refused}
+use Rattle.compact.proofs.Stills.{strip-too-long, strip-copy, strip-unit}
 use Rattle.compact.proofs.CompactVvcConfig.strip_item_data.Statement.{statement}
 use Rattle.compact.proofs.CompactVvcConfig.strip_item_data.Tie as tie
-use Rattle.compact.proofs.CompactVvcConfig.strip_item_data.Reads as reads
-use Rattle.compact.proofs.CompactVvcConfig.strip_item_data.Lts as lts
-use Rattle.boxes.proofs.place.part.Reads as part-reads
-use Rattle.compact.proofs.copied.put_all.Reads as put-all-reads
-use Rattle.compact.proofs.still.find_still.Reads as find-still-reads
 
--- src/lib.rt:89:13
 returns : tie.Need-returns
-returns c = ?
+returns c =
+    let a = c .before .before .before .args in
+    written-refused _ (a .out .now) 23 (strip-too-long (a .self) (a .item .now) (c .if1 .taken))
 
--- src/lib.rt:92:13
 put-all-requires : tie.Need-put-all-requires
-put-all-requires c κs = ?
+put-all-requires c κs = search needs
 
--- src/lib.rt:92:13
 same-length : tie.Need-same-length
-same-length c = ?
+same-length c = search needs
 
--- src/lib.rt:92:13
 returns-2 : tie.Need-returns-2
-returns-2 c = ?
+returns-2 c =
+    let a = c .before .before .before .before .before .before .before .before .args in
+    c .before .before .put-all .ensures
+    ∙ ap (λ (o : Outcome (List ℕ)). lentOutput (counted o) (a .out .now)) (sym (strip-copy (a .self) (a .item .now) (c .before .before .before .before .before .if1 .left) (c .before .before .before .before .if2 .taken)))
 
--- src/lib.rt:94:33
 find-still-requires : tie.Need-find-still-requires
-find-still-requires c κs = ?
+find-still-requires c κs = search needs
 
--- src/lib.rt:94:28
 enum-known-a : tie.Need-enum-known-a
-enum-known-a c = ?
+enum-known-a c = search needs
 
--- src/lib.rt:95:37
 enum-told : tie.Need-enum-told
-enum-told c = ?
+enum-told c = search needs
 
--- src/lib.rt:95:13
 returns-3 : tie.Need-returns-3
-returns-3 c = ?
+returns-3 c =
+    let a = c .before .before .before .before .before .before .before .args in
+    let f = c .before .before .find-still in
+    written-refused _ (a .out .now) 24
+    (strip-unit (a .self) (a .item .now) (c .before .before .before .before .if1 .left) (c .before .before .before .if2 .left) ∙ sym (f .ensures .0) ∙ ap (payloadOf (a .item .now)) (c .enum-told .given .1))
 
--- src/lib.rt:97:25
 part-requires : tie.Need-part-requires
-part-requires c κs = ?
+part-requires c κs = subst (PayloadFits (c .before .before .before .before .before .before .before .before .args .item .now)) (c .before .a .given .1) (c .before .before .before .find-still .ensures .1)
 
--- src/lib.rt:97:9
 put-all-requires-2 : tie.Need-put-all-requires-2
-put-all-requires-2 c κs = ?
+put-all-requires-2 c κs = search needs
 
--- src/lib.rt:85:5
 same-length-2 : tie.Need-same-length-2
-same-length-2 c = ?
+same-length-2 c = search needs
 
--- src/lib.rt:85:5
 returns-4 : tie.Need-returns-4
-returns-4 c = ?
+returns-4 c =
+    let a = c .before .before .before .before .before .before .before .before .before .before .before .before .before .args in
+    let f = c .before .before .before .before .before .before .before .before .find-still in
+    let g = c .before .before .before .before .before .before .a .given in
+    let h : accept (held (a .item .now) (g .0 .0)) ≡ strip (a .self) (a .item .now) =
+    sym (ap (payloadOf (a .item .now)) (g .1)) ∙ f .ensures .0 ∙ sym (strip-unit (a .self) (a .item .now) (c .before .before .before .before .before .before .before .before .before .before .if1 .left) (c .before .before .before .before .before .before .before .before .before .if2 .left)) in
+    c .before .before .put-all2 .ensures
+    ∙ ap (λ (o : Outcome (List ℕ)). lentOutput (counted o) (a .out .now)) (ap accept (c .before .before .before .before .part .ensures .holds) ∙ h)
 
 pub strip-item-data-spec : {M : Type 1} → statement M
 strip-item-data-spec =

@@ -1,5 +1,5 @@
 -- `copied::put_unit` leaves the length of the bytes at a span, and the bytes, from the place on.
-use mathlib.Core.Path.{_≡_, ap, _∙_}
+use mathlib.Core.Path.{ap, _∙_}
 use native.Mathlib.Omega.{arith}
 use mathlib.Core.List.{List}
 use Prim.Native.Nat.{ℕ}

@@ -1,6 +1,5 @@
 -- `list_units::add` adds one unit to those seen.
-use mathlib.Core.Path.{_≡_, refl}
-use mathlib.Core.Bool.{Bool, true, false, _&&_}
+use mathlib.Core.Bool.{true, false}
 use borrow.Author.Needs.{needs}
 use borrow.Author.Tests.{le-leb, lt-leb}
 use Rattle.compact.proofs.ListUnits.{and-true, and-false}

@@ -1,8 +1,6 @@
 -- `list_units::first_byte` puts the flag, the prefix size and the unit count into one byte.
-use mathlib.Core.Path.{_≡_}
 use native.Mathlib.Omega.{arith}
 use borrow.Author.Needs.{needs}
-use borrow.Author.Tests.{not-true, not-false}
 use Rattle.compact.proofs.list_units.first_byte.Statement.{statement}
 use Rattle.compact.proofs.list_units.first_byte.Tie as tie
 

@@ -1,21 +1,17 @@
 -- `list_units::put_record` gives the record of the units behind a cursor, or the refusal that comes first.
-use Prim.Native.Nat.{ℕ, _+_, _^_, _≤_, _<_}
-use mathlib.Core.Path.{_≡_, refl, sym, ap, _∙_, subst}
+use Prim.Native.Nat.{_^_, _≤_}
+use mathlib.Core.Path.{_≡_, sym, ap, _∙_, subst}
 use mathlib.Core.Bool.{true, false}
-use mathlib.Core.List.{List, _∷_, map}
+use mathlib.Core.List.{_∷_}
 use mathlib.Core.Logic.{⊎-elim, inl, inr}
 use native.Mathlib.Omega.{arith}
 use borrow.Author.Needs.{needs}
 use borrow.Author.Tests.{ltb-true, ltb-false, not-true, not-false}
 use lib.ListN.{length}
-use Rattle.error.specs.Outcome.{Outcome, accept, andThen}
-use Rattle.boxes.specs.Parts.{held}
-use Rattle.boxes.specs.declared.Span.{Span}
-use Rattle.compact.specs.Inside.{sumOf, SumFits, unitBytes, foundBytes, unitsLeft, recordOf, firstByte}
-use Rattle.compact.specs.declared.list_units.ListSum.{ListSum}
-use Rattle.compact.specs.declared.list_units.ListSum.the-variants.{Sum as Summed}
+use Rattle.error.specs.Outcome.{accept}
+use Rattle.compact.specs.Inside.{sumOf, SumFits, foundBytes, unitsLeft, recordOf, firstByte}
 use Rattle.compact.proofs.Output.{written-refused, written-short, written-fits}
-use Rattle.compact.proofs.ListUnits.{Sum, sum-of, sum-refused, record-size, record-count, record-long, record-given}
+use Rattle.compact.proofs.ListUnits.{Sum, sum-of, sum-refused, record-room, record-copies, record-size, record-count, record-long, record-given}
 use Rattle.compact.proofs.list_units.put_record.Statement.{statement}
 use Rattle.compact.proofs.list_units.put_record.Tie as tie
 

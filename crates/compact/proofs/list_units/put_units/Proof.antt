@@ -80,10 +80,11 @@ loop-again c =
     let l = c .before .before .before .before .before .before .before .before .before in
     let t = c .before .before .before .before .before .before .before .before .step in
     let g = c .before .before .before .before .before .before .a .given in
-    let s = l .before .before .before .args .list .now in
-    (next-fits s (l .loop .here) (t .result) (t .ensures) (g .0 .0) (g .0 .1 .0) (g .1),
-    copying-again _ _ _ _ _ _ _ _ (l .loop .inv .1) _ (unit-within s (l .loop .here) (t .result) (t .ensures) (g .0 .0) (g .0 .1 .0) (g .1)) (unitsLeft s (g .0 .1 .0))
-    (left-next s (l .loop .here) (t .result) (t .ensures) (g .0 .0) (g .0 .1 .0) (g .1)) _ (c .before .before .before .put-unit .ensures))
+    let s = l .before .before .before .args .list .now in (
+      next-fits s (l .loop .here) (t .result) (t .ensures) (g .0 .0) (g .0 .1 .0) (g .1),
+      copying-again _ _ _ _ _ _ _ _ (l .loop .inv .1) _ (unit-within s (l .loop .here) (t .result) (t .ensures) (g .0 .0) (g .0 .1 .0) (g .1)) (unitsLeft s (g .0 .1 .0))
+          (left-next s (l .loop .here) (t .result) (t .ensures) (g .0 .0) (g .0 .1 .0) (g .1)) _ (c .before .before .before .put-unit .ensures),
+    )
 
 pub put-units-spec : {M : Type 1} → statement M
 put-units-spec =

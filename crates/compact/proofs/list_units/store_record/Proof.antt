@@ -1,6 +1,4 @@
 -- `list_units::store_record` leaves the first byte and the units from the front on.
-use mathlib.Core.Path.{_≡_, sym, ap, _∙_}
-use native.Mathlib.Omega.{arith}
 use borrow.Author.Needs.{needs}
 use Rattle.compact.specs.Inside.{foundBytes, unitsLeft}
 use Rattle.compact.proofs.Copying.{copies-on}

@@ -1,10 +1,8 @@
 -- `list_units::units_sum` measures the units behind a cursor. The loop's invariant: those passed and those left make the whole.
 use Prim.Native.Nat.{_-_}
-use mathlib.Core.Path.{refl, sym, ap, _∙_, subst}
-use native.Mathlib.Omega.{arith}
+use mathlib.Core.Path.{sym, subst}
 use borrow.Author.Needs.{needs}
 use lib.ListN.{length}
-use Rattle.compact.specs.Inside.{summed, adding}
 use Rattle.compact.proofs.ListUnits.{Summing, summing-start, summing-room, summing-less, summing-again, summing-end, summing-malformed}
 use Rattle.compact.proofs.list_units.units_sum.Statement.{statement}
 use Rattle.compact.proofs.list_units.units_sum.Tie as tie

@@ -1,6 +1,6 @@
 -- `record_units::put_list` leaves the list from the front on.
-use Prim.Native.Nat.{ℕ, _+_, _≤_}
-use mathlib.Core.Path.{_≡_, _∙_}
+use Prim.Native.Nat.{_+_, _≤_}
+use mathlib.Core.Path.{_∙_}
 use native.Mathlib.Omega.{arith}
 use borrow.Author.Needs.{needs}
 use lib.ListN.{length}
@@ -25,7 +25,7 @@ add-put-array-head : tie.Need-add-put-array-head
 add-put-array-head c = let h = room-at (c .before .before .before .before .before .before .before) in omega arith
 
 put-array-head-requires : tie.Need-put-array-head-requires
-put-array-head-requires c κs = let h = room-at (c .before .before .before .before .before .before .before) in ?
+put-array-head-requires c κs = let h = room-at (c .before .before .before .before .before .before .before) in let k = c .before .before .before .put .kept .0 in omega arith
 
 put-units-requires : tie.Need-put-units-requires
 put-units-requires c κs =

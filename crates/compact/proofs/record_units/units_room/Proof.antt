@@ -1,5 +1,5 @@
 -- `record_units::units_room` measures the units of a record. The loop's invariant: those passed and those left make the whole.
-use Prim.Native.Nat.{_+_, _*_, _≤_}
+use Prim.Native.Nat.{_*_, _≤_}
 use mathlib.Core.Path.{_≡_, refl, sym, ap, _∙_}
 use native.Mathlib.Omega.{arith}
 use borrow.Author.Needs.{needs}
@@ -34,9 +34,11 @@ returns : tie.Need-returns Inv-loop μ-loop
 returns c =
     let l = c .before .before .before .before in
     let s = l .before .before .args .«record» .now in
-    let k = c .before .before .chunk in
-    (ap (measured s (l .loop .room)) (sym (turn-short s (l .loop .left) (l .loop .at) (c .before .before .before .loop-test .taken) (k .result) (k .ensures) (c .enum-told .given .1)))
-    ∙ l .loop .inv .2, tt)
+    let k = c .before .before .chunk in (
+      ap (measured s (l .loop .room)) (sym (turn-short s (l .loop .left) (l .loop .at) (c .before .before .before .loop-test .taken) (k .result) (k .ensures) (c .enum-told .given .1)))
+          ∙ l .loop .inv .2,
+      tt,
+    )
 
 -- the unit that the turn found
 unit-at : (c : tie.After-known-told Inv-loop μ-loop)

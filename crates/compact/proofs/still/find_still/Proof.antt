@@ -1,49 +1,83 @@
-use Prim.Native.Nat.{ℕ, zero, suc, _+_, _*_, _-_, _/_, _%_, _^_, _≤_, _<_}
-use mathlib.Core.Path.{_≡_, refl, sym, ap, _∙_, subst}
-use mathlib.Core.List.{List, [], _∷_, _++_}
-use mathlib.Core.Logic.{⊎-elim}
+-- `still::find_still` finds what follows the header of an item's one unit, if there is one and it is a still.
+use Prim.Native.Nat.{ℕ, _≤_}
+use mathlib.Core.Path.{_≡_, sym, ap, _∙_}
+use mathlib.Core.List.{[]}
+use mathlib.Core.Logic.{⊎-elim, inl, inr}
 use native.Mathlib.Omega.{arith}
-use lib.ListN.{length, getD, take, drop}
 use borrow.Author.Needs.{needs}
+use borrow.Author.Tests.{ltb-true, ltb-false}
+use lib.ListN.{length}
+use Rattle.error.specs.Outcome.{accept}
+use Rattle.boxes.specs.Walk.{more}
+use Rattle.hvcc.specs.Item.{itemUnits}
+use Rattle.hvcc.specs.Answers.{leftOf}
+use Rattle.hvcc.proofs.Items.{Turn, found-unit, found-none, items-size, items-left, left-end}
+use Rattle.compact.specs.ItemData.{onlyStill}
+use Rattle.compact.proofs.Stills.{none-still, more-behind}
 use Rattle.compact.proofs.still.find_still.Statement.{statement}
 use Rattle.compact.proofs.still.find_still.Tie as tie
-use Rattle.compact.proofs.still.find_still.Reads as reads
-use Rattle.compact.proofs.still.find_still.Lts as lts
-use Rattle.boxes.proofs.place.wide.Reads as wide-reads
-use Rattle.compact.proofs.still.still_of.Reads as still-of-reads
-use Rattle.hvcc.proofs.walk.item_step.Reads as item-step-reads
 
--- src/still.rt:79:9
+-- the prefix size
+sized : (c : tie.After-wide) → (1 ≤ c .wide .result) × (c .wide .result ≤ 4)
+sized c =
+    let w : c .wide .result ≡ c .before .before .before .before .args .length-size = c .wide .ensures .0 in
+    let h = ltb-false 4 (c .before .before .before .before .args .length-size) (c .before .if2 .left) in
+    (omega (arith, c .before .before .if1 .left), omega arith)
+
+-- the units of the item are those left from its start
+left-at : (c : tie.After-wide) → leftOf (c .wide .result) (c .before .before .before .before .args .item .now) 0 ≡ itemUnits (c .before .before .before .before .args .length-size) (c .before .before .before .before .args .item .now)
+left-at c =
+    let z = sized c in
+    sym (items-left (c .wide .result) (c .before .before .before .before .args .item .now) (z .0) (z .1)) ∙ ap (λ (n : ℕ). itemUnits n (c .before .before .before .before .args .item .now)) (c .wide .ensures .0)
+
+-- the unit that the step found
+unit-at : (c : tie.After-known-told) → Turn (c .before .before .before .before .wide .result) (c .before .before .before .before .before .before .before .before .args .item .now) 0 (c .before .a .given .0 .0) (c .before .a .given .0 .1 .0)
+unit-at c = found-unit _ _ _ _ (c .before .before .before .item-step .ensures) _ _ (c .before .a .given .1)
+
 returns : tie.Need-returns
-returns c = ?
+returns c =
+    let a = c .before .before .args in (
+      ap (onlyStill (a .item .now)) (sym (items-size (a .length-size) (a .item .now)
+          (⊎-elim (λ h. inl (h .taken)) (λ h. inr (ltb-true 4 (a .length-size) (h .1 .taken))) (c .if1 .came)))),
+      tt,
+    )
 
--- src/still.rt:81:9
 wide-requires : tie.Need-wide-requires
 wide-requires c κs = search needs
 
--- src/still.rt:82:35
 item-step-requires : tie.Need-item-step-requires
-item-step-requires c κs = ?
+item-step-requires c κs = let z = sized c in (z .0, z .1, omega arith, c .before .before .before .before .pre)
 
--- src/still.rt:82:24
 enum-known-a : tie.Need-enum-known-a
 enum-known-a c = search needs
 
--- src/still.rt:83:9
 returns-2 : tie.Need-returns-2
-returns-2 c = ?
+returns-2 c =
+    let a = c .before .before .before .before .before .before .args in
+    let k = c .before .item-step in (
+      none-still (a .item .now) (leftOf (c .before .before .wide .result) (a .item .now) 0) (found-none _ _ _ (k .result) (k .ensures .0) (c .match .keys2))
+          ∙ ap (onlyStill (a .item .now)) (left-at (c .before .before)),
+      tt,
+    )
 
--- src/still.rt:86:9
 returns-3 : tie.Need-returns-3
-returns-3 c = ?
+returns-3 c =
+    let a = c .before .before .before .before .before .before .before .before .before .args in
+    let u = unit-at (c .before) in
+    (more-behind (a .item .now) (c .before .before .before .before .before .wide .result) _ _ (c .if3 .taken) ∙ ap (onlyStill (a .item .now)) (sym (u .rest) ∙ left-at (c .before .before .before .before .before)), tt)
 
--- src/still.rt:88:5
 still-of-requires : tie.Need-still-of-requires
-still-of-requires c κs = ?
+still-of-requires c κs = let u = unit-at (c .before) in omega arith
 
--- src/still.rt:74:1
 returns-4 : tie.Need-returns-4
-returns-4 c = ?
+returns-4 c =
+    let a = c .before .before .before .before .before .before .before .before .before .before .args in
+    let u = unit-at (c .before .before) in
+    let e : leftOf (c .before .before .before .before .before .before .wide .result) (a .item .now) (c .before .before .before .a .given .0 .1 .0) ≡ accept [] = left-end _ _ _ (c .before .if3 .left) in (
+      c .still-of .ensures .0
+          ∙ ap (onlyStill (a .item .now)) (ap (more (c .before .before .before .a .given .0 .0)) (sym e) ∙ sym (u .rest) ∙ left-at (c .before .before .before .before .before .before)),
+      c .still-of .ensures .1,
+    )
 
 pub find-still-spec : {M : Type 1} → statement M
 find-still-spec =

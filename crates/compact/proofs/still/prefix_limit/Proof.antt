@@ -1,7 +1,6 @@
 -- `still::prefix_limit` is the number of values of a prefix.
 use mathlib.Core.Path.{_≡_}
 use native.Mathlib.Omega.{arith}
-use borrow.Author.Needs.{needs}
 use Rattle.compact.proofs.still.prefix_limit.Statement.{statement}
 use Rattle.compact.proofs.still.prefix_limit.Tie as tie
 

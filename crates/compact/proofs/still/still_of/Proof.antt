@@ -1,5 +1,4 @@
 -- `still::still_of` finds what follows the header of the unit at a span, if that is the header of a still.
-use mathlib.Core.Path.{_≡_}
 use native.Mathlib.Omega.{arith}
 use borrow.Author.Needs.{needs}
 use Rattle.compact.proofs.Stills.{one-short, one-layer, one-type, one-temporal, one-still}

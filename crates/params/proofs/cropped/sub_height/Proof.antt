@@ -1,6 +1,5 @@
 -- `sub_height` is 2 for the chroma format 1.
 use borrow.Author.Tests.{ne-eqb}
-use borrow.Author.Needs.{needs}
 use Rattle.params.proofs.cropped.sub_height.Statement.{statement}
 use Rattle.params.proofs.cropped.sub_height.Tie as tie
 

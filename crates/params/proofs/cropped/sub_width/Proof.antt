@@ -1,6 +1,5 @@
 -- `sub_width` is 2 for the chroma formats 1 and 2.
 use borrow.Author.Tests.{ne-eqb}
-use borrow.Author.Needs.{needs}
 use Rattle.params.proofs.cropped.sub_width.Statement.{statement}
 use Rattle.params.proofs.cropped.sub_width.Tie as tie
 

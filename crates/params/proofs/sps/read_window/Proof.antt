@@ -1,7 +1,4 @@
 -- `read_window` reads a window exactly where the flag is set.
-use mathlib.Core.Path.{_≡_, ap, _∙_}
-use Rattle.error.specs.Parse.{value}
-use Rattle.ptl.specs.Sections.{partOf}
 use borrow.Author.Needs.{needs}
 use Rattle.params.proofs.sps.read_window.Statement.{statement}
 use Rattle.params.proofs.sps.read_window.Tie as tie

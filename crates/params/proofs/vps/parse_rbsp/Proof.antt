@@ -1,7 +1,7 @@
 -- `parse_rbsp` of a VPS reads what stands in front of the PTL, and the PTL.
 use mathlib.Core.Path.{ap, sym, _∙_}
 use native.Mathlib.Omega.{arith}
-use Rattle.rbsp.proofs.Chain.{told, told-refused, went, ended, read-of, aligned-of}
+use Rattle.rbsp.proofs.Chain.{told, went, ended, read-of, aligned-of}
 use Rattle.ptl.specs.Ptl.{zeroPtl}
 use Rattle.ptl.proofs.Parts.{refusal-told}
 use Rattle.params.specs.Heads.{vpsPtl}
@@ -118,7 +118,7 @@ align-requires : tie.Need-align-requires
 align-requires c κs = omega (arith, (read-of (c .before .before .before .read-bits4 .ensures) (c .before .r4 .given .1)) .within, c .before .before .before .before .before .before .before .before .before .before .before .before .before .before .before .before .before .before .pre)
 
 cast-parse-ptl : tie.Need-cast-parse-ptl
-cast-parse-ptl c = search needs
+cast-parse-ptl c = omega (arith, (read-of (c .before .before .before .before .before .before .before .before .before .read-bits3 .ensures) (c .before .before .before .before .before .before .before .r3 .given .1)) .low)
 
 parse-ptl-requires : tie.Need-parse-ptl-requires
 parse-ptl-requires c κs =

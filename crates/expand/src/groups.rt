@@ -1,0 +1,132 @@
+// For this crate's calls: the units behind a cursor, measured and stored as arrays, one for each type.
+use super::units;
+use boxes::Span;
+use boxes::place;
+use unit_list::ListCursor;
+use unit_list::ListStep;
+use unit_list::walk;
+use unit_list::write;
+
+ghost use mathlib.Core.Path.{_≡_};
+ghost use Prim.Native.Nat.{_+_, _≤_, _<_, _^_};
+ghost use lib.ListN.{length};
+ghost use lib.Seq.{sets};
+ghost use Rattle.boxes.specs.Bytes.{toChunk};
+ghost use Rattle.boxes.specs.Parts.{held};
+ghost use Rattle.unit_list.specs.UnitList.{encodeUnits, encodeArray, encodeArrays, encode};
+ghost use Rattle.expand.specs.Expand.{havingType, group, grouped};
+ghost use Rattle.expand.specs.Inside.{Readable, unitsAt};
+
+// How many bytes the units of a type take, each behind a length of 4 bytes.
+fn group_len(list: &[u8], c: ListCursor, t: u8) -> usize
+    requires { ⌜ Readable (now list) c ⌝ }
+    ensures { λ r. ⌜ (r ≡ length (encodeUnits 4 (havingType t (unitsAt (now (list .entry)) c)))) × (r ≤ 2 ^ 30) ⌝ }
+{
+    let mut here = c;
+    let mut len: usize = 0;
+    loop {
+        let step = walk::step(list, here);
+        let ListStep::Unit(a, next) = step else {
+            return len;
+        };
+        if units::unit_type(list, a) == t {
+            len = len + 4 + a.len;
+        }
+        here = next;
+    }
+}
+
+// How many bytes the arrays take: each is its length, complete and type, and its units. An array is counted at the first unit of its type.
+pub fn groups_len(list: &[u8], c: ListCursor) -> usize
+    requires { ⌜ Readable (now list) c ⌝ }
+    ensures { λ r. ⌜ (r ≡ length (encodeArrays 4 (grouped (unitsAt (now (list .entry)) c)))) × (r < 2 ^ 62) ⌝ }
+{
+    let mut here = c;
+    let mut seen = [false; 32];
+    let mut len: usize = 0;
+    loop {
+        let step = walk::step(list, here);
+        let ListStep::Unit(a, next) = step else {
+            return len;
+        };
+        let t = units::unit_type(list, a);
+        let kind = place::wide(t);
+        if !seen[kind] {
+            seen[kind] = true;
+            len = len + 6 + group_len(list, c, t);
+        }
+        here = next;
+    }
+}
+
+// Stores the unit at a span behind its length of 4 bytes.
+fn put_unit(list: &[u8], a: Span, out: &mut [u8], at: usize)
+    requires { ⌜ (a .start + a .len ≤ length (now list)) × (at + 4 + a .len ≤ length (now out)) ⌝ }
+    ensures { λ _. ⌜ now (out .exit) ≡ sets (now (out .entry)) at (toChunk 4 (held (now (list .entry)) a)) ⌝ }
+{
+    let unit = place::part(list, a);
+    write::put_chunk(unit, out, at, 4);
+}
+
+// Stores the units of a type from a place on; the place behind them.
+fn put_group_units(list: &[u8], c: ListCursor, t: u8, out: &mut [u8], at: usize) -> usize
+    requires { ⌜ Readable (now list) c × (at + length (encodeUnits 4 (havingType t (unitsAt (now list) c))) ≤ length (now out)) ⌝ }
+    ensures { λ r. ⌜ (r ≡ at + length (encodeUnits 4 (havingType t (unitsAt (now (list .entry)) c)))) × (now (out .exit) ≡ sets (now (out .entry)) at (encodeUnits 4 (havingType t (unitsAt (now (list .entry)) c)))) ⌝ }
+{
+    let mut here = c;
+    let mut to = at;
+    loop {
+        let step = walk::step(list, here);
+        let ListStep::Unit(a, next) = step else {
+            return to;
+        };
+        if units::unit_type(list, a) == t {
+            put_unit(list, a, out, to);
+            to = to + 4 + a.len;
+        }
+        here = next;
+    }
+}
+
+// Stores the array of a type from a place on; the place behind it. It is complete.
+fn put_group(list: &[u8], c: ListCursor, t: u8, out: &mut [u8], at: usize) -> usize
+    requires { ⌜ Readable (now list) c × (at + length (encodeArray 4 (group (unitsAt (now list) c) t)) ≤ length (now out)) ⌝ }
+    ensures { λ r. ⌜ (r ≡ at + length (encodeArray 4 (group (unitsAt (now (list .entry)) c) t))) × (now (out .exit) ≡ sets (now (out .entry)) at (encodeArray 4 (group (unitsAt (now (list .entry)) c) t))) ⌝ }
+{
+    let from = at + 4;
+    let to = put_group_units(list, c, t, out, at + 6);
+    write::put_array_head(out, at, to - from, 1, t);
+    to
+}
+
+// Stores the arrays from a place on, each at the first unit of its type.
+fn put_groups(list: &[u8], c: ListCursor, out: &mut [u8], at: usize)
+    requires { ⌜ Readable (now list) c × (at + length (encodeArrays 4 (grouped (unitsAt (now list) c))) ≤ length (now out)) ⌝ }
+    ensures { λ _. ⌜ now (out .exit) ≡ sets (now (out .entry)) at (encodeArrays 4 (grouped (unitsAt (now (list .entry)) c))) ⌝ }
+{
+    let mut here = c;
+    let mut seen = [false; 32];
+    let mut to = at;
+    loop {
+        let step = walk::step(list, here);
+        let ListStep::Unit(a, next) = step else {
+            return;
+        };
+        let t = units::unit_type(list, a);
+        let kind = place::wide(t);
+        if !seen[kind] {
+            seen[kind] = true;
+            to = put_group(list, c, t, out, to);
+        }
+        here = next;
+    }
+}
+
+// Stores the list of the arrays at the front: a byte 01, the arrays.
+pub fn put_list(list: &[u8], c: ListCursor, out: &mut [u8])
+    requires { ⌜ Readable (now list) c × (length (encode (grouped (unitsAt (now list) c))) ≤ length (now out)) ⌝ }
+    ensures { λ _. ⌜ now (out .exit) ≡ sets (now (out .entry)) 0 (encode (grouped (unitsAt (now (list .entry)) c))) ⌝ }
+{
+    place::put(out, 0, 1);
+    put_groups(list, c, out, 1);
+}

@@ -1,0 +1,48 @@
+// For this crate's calls: the units of a list by the type in their headers.
+use boxes::Span;
+use boxes::place;
+use nal::header;
+use unit_list::ListCursor;
+use unit_list::ListStep;
+use unit_list::walk;
+
+ghost use mathlib.Core.Path.{_≡_};
+ghost use Prim.Native.Nat.{_+_, _≤_};
+ghost use lib.ListN.{length};
+ghost use Rattle.boxes.specs.Parts.{held};
+ghost use Rattle.nal.specs.Header.{typeOr31};
+ghost use Rattle.expand.specs.Expand.{havingType, first};
+ghost use Rattle.expand.specs.Inside.{Readable, unitsAt, firstOf, FirstFits};
+
+// Where the first unit of a type lies.
+pub enum FirstUnit {
+    At(Span),
+    Missing,
+}
+
+// The type of the unit at a span, 31 where its byte 1 is absent.
+pub fn unit_type(list: &[u8], a: Span) -> u8
+    requires { ⌜ a .start + a .len ≤ length (now list) ⌝ }
+    ensures { λ r. ⌜ (r ≡ typeOr31 (held (now (list .entry)) a)) × (r ≤ 31) ⌝ }
+{
+    let unit = place::part(list, a);
+    header::type_or_31(unit)
+}
+
+// The first unit of a type behind a cursor.
+pub fn first_having(list: &[u8], c: ListCursor, t: u8) -> FirstUnit
+    requires { ⌜ Readable (now list) c ⌝ }
+    ensures { λ r. ⌜ (firstOf (now (list .entry)) r ≡ first (havingType t (unitsAt (now (list .entry)) c))) × FirstFits (now (list .entry)) r ⌝ }
+{
+    let mut here = c;
+    loop {
+        let step = walk::step(list, here);
+        let ListStep::Unit(a, next) = step else {
+            return FirstUnit::Missing;
+        };
+        if unit_type(list, a) == t {
+            return FirstUnit::At(a);
+        }
+        here = next;
+    }
+}

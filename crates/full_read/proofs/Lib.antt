@@ -1,0 +1,4 @@
+pub mod Heads
+pub mod Repeated
+pub mod RecordArrays
+pub mod Given

@@ -1,0 +1,103 @@
+-- Laws of the bytes of a head: its parts stored one behind the other, and its length.
+use Prim.Native.Nat.{ℕ, _+_, _-_, _*_, _/_, _%_, _≤_}
+use mathlib.Core.Path.{_≡_, ap, _∙_, subst}
+use mathlib.Core.Bool.{Bool, true, false}
+use mathlib.Core.List.{List, [], _∷_, _++_}
+use native.Mathlib.Omega.{arith}
+use native.Mathlib.Numerals.{add-one}
+use lib.ListN.{length, set, length-append}
+use lib.Seq.{sets}
+use borrow.Author.Tests.{leb-true, le-leb}
+use Rattle.error.specs.Logic.{if_then_else_}
+use Rattle.boxes.specs.Bytes.{toBe}
+use Rattle.boxes.proofs.Numbers.{length-toBe}
+use Rattle.nal.proofs.StartCodes.{and-true}
+use Rattle.ptl_record.specs.Write.{bit, ptlBytes}
+use Rattle.ptl_record.proofs.Writing.{sets-then}
+use Rattle.full.specs.Write.{ptlPart, headBytes, ptlPartFits, headFits}
+use Rattle.full.specs.declared.VvcConfig.{VvcConfig}
+
+-- a number of two bytes, stored byte by byte
+pub two-stored : (d : List ℕ) (at v : ℕ) → set (set d at (v / 256 % 256)) (at + 1) (v % 256) ≡ sets d at (toBe 2 v)
+unfolding toBe
+two-stored d at v = rw (add-one at)
+
+-- the first two fields as one number
+abbrev pub word : VvcConfig → ℕ
+word h = h .«ols_idx» * 128 + h .«num_sublayers» * 16 + h .«constant_frame_rate» * 4 + h .«chroma_format_idc»
+
+module _ (h : VvcConfig) where
+  abbrev W : List ℕ
+  W = toBe 2 (word h)
+
+  abbrev D : List ℕ
+  D = (h .«bit_depth_minus8» * 32 + 31) ∷ []
+
+  abbrev pub P : List ℕ
+  P = ptlBytes (h .«native_ptl») (h .«num_sublayers»)
+
+  abbrev X : List ℕ
+  X = toBe 2 (h .«max_picture_width»)
+
+  abbrev Y : List ℕ
+  Y = toBe 2 (h .«max_picture_height»)
+
+  abbrev Z : List ℕ
+  Z = toBe 2 (h .«avg_frame_rate»)
+
+  pub length-part : length (ptlPart h) ≡ 9 + length P
+  unfolding ptlPart
+  length-part = simp (length-append, length-toBe) (omega arith)
+
+  -- the parts under the flag, stored one behind the other
+  pub part-stored : (d : List ℕ) (at behind : ℕ) → behind ≡ at + 3 + length P
+      → sets (sets (sets (sets (set (sets d at W) (at + 2) (h .«bit_depth_minus8» * 32 + 31)) (at + 3) P) behind X) (behind + 2) Y) (behind + 4) Z ≡ sets d at (ptlPart h)
+  unfolding ptlPart
+  part-stored d at behind e =
+      let w = length-toBe 2 (word h) in
+      let x = length-toBe 2 (h .«max_picture_width») in
+      let y = length-toBe 2 (h .«max_picture_height») in
+      let l₁ = length-append W D in
+      let l₂ = length-append (W ++ D) P in
+      let l₃ = length-append ((W ++ D) ++ P) X in
+      let l₄ = length-append (((W ++ D) ++ P) ++ X) Y in
+      ap (λ (v : List ℕ). sets (sets (sets (sets v (at + 3) P) behind X) (behind + 2) Y) (behind + 4) Z) (sets-then d at (at + 2) W D (omega arith))
+      ∙ ap (λ (v : List ℕ). sets (sets (sets v behind X) (behind + 2) Y) (behind + 4) Z) (sets-then d at (at + 3) (W ++ D) P (omega arith))
+      ∙ ap (λ (v : List ℕ). sets (sets v (behind + 2) Y) (behind + 4) Z) (sets-then d at behind ((W ++ D) ++ P) X (omega arith))
+      ∙ ap (λ (v : List ℕ). sets v (behind + 4) Z) (sets-then d at (behind + 2) (((W ++ D) ++ P) ++ X) Y (omega arith))
+      ∙ sets-then d at (behind + 4) ((((W ++ D) ++ P) ++ X) ++ Y) Z (omega arith)
+
+  -- what a head that fits says
+  pub record HeadFits : Type 0 where
+    pub one : 1 ≤ h .«length_size»
+    pub four : h .«length_size» ≤ 4
+    pub part : h .«ptl_present_flag» ≡ true → ptlPartFits h ≡ true
+
+  pub head-fits : headFits h ≡ true → HeadFits
+  unfolding headFits
+  head-fits e =
+      let a = and-true _ _ e in
+      let b = and-true _ _ (a .1) in
+      record {
+        one = leb-true _ _ (a .0);
+        four = leb-true _ _ (b .0);
+        part = λ f. subst (λ (t : Bool). (if t then ptlPartFits h else true) ≡ true) f (b .1);
+      }
+
+  -- with the flag set it is what stands under it that has to fit
+  pub head-flagged : 1 ≤ h .«length_size» → h .«length_size» ≤ 4 → h .«ptl_present_flag» ≡ true → headFits h ≡ ptlPartFits h
+  unfolding headFits
+  head-flagged one four e =
+      rw (le-leb 1 (h .«length_size») one, le-leb (h .«length_size») 4 four) (ap (λ (t : Bool). if t then ptlPartFits h else true) e)
+
+  -- the first byte
+  abbrev pub first : ℕ
+  first = 248 + (h .«length_size» - 1) * 2 + bit (h .«ptl_present_flag»)
+
+  pub head-part : h .«ptl_present_flag» ≡ true → headBytes h ≡ first ∷ ptlPart h
+  unfolding headBytes
+  head-part e = ap (λ (t : Bool). first ∷ (if t then ptlPart h else [])) e
+
+  pub head-plain : h .«ptl_present_flag» ≡ false → headBytes h ≡ first ∷ []
+  unfolding headBytes
+  head-plain e = ap (λ (t : Bool). first ∷ (if t then ptlPart h else [])) e

@@ -1,0 +1,5 @@
+pub mod Output
+pub mod Measures
+pub mod Stores
+pub mod Heads
+pub mod Records

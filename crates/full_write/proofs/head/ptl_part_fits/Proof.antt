@@ -1,0 +1,41 @@
+-- The tests are those of the definition, in its order.
+use borrow.Author.Needs.{needs}
+use borrow.Author.Tests.{le-leb, lt-leb}
+use Rattle.full.specs.Write.{ptlPartFits}
+use Rattle.full_write.proofs.head.ptl_part_fits.Statement.{statement}
+use Rattle.full_write.proofs.head.ptl_part_fits.Tie as tie
+
+returns : tie.Need-returns
+unfolding ptlPartFits
+returns c = simp (lt-leb _ 511 (c .if1 .taken))
+
+returns-2 : tie.Need-returns-2
+unfolding ptlPartFits
+returns-2 c = simp (le-leb _ 511 (c .before .before .if1 .left), lt-leb _ 7 (c .if2 .taken))
+
+returns-3 : tie.Need-returns-3
+unfolding ptlPartFits
+returns-3 c = simp (le-leb _ 511 (c .before .before .before .before .if1 .left), le-leb _ 7 (c .before .before .if2 .left), lt-leb _ 3 (c .if3 .taken))
+
+returns-4 : tie.Need-returns-4
+unfolding ptlPartFits
+returns-4 c = simp (le-leb _ 511 (c .before .before .before .before .before .before .if1 .left), le-leb _ 7 (c .before .before .before .before .if2 .left), le-leb _ 3 (c .before .before .if3 .left), lt-leb _ 3 (c .if4 .taken))
+
+returns-5 : tie.Need-returns-5
+unfolding ptlPartFits
+returns-5 c =
+    simp (le-leb _ 511 (c .before .before .before .before .before .before .before .before .if1 .left), le-leb _ 7 (c .before .before .before .before .before .before .if2 .left), le-leb _ 3 (c .before .before .before .before .if3 .left), le-leb _ 3 (c .before .before .if4 .left), lt-leb _ 7 (c .if5 .taken))
+
+ptl-fits-requires : tie.Need-ptl-fits-requires
+ptl-fits-requires c κs = search needs
+
+returns-6 : tie.Need-returns-6
+unfolding ptlPartFits
+returns-6 c =
+    rw (le-leb _ 511 (c .before .before .before .before .before .before .before .before .before .if1 .left), le-leb _ 7 (c .before .before .before .before .before .before .before .if2 .left), le-leb _ 3 (c .before .before .before .before .before .if3 .left), le-leb _ 3 (c .before .before .before .if4 .left), le-leb _ 7 (c .before .if5 .left))
+    (c .ptl-fits .ensures)
+
+pub ptl-part-fits-spec : {M : Type 1} → statement M
+ptl-part-fits-spec =
+    tie.close
+    (tie.spec returns returns-2 returns-3 returns-4 returns-5 ptl-fits-requires returns-6)

@@ -1,0 +1,64 @@
+-- The first byte, and with the PTL flag what stands under it.
+use mathlib.Core.Path.{ap, _∙_}
+use native.Mathlib.Omega.{arith}
+use lib.ListN.{length}
+use borrow.Author.Needs.{needs}
+use Rattle.full_write.proofs.Heads.{head-fits, head-part, head-plain}
+use Rattle.full_write.proofs.head.put_head.Statement.{statement}
+use Rattle.full_write.proofs.head.put_head.Tie as tie
+
+bit-of-requires : tie.Need-bit-of-requires
+bit-of-requires c κs = search needs
+
+sub-put : tie.Need-sub-put
+sub-put c = let f = head-fits _ (c .before .before .before .before .pre) in omega (arith, f .one)
+
+mul-put : tie.Need-mul-put
+mul-put c = let f = head-fits _ (c .before .before .before .before .pre) in omega (arith, f .one, f .four)
+
+add-put : tie.Need-add-put
+add-put c = let f = head-fits _ (c .before .before .before .before .pre) in omega (arith, f .one, f .four)
+
+add-put-2 : tie.Need-add-put-2
+add-put-2 c = let f = head-fits _ (c .before .before .before .before .pre) in omega (arith, f .one, f .four, c .before .before .bit-of .ensures .1)
+
+put-requires : tie.Need-put-requires
+put-requires c κs = search needs
+
+put-ptl-part-requires : tie.Need-put-ptl-part-requires
+put-ptl-part-requires c κs = (head-fits _ (c .before .before .before .before .before .before .before .before .before .pre) .part (c .before .if1 .taken), omega arith)
+
+same-length : tie.Need-same-length
+same-length c = search needs
+
+returns : tie.Need-returns
+returns c =
+    let h = head-part (c .before .before .before .before .before .before .before .before .before .before .before .before .args .h) (c .before .before .before .before .if1 .taken) in
+    let l = ap length h in
+    let p = c .before .before .put-ptl-part .ensures in
+    (omega (arith, p .0), p .1 ∙ rw (c .before .before .before .before .before .before .before .put .ensures, c .before .before .before .before .before .before .before .before .before .before .bit-of .ensures .0, h), omega (arith, p .2))
+
+same-length-2 : tie.Need-same-length-2
+same-length-2 c = search needs
+
+returns-2 : tie.Need-returns-2
+returns-2 c =
+    let h = head-plain (c .before .before .before .before .before .before .before .before .args .h) (c .if1 .left) in
+    let l = ap length h in
+    (omega arith, c .before .before .before .put .ensures ∙ rw (c .before .before .before .before .before .before .bit-of .ensures .0, h), omega arith)
+
+pub put-head-spec : {M : Type 1} → statement M
+put-head-spec =
+    tie.close
+    (tie.spec
+    bit-of-requires
+    sub-put
+    mul-put
+    add-put
+    add-put-2
+    put-requires
+    put-ptl-part-requires
+    same-length
+    returns
+    same-length-2
+    returns-2)

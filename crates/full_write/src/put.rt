@@ -1,0 +1,85 @@
+// For this crate's call: the arrays of a list stored as those of a full record.
+use super::measure;
+use super::measure::Measured;
+use boxes::Span;
+use boxes::place;
+use unit_list::ArrayStep;
+use unit_list::ListCursor;
+use unit_list::ListStep;
+use unit_list::walk;
+use unit_list::write;
+ghost use mathlib.Core.Path.{_≡_};
+ghost use Prim.Native.Nat.{_+_, _≤_, _^_};
+ghost use lib.ListN.{length};
+ghost use lib.Seq.{sets};
+ghost use Rattle.boxes.specs.Bytes.{toChunk};
+ghost use Rattle.boxes.specs.Parts.{held};
+ghost use Rattle.unit_list.specs.Walk.{Fits, unitsFrom, arraysFrom};
+ghost use Rattle.full_write.specs.Inside.{Puts, bytesOf, unitsBytes, countBytes, arrayBytesBy, arraysBytesAt};
+
+// Stores the unit at a span of a list behind its length of two bytes.
+fn put_unit(list: &[u8], a: Span, out: &mut [u8], to: usize)
+    requires { ⌜ (a .start + a .len ≤ length (now list)) × (to + 2 + a .len ≤ length (now out)) ⌝ }
+    ensures { λ _. ⌜ now (out .exit) ≡ sets (now (out .entry)) to (toChunk 2 (held (now (list .entry)) a)) ⌝ }
+{
+    let unit = place::part(list, a);
+    write::put_chunk(unit, out, to, 2);
+}
+
+// Stores the units behind a cursor, up to the end of its array, and gives the place behind them.
+fn put_units(list: &[u8], c: ListCursor, out: &mut [u8], to: usize) -> usize
+    requires { ⌜ Fits (now list) c × Puts (unitsBytes (now list)) (unitsFrom (now list) c) (now out) to ⌝ }
+    ensures { λ r. ⌜ (r ≡ to + length (bytesOf (unitsBytes (now (list .entry))) (unitsFrom (now (list .entry)) c))) × (now (out .exit) ≡ sets (now (out .entry)) to (bytesOf (unitsBytes (now (list .entry))) (unitsFrom (now (list .entry)) c))) ⌝ }
+{
+    let mut here = c;
+    let mut at = to;
+    loop {
+        let ListStep::Unit(a, next) = walk::unit_step(list, here) else {
+            return at;
+        };
+        put_unit(list, a, out, at);
+        at = at + 2 + a.len;
+        here = next;
+    }
+}
+
+// Stores the count of the units behind a cursor, where the array has one, and gives the place behind it.
+fn put_count(list: &[u8], c: ListCursor, out: &mut [u8], to: usize) -> usize
+    requires { ⌜ Fits (now list) c × Puts (countBytes (now list) (c .«unit_type»)) (unitsFrom (now list) c) (now out) to ⌝ }
+    ensures { λ r. ⌜ (r ≡ to + length (bytesOf (countBytes (now (list .entry)) (c .«unit_type»)) (unitsFrom (now (list .entry)) c))) × (now (out .exit) ≡ sets (now (out .entry)) to (bytesOf (countBytes (now (list .entry)) (c .«unit_type»)) (unitsFrom (now (list .entry)) c))) ⌝ }
+{
+    if measure::holds_one(c.unit_type) {
+        return to;
+    }
+    let Measured::Is(units) = measure::measure_units(list, c) else {
+        return to;
+    };
+    place::put_number(out, to, 2, units.count);
+    to + 2
+}
+
+// Stores an array, whose units stand behind a cursor, and gives the place behind it.
+fn put_array(list: &[u8], complete: u8, c: ListCursor, out: &mut [u8], to: usize) -> usize
+    requires { ⌜ (complete ≤ 1) × (c .«unit_type» ≤ 31) × Fits (now list) c × Puts (arrayBytesBy (now list) complete (c .«unit_type»)) (unitsFrom (now list) c) (now out) to ⌝ }
+    ensures { λ r. ⌜ (r ≡ to + length (bytesOf (arrayBytesBy (now (list .entry)) complete (c .«unit_type»)) (unitsFrom (now (list .entry)) c))) × (now (out .exit) ≡ sets (now (out .entry)) to (bytesOf (arrayBytesBy (now (list .entry)) complete (c .«unit_type»)) (unitsFrom (now (list .entry)) c))) ⌝ }
+{
+    place::put(out, to, complete * 128 + c.unit_type);
+    let units_at = put_count(list, c, out, to + 1);
+    put_units(list, c, out, units_at)
+}
+
+// Stores the arrays from a place of a list on.
+pub fn put_arrays(list: &[u8], at: usize, out: &mut [u8], to: usize)
+    requires { ⌜ (at ≤ length (now list)) × (length (now list) ≤ 2 ^ 30) × Puts (arraysBytesAt (now list)) (arraysFrom (now list) at) (now out) to ⌝ }
+    ensures { λ _. ⌜ now (out .exit) ≡ sets (now (out .entry)) to (bytesOf (arraysBytesAt (now (list .entry))) (arraysFrom (now (list .entry)) at)) ⌝ }
+{
+    let mut here = at;
+    let mut next = to;
+    loop {
+        let ArrayStep::Array(complete, first) = walk::array_step(list, here) else {
+            return;
+        };
+        next = put_array(list, complete, first, out, next);
+        here = first.end;
+    }
+}

@@ -1,0 +1,239 @@
+-- Laws of the units that are gathered: from the sums of list and item, in their order, and how small the sums are.
+use Prim.Native.Nat.{ℕ, zero, suc, _+_, _*_, _-_, _^_, _≤_, _<_}
+use mathlib.Core.Path.{_≡_, refl, sym, ap, _∙_}
+use mathlib.Core.Bool.{Bool, true, false}
+use mathlib.Core.Logic.{_⊎_}
+use mathlib.Core.List.{List, [], _∷_, _++_, map, map-append}
+use mathlib.Core.Option.{Option}
+use native.Mathlib.Omega.{arith}
+use native.Mathlib.Decide.{decLe}
+use lib.Dec.{eqb, leb}
+use lib.ListN.{length, getD, take, drop, length-append, length-map, length-take, List·getD-append, List·getD-eq-default}
+use lib.Seq.{getD-append-add}
+use borrow.Author.Tests.{eq-eqb, ne-eqb, le-leb, lt-leb}
+use Rattle.error.specs.Logic.{if_then_else_}
+use Rattle.error.specs.Outcome.{Outcome, accept, refuse, andThen}
+use Rattle.boxes.specs.Parts.{held, nowhere}
+use Rattle.boxes.specs.declared.Span.{Span}
+use Rattle.unit_list.specs.UnitList.{Array, decode, unitsOf}
+use Rattle.unit_list.specs.Answers.{listUnits}
+use Rattle.unit_list.proofs.Accepted.{accepted}
+use Rattle.unit_list.proofs.Accepted as U
+use Rattle.hvcc.specs.Answers.{leftOf}
+use Rattle.hvcc.specs.Item.{splitItem}
+use Rattle.hvcc.specs.Stream.{annexB}
+use Rattle.hvcc.proofs.Items.{Sound, split-sound, split-lent, split-apart, items-size, items-left}
+use Rattle.hvcc.proofs.Spans.{apart-sum}
+use Rattle.hvcc.proofs.Spans as H
+use Rattle.full.specs.declared.VvcConfig.{VvcConfig}
+use Rattle.access_unit.specs.AccessUnit.{targetOf, keeps, leading, following, kept, Source, ofList, ofItem, arranged, notEmpty, accessUnit, heldIn, startCode, assemble}
+use Rattle.access_unit.specs.Inside.{keptLeft, lengths, itemSum, listSum, summedOf, Gathered, someGathered, gather, sizesOf, bothSums, sizesWith, inOrder, sources, bytesAt, gatheredBytes}
+use Rattle.access_unit.specs.declared.sizes.UnitSum.{UnitSum}
+use Rattle.access_unit.specs.declared.sizes.Sizes.{Sizes}
+use Rattle.access_unit.proofs.KeptUnits.{leads-and-follows, kept-leading, kept-following}
+use Rattle.access_unit.proofs.Sums.{lengths-append}
+use Rattle.access_unit.proofs.Streams.{stream-length, stream-append}
+
+-- ### how small the sums are
+
+lengths-le : (s : List ℕ) (us : List Span) → lengths (map (held s) us) ≤ H.lengths us
+unfolding lengths
+lengths-le s [] = omega arith
+lengths-le s (a ∷ us) = let h = lengths-le s us in let l = length-take (a .len) (drop (a .start) s) in omega arith
+
+same-lengths : (us : List Span) → U.lengths us ≡ H.lengths us
+unfolding U.lengths
+same-lengths [] = refl
+same-lengths (a ∷ us) = let h = same-lengths us in omega arith
+
+kept-fewer : (item : List ℕ) (target : Option ℕ) (xs : List Span) → length (kept item target xs) + H.lengths (kept item target xs) ≤ length xs + H.lengths xs
+unfolding kept
+kept-fewer item target [] = omega arith
+kept-fewer item target (a ∷ xs) = go (keeps target (held item a)) (kept-fewer item target xs)
+  where
+    go : (b : Bool) → length (kept item target xs) + H.lengths (kept item target xs) ≤ length xs + H.lengths xs
+        → length (if b then a ∷ kept item target xs else kept item target xs) + H.lengths (if b then a ∷ kept item target xs else kept item target xs)
+        ≤ suc (length xs) + (a .len + H.lengths xs)
+    go true h = omega arith
+    go false h = omega arith
+
+pub list-few : (list : List ℕ) (us : List Span) → listUnits list ≡ accept us → length us + lengths (map (held list) us) ≤ 2 ^ 30
+list-few list us e = go (decode list) refl e
+  where
+    go : (o : Outcome (List (Array Span))) → decode list ≡ o → andThen o (λ xs. accept (unitsOf xs)) ≡ accept us → length us + lengths (map (held list) us) ≤ 2 ^ 30
+    go (refuse n) d f = absurd (let z : _≡_ {A = ℕ} 0 1 = cc in omega arith)
+    go (accept xs) d f =
+        let y : unitsOf xs ≡ us = cc in
+        let w = accepted list xs d in
+        let l = lengths-le list (unitsOf xs) in
+        let m = same-lengths (unitsOf xs) in
+        rw (← y) (omega (arith, w .together, w .lent))
+
+item-few : (size : ℕ) (target : Option ℕ) (item : List ℕ) (split : List Span) → splitItem size item ≡ accept split
+    → length (kept item target split) + lengths (map (held item) (kept item target split)) ≤ length item
+item-few size target item split e =
+    let a = apart-sum (split-apart size item split e) in
+    let k = kept-fewer item target split in
+    let l = lengths-le item (kept item target split) in
+    omega arith
+
+-- ### measured
+
+-- the item's units, kept and summed, beside the list's
+module _ (size : ℕ) (target : Option ℕ) (item : List ℕ) (v : UnitSum) (lent : length item ≤ 2 ^ 30) where
+  pub sizes-size : (size ≡ 0) ⊎ (4 < size) → refuse 4 ≡ sizesWith size target item v
+  sizes-size h = sym (rw (split-lent size item lent ∙ items-size size item h))
+
+  pub sizes-left : 0 < size → size ≤ 4 → (o : Outcome UnitSum) → o ≡ andThen (keptLeft size target item 0) (λ ks. accept (itemSum item ks))
+      → andThen o (bothSums v) ≡ sizesWith size target item v
+  unfolding keptLeft
+  sizes-left some four o e = rw (e, split-lent size item lent ∙ items-left size item some four) (go (leftOf size item 0))
+    where
+      go : (x : Outcome (List Span))
+          → andThen (andThen (andThen x (λ xs. accept (kept item target xs))) (λ ks. accept (itemSum item ks))) (bothSums v)
+          ≡ andThen x (λ split. bothSums v (itemSum item (kept item target split)))
+      go (accept xs) = refl
+      go (refuse n) = refl
+
+  pub item-sum-few : 0 < size → size ≤ 4 → (w : UnitSum) → accept w ≡ andThen (keptLeft size target item 0) (λ ks. accept (itemSum item ks)) → w .count + w .lengths ≤ 2 ^ 30
+  unfolding keptLeft
+  item-sum-few some four w e = go (leftOf size item 0) (split-lent size item lent ∙ items-left size item some four) e
+    where
+      go : (o : Outcome (List Span)) → splitItem size item ≡ o
+          → accept w ≡ andThen (andThen o (λ xs. accept (kept item target xs))) (λ ks. accept (itemSum item ks)) → w .count + w .lengths ≤ 2 ^ 30
+      go (refuse n) s f = absurd (let z : _≡_ {A = ℕ} 0 1 = cc in omega arith)
+      go (accept xs) s f =
+          let x : itemSum item (kept item target xs) ≡ w = cc in
+          let k = item-few size target item xs s in
+          rw (← x) (omega arith)
+
+pub sums-none : (v w : UnitSum) → v .count + w .count ≡ 0 → refuse 19 ≡ bothSums v w
+sums-none v w e = rw (eq-eqb (v .count + w .count) 0 e)
+
+pub sums-some : (v w : UnitSum) → (v .count + w .count ≡ 0 → ⊥)
+    → accept (record { listed = v .count; kept = w .count; lead = w .lead; lengths = v .lengths + w .lengths }) ≡ bothSums v w
+sums-some v w e = rw (ne-eqb (v .count + w .count) 0 e)
+
+pub gather-too-long : (size : ℕ) (target : Option ℕ) (list item : List ℕ) → 2 ^ 30 < length item → gather size target list item ≡ refuse 23
+unfolding gather
+gather-too-long size target list item h = rw (lt-leb (length item) (2 ^ 30) h)
+
+module _ (size : ℕ) (target : Option ℕ) (list item : List ℕ) (lent : length item ≤ 2 ^ 30) where
+  pub gather-list : (n : ℕ) → refuse n ≡ andThen (listUnits list) (λ us. accept (listSum list us)) → gather size target list item ≡ refuse n
+  unfolding gather
+  gather-list n e = rw (le-leb (length item) (2 ^ 30) lent) (go (listUnits list) e)
+    where
+      go : (o : Outcome (List Span)) → refuse n ≡ andThen o (λ us. accept (listSum list us))
+          → andThen o (λ us. andThen (splitItem size item) (λ split. someGathered (record { units = us; kept = kept item target split }))) ≡ refuse n
+      go (accept us) e = absurd (let z : _≡_ {A = ℕ} 0 1 = cc in omega arith)
+      go (refuse m) e = let z : m ≡ n = cc in ap refuse z
+
+  -- a list that was summed: its units, and what comes of the item beside them
+  pub record Listed (v : UnitSum) : Type 0 where
+    pub few : v .count + v .lengths ≤ 2 ^ 30
+    pub whole : sizesWith size target item v ≡ andThen (gather size target list item) (λ g. accept (sizesOf list item g))
+
+  both : (us : List Span) (o : Outcome (List Span))
+      → andThen o (λ split. bothSums (listSum list us) (itemSum item (kept item target split)))
+      ≡ andThen (andThen o (λ split. someGathered (record { units = us; kept = kept item target split }))) (λ g. accept (sizesOf list item g))
+  both us (refuse n) = refl
+  both us (accept split) = go (kept item target split) (eqb (length us + length (kept item target split)) 0)
+    where
+      go : (ks : List Span) (b : Bool)
+          → _≡_ {A = Outcome Sizes}
+          (if b then refuse 19 else accept (record { listed = length us; kept = length ks; lead = length (leading item ks); lengths = lengths (map (held list) us) + lengths (map (held item) ks) }))
+          (andThen (if b then refuse 19 else accept (record { units = us; kept = ks })) (λ g. accept (sizesOf list item g)))
+      go ks true = refl
+      go ks false = refl
+
+  pub gather-listed : (v : UnitSum) → accept v ≡ andThen (listUnits list) (λ us. accept (listSum list us)) → Listed v
+  unfolding gather
+  gather-listed v e = go (listUnits list) refl e
+    where
+      is : (us : List Span) → listUnits list ≡ accept us → sizesWith size target item (listSum list us) ≡ andThen (gather size target list item) (λ g. accept (sizesOf list item g))
+      is us l = rw (le-leb (length item) (2 ^ 30) lent, l) (both us (splitItem size item))
+
+      go : (o : Outcome (List Span)) → listUnits list ≡ o → accept v ≡ andThen o (λ us. accept (listSum list us)) → Listed v
+      go (refuse n) l f = absurd (let z : _≡_ {A = ℕ} 0 1 = cc in omega arith)
+      go (accept us) l f =
+          let x : listSum list us ≡ v = cc in
+          rw (← x) (record { few = list-few list us l; whole = is us l })
+
+-- ### what was gathered
+
+pub record From (size : ℕ) (target : Option ℕ) (list item : List ℕ) (g : Gathered) : Type 0 where
+  pub lent : length item ≤ 2 ^ 30
+  pub some : 1 ≤ size
+  pub four : size ≤ 4
+  pub listed : listUnits list ≡ accept (g .units)
+  pub found : keptLeft size target item 0 ≡ accept (g .kept)
+  pub list-sum : length (g .units) + lengths (map (held list) (g .units)) ≤ 2 ^ 30
+  pub item-sum : length (g .kept) + lengths (map (held item) (g .kept)) ≤ 2 ^ 30
+
+module _ (size : ℕ) (target : Option ℕ) (list item : List ℕ) (g : Gathered) where
+  gathered-from : (us split : List Span) → length item ≤ 2 ^ 30 → listUnits list ≡ accept us → splitItem size item ≡ accept split
+      → someGathered (record { units = us; kept = kept item target split }) ≡ accept g → From size target list item g
+  unfolding keptLeft
+  gathered-from us split lent l s e =
+      let w = split-sound size item (length split) (rw s) in
+      let k = item-few size target item split s in
+      let y : record { units = us; kept = kept item target split } ≡ g = go (eqb (length us + length (kept item target split)) 0) e in
+      rw (← y) (record {
+        lent = lent;
+        some = w .some;
+        four = w .four;
+        listed = l;
+        found = rw (sym (w .whole) ∙ s);
+        list-sum = list-few list us l;
+        item-sum = omega arith;
+      })
+    where
+      go : (b : Bool) → _≡_ {A = Outcome Gathered} (if b then refuse 19 else accept (record { units = us; kept = kept item target split })) (accept g)
+          → record { units = us; kept = kept item target split } ≡ g
+      go true e = absurd (let z : _≡_ {A = ℕ} 0 1 = cc in omega arith)
+      go false e = cc
+
+  pub gathered : gather size target list item ≡ accept g → From size target list item g
+  unfolding gather
+  gathered e =
+      elim (decLe (length item) (2 ^ 30)) [
+        | no h ↦ absurd (let w = gather-too-long size target list item (omega arith) in let z : _≡_ {A = ℕ} 0 1 = cc in omega arith)
+        | yes h ↦ go h (listUnits list) refl (splitItem size item) refl (rw (le-leb (length item) (2 ^ 30) h) at e)
+      ]
+    where
+      go : length item ≤ 2 ^ 30 → (o : Outcome (List Span)) → listUnits list ≡ o → (x : Outcome (List Span)) → splitItem size item ≡ x
+          → andThen o (λ us. andThen x (λ split. someGathered (record { units = us; kept = kept item target split }))) ≡ accept g → From size target list item g
+      go h (refuse n) l x s f = absurd (let z : _≡_ {A = ℕ} 0 1 = cc in omega arith)
+      go h (accept us) l (refuse n) s f = absurd (let z : _≡_ {A = ℕ} 0 1 = cc in omega arith)
+      go h (accept us) l (accept split) s f = gathered-from us split h l s f
+
+-- an access unit that was measured: what it is made of
+pub record Known (size : ℕ) (target : Option ℕ) (list item : List ℕ) (v : Sizes) : Type 0 where
+  pub parts : Gathered
+  pub found : gather size target list item ≡ accept parts
+  pub sized : v ≡ sizesOf list item parts
+
+module _ (size : ℕ) (target : Option ℕ) (list item : List ℕ) where
+  pub known : (v : Sizes) → accept v ≡ andThen (gather size target list item) (λ g. accept (sizesOf list item g)) → Known size target list item v
+  known v e = go (gather size target list item) refl e
+    where
+      go : (o : Outcome Gathered) → gather size target list item ≡ o → accept v ≡ andThen o (λ g. accept (sizesOf list item g)) → Known size target list item v
+      go (accept g) f e = record { parts = g; found = f; sized = cc }
+      go (refuse n) f e = absurd (let z : _≡_ {A = ℕ} 0 1 = cc in omega arith)
+
+  pub unknown : (n : ℕ) → refuse n ≡ andThen (gather size target list item) (λ g. accept (sizesOf list item g)) → gather size target list item ≡ refuse n
+  unknown n e = go (gather size target list item) e
+    where
+      go : (o : Outcome Gathered) → refuse n ≡ andThen o (λ g. accept (sizesOf list item g)) → o ≡ refuse n
+      go (accept g) e = absurd (let z : _≡_ {A = ℕ} 0 1 = cc in omega arith)
+      go (refuse m) e = let z : m ≡ n = cc in ap refuse z
+
+  -- the sums are small
+  pub record Small (v : Sizes) : Type 0 where
+    pub units : v .listed + v .kept ≤ 2 ^ 31
+    pub bytes : v .lengths ≤ 2 ^ 31
+
+  pub known-small : (v : Sizes) → Known size target list item v → Small v
+  known-small v n =
+      let f = gathered size target list item (n .parts) (n .found) in
+      rw (n .sized) (record { units = omega (arith, f .list-sum, f .item-sum); bytes = omega (arith, f .list-sum, f .item-sum) })

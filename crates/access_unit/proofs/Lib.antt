@@ -4,3 +4,5 @@ pub mod ListWalks
 pub mod Sums
 pub mod Streams
 pub mod Gathering
+pub mod Order
+pub mod Answering

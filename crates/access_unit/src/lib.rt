@@ -32,7 +32,8 @@ pub fn access_unit_annex_b(head: VvcConfig, list: &[u8], item: &[u8], tols: Targ
     let measured = sizes::measure(list, item, head.length_size, target);
     match measured {
         Measured::Sized(sizes) => {
-            let len = stream::stream_len(sizes.listed + sizes.kept, sizes.lengths);
+            let count = sizes.listed + sizes.kept;
+            let len = stream::stream_len(count, sizes.lengths);
             if out.len() < len {
                 return Written::Refused(Refusal::BufferTooShort);
             }
@@ -50,7 +51,10 @@ pub fn access_unit_count(head: VvcConfig, list: &[u8], item: &[u8], tols: Target
     let target = kept::target_of(head, tols);
     let measured = sizes::measure(list, item, head.length_size, target);
     match measured {
-        Measured::Sized(sizes) => Counted::Count(sizes.listed + sizes.kept),
+        Measured::Sized(sizes) => {
+            let count = sizes.listed + sizes.kept;
+            Counted::Count(count)
+        }
         Measured::Refused(e) => Counted::Refused(e),
     }
 }

@@ -133,14 +133,16 @@ fn measure_item(item: &[u8], length_size: u8, target: Target, listed: UnitSum) -
     let summed = item_sum(item, place::wide(length_size), target);
     match summed {
         Summed::Sum(kept) => {
-            if listed.count + kept.count == 0 {
+            let count = listed.count + kept.count;
+            if count == 0 {
                 return Measured::Refused(Refusal::NothingToWrite);
             }
+            let lengths = listed.lengths + kept.lengths;
             Measured::Sized(Sizes {
                 listed: listed.count,
                 kept: kept.count,
                 lead: kept.lead,
-                lengths: listed.lengths + kept.lengths,
+                lengths: lengths,
             })
         }
         Summed::Refused(e) => Measured::Refused(e),

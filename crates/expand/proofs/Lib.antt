@@ -4,3 +4,6 @@ pub mod Walks
 pub mod OfType
 pub mod FirstAppearance
 pub mod ArrayWalk
+pub mod Opening
+pub mod SetsRead
+pub mod Expansion

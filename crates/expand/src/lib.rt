@@ -1,9 +1,23 @@
 // Expansion of a compact record into the head and unit list of a full one.
 pub mod groups;
+pub mod head;
+pub mod parameter_sets;
 pub mod units;
 
+use compact::CompactVvcConfig;
 use error::Refusal;
 use full::VvcConfig;
+use params::ParamsAnswer;
+use unit_list::ListCursor;
+use unit_list::ListStart;
+
+ghost use mathlib.Core.Path.{_≡_};
+ghost use Rattle.error.specs.Outcome.{refuse};
+ghost use Rattle.error.specs.Refusals.{numberOf};
+ghost use Rattle.full.specs.Read.{zeroHead};
+ghost use Rattle.expand.specs.Expand.{expandUnits, toFull};
+ghost use Rattle.expand.specs.Answers.{expandedOf, expandedGiven};
+ghost use Rattle.expand.specs.Inside.{Readable, unitsAt, withUnits};
 
 // What a compact record expands to: so many bytes of the output are the unit list.
 pub enum ExpandAnswer {
@@ -15,4 +29,56 @@ pub enum ExpandAnswer {
 pub struct Expanded {
     pub answer: ExpandAnswer,
     pub head: VvcConfig,
+}
+
+// A refusal, with a head of zeros.
+fn refused(e: Refusal) -> Expanded
+    ensures { λ r. ⌜ expandedOf r ≡ (refuse (numberOf e), zeroHead) ⌝ }
+{
+    let zeros = head::zero_head();
+    let answer = ExpandAnswer::Refused(e);
+    Expanded { answer, head: zeros }
+}
+
+// A head with the list of the units behind a cursor, which goes to the output. Refusal: 20.
+fn put_expanded(full_head: VvcConfig, list: &[u8], c: ListCursor, out: &mut [u8]) -> Expanded
+    requires { ⌜ Readable (now list) c ⌝ }
+    ensures { λ r. ⌜ (expandedOf r, now (out .exit)) ≡ expandedGiven (withUnits «full_head» (unitsAt (now (list .entry)) c)) (now (out .entry)) ⌝ }
+{
+    let len = 1 + groups::groups_len(list, c);
+    if out.len() < len {
+        return refused(Refusal::BufferTooShort);
+    }
+    groups::put_list(list, c, out);
+    let answer = ExpandAnswer::List(len);
+    Expanded { answer, head: full_head }
+}
+
+// What the units behind a cursor expand to. Refusals: with the flag set 16 and the VPS's; 17, the SPS's, 18, the VPS's, 20.
+fn expand_units(config: CompactVvcConfig, list: &[u8], c: ListCursor, chroma_format_idc: u8, bit_depth: u8, width: u32, height: u32, out: &mut [u8]) -> Expanded
+    requires { ⌜ Readable (now list) c ⌝ }
+    ensures { λ r. ⌜ (expandedOf r, now (out .exit)) ≡ expandedGiven (expandUnits config (record { chroma = «chroma_format_idc»; depth = «bit_depth»; width = width; height = height }) (unitsAt (now (list .entry)) c)) (now (out .entry)) ⌝ }
+{
+    let flag = config.multi_layer_flag;
+    let read = parameter_sets::sets_ptl(flag, list, c);
+    let answer = read.answer;
+    let ptl = read.ptl;
+    match answer {
+        ParamsAnswer::Read => {
+            let full_head = head::expanded_head(config, chroma_format_idc, bit_depth, width, height, ptl);
+            put_expanded(full_head, list, c, out)
+        }
+        ParamsAnswer::Refused(e) => refused(e),
+    }
+}
+
+// The full record that a compact record and its units stand for; the units go to the output grouped by type, as a unit list.
+// Refusals: 23, 21; with the flag set 16 and the VPS's; 17, the SPS's, 18, the VPS's, 20.
+pub fn to_full(config: CompactVvcConfig, list: &[u8], chroma_format_idc: u8, bit_depth: u8, width: u32, height: u32, out: &mut [u8]) -> Expanded
+    ensures { λ r. ⌜ (expandedOf r, now (out .exit)) ≡ expandedGiven (toFull config (record { chroma = «chroma_format_idc»; depth = «bit_depth»; width = width; height = height }) (now (list .entry))) (now (out .entry)) ⌝ }
+{
+    match units::start(list) {
+        ListStart::At(c) => expand_units(config, list, c, chroma_format_idc, bit_depth, width, height, out),
+        ListStart::Refused(e) => refused(e),
+    }
 }

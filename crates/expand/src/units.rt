@@ -1,9 +1,13 @@
 // For this crate's calls: the units of a list by the type in their headers.
 use boxes::Span;
 use boxes::place;
+use error::Counted;
 use nal::header;
 use unit_list::ListCursor;
+use unit_list::ListStart;
 use unit_list::ListStep;
+use unit_list::Wanted;
+use unit_list::find;
 use unit_list::walk;
 
 ghost use mathlib.Core.Path.{_≡_};
@@ -11,13 +15,39 @@ ghost use Prim.Native.Nat.{_+_, _≤_};
 ghost use lib.ListN.{length};
 ghost use Rattle.boxes.specs.Parts.{held};
 ghost use Rattle.nal.specs.Header.{typeOr31};
+ghost use Rattle.unit_list.specs.Walk.{Fits};
+ghost use Rattle.unit_list.specs.Answers.{listUnits};
+ghost use Rattle.compact.specs.Inside.{unitsLeft};
 ghost use Rattle.expand.specs.Expand.{havingType, first};
-ghost use Rattle.expand.specs.Inside.{Readable, unitsAt, firstOf, FirstFits};
+ghost use Rattle.expand.specs.Inside.{Readable, unitsAt, firstOf, FirstFits, startedUnits, StartReads, heldUnits};
 
 // Where the first unit of a type lies.
 pub enum FirstUnit {
     At(Span),
     Missing,
+}
+
+// The cursor itself, where all units behind it read. Refusal: 21.
+fn start_at(list: &[u8], c: ListCursor) -> ListStart
+    requires { ⌜ Fits (now list) c ⌝ }
+    ensures { λ r. ⌜ (startedUnits (now (list .entry)) r ≡ heldUnits (now (list .entry)) (unitsLeft (now (list .entry)) c)) × StartReads (now (list .entry)) r ⌝ }
+{
+    let found = find::find_from(list, c, Wanted::Every, 0);
+    let counted = found.counted;
+    match counted {
+        Counted::Count(_) => ListStart::At(c),
+        Counted::Refused(e) => ListStart::Refused(e),
+    }
+}
+
+// Where a walk over the units of a list starts that all read. Refusals: 23, 21.
+pub fn start(list: &[u8]) -> ListStart
+    ensures { λ r. ⌜ (startedUnits (now (list .entry)) r ≡ heldUnits (now (list .entry)) (listUnits (now (list .entry)))) × StartReads (now (list .entry)) r ⌝ }
+{
+    match walk::start(list) {
+        ListStart::At(c) => start_at(list, c),
+        ListStart::Refused(e) => ListStart::Refused(e),
+    }
 }
 
 // The type of the unit at a span, 31 where its byte 1 is absent.

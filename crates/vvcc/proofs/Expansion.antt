@@ -22,6 +22,7 @@ use Rattle.compact.specs.declared.CompactVvcConfig.{CompactVvcConfig}
 use Rattle.expand.specs.Expand.{Picture, FullHead, havingType, first, multiLayerVps, ptlOfSets, expandedHead, withList, grouped, expandUnits, toFull}
 use Rattle.expand.proofs.GroupedFits.{Every}
 use Rattle.vvcc.proofs.Premises.{Bytes}
+use Rattle.vvcc.proofs.Ptls.{sps-ptl, vps-ptl}
 
 -- an accepted step behind another: both were accepted
 then-accept : {A B : Type 0} (o : Outcome A) (f : A → Outcome B) (b : B) → andThen o f ≡ accept b → (a : A) × (o ≡ accept a) × (f a ≡ accept b)
@@ -41,10 +42,7 @@ first-is P t (v ∷ us) p e u h = go (eqb (typeOf v) t) (first-is P t us (p .1) 
     go true r h = let z : v ≡ u = cc in subst P z (p .0)
     go false r h = r h
 
-module _
-    (sps-ptl : (u : List ℕ) (h : SpsHead) → Bytes u → parseSps u ≡ accept h → h .«ptl_present_flag» ≡ true → P.Writable (h .ptl))
-    (vps-ptl : (u : List ℕ) (p : VvcPtlRecord) → Bytes u → vpsFirstPtl u ≡ accept p → P.Writable p)
-    (us : List (List ℕ)) (bytes : Every Bytes us) where
+module _ (us : List (List ℕ)) (bytes : Every Bytes us) where
 
   ptl-of : (h : SpsHead) (u : List ℕ) (p : VvcPtlRecord) → Bytes u → parseSps u ≡ accept h → ptlOfSets h us ≡ accept p → P.Writable p
   unfolding ptlOfSets

@@ -1,9 +1,10 @@
 pub mod Worked
-pub mod Steps
 pub mod Premises
 pub mod Units
+pub mod Steps
 pub mod Carried
+pub mod Ptls
 pub mod Expansion
-pub mod Path
 pub mod Record
+pub mod Path
 pub mod Instance

@@ -2,7 +2,6 @@
 use Prim.Native.Nat.{ℕ, _+_, _≤_, _<_}
 use native.Mathlib.Omega.{arith}
 use mathlib.Core.Path.{_≡_, refl, sym, ap, _∙_, subst}
-use mathlib.Core.Bool.{true}
 use mathlib.Core.Option.{Option}
 use mathlib.Core.List.{List, [], _∷_, _++_}
 use lib.Dec.{leb}
@@ -26,10 +25,6 @@ use Rattle.nal.specs.Header.{typeOr31}
 use Rattle.nal.proofs.Checks.{Splittable}
 use Rattle.unit_list.specs.UnitList.{unitsOf}
 use Rattle.hvcc.specs.Stream.{annexB, unitsFrom}
-use Rattle.ptl.specs.declared.VvcPtlRecord.{VvcPtlRecord}
-use Rattle.ptl_record.proofs.RoundTrip as P
-use Rattle.params.specs.Heads.{parseSps, vpsFirstPtl}
-use Rattle.params.specs.declared.SpsHead.{SpsHead}
 use Rattle.full.specs.Write.{fullBytes}
 use Rattle.expand.specs.Expand.{grouped, expandedHead, expandUnits}
 use Rattle.expand.proofs.Grouping.{grouped-as}
@@ -79,105 +74,102 @@ writes-of o a b e out h = rw e (rw (le-leb (length b) (length out) h))
 counts-of : (o : Outcome (List ℕ)) (b : List ℕ) → o ≡ accept b → Writes (counted o) (length b) b
 counts-of o b e out h = rw e (rw (le-leb (length b) (length out) h))
 
-module _
-    (sps-ptl : (u : List ℕ) (h : SpsHead) → Bytes u → parseSps u ≡ accept h → h .«ptl_present_flag» ≡ true → P.Writable (h .ptl))
-    (vps-ptl : (u : List ℕ) (p : VvcPtlRecord) → Bytes u → vpsFirstPtl u ≡ accept p → P.Writable p) where
-  module _ (C S : List ℕ) (pic : Picture) (still : Still C S pic) where
-    abbrev us : List (List ℕ)
-    us = unitsIn C
+module _ (C S : List ℕ) (pic : Picture) (still : Still C S pic) where
+  abbrev us : List (List ℕ)
+  us = unitsIn C
 
-    known : Facts C (still .bytes) (still .read) (still .list)
-    known = facts C (still .bytes) (still .read) (still .list) (still .reads)
+  known : Facts us (still .read) (still .list)
+  known = facts C (still .bytes) (still .read) (still .list) (still .reads)
 
-    groupable : Groupable us
-    groupable = record {
-        count = omega (arith, known .few);
-        short = known .short;
-        types = every-of (λ u. typeOr31 u ≤ 31) us (λ k h. type-small (getD us k []) (every-at Bytes us (known .all-bytes) k h));
-        opi = one-of 12 us (still .one-opi);
-        dci = one-of 13 us (still .one-dci) }
+  groupable : Groupable us
+  groupable = record {
+      count = omega (arith, known .few);
+      short = known .short;
+      types = every-of (λ u. typeOr31 u ≤ 31) us (λ k h. type-small (getD us k []) (every-at Bytes us (known .all-bytes) k h));
+      opi = one-of 12 us (still .one-opi);
+      dci = one-of 13 us (still .one-dci) }
 
-    splittable : Every Splittable us
-    splittable = every-of Splittable us (λ k h. clean-splits (getD us k []) (still .some k h) (still .clean k h))
+  splittable : Every Splittable us
+  splittable = every-of Splittable us (λ k h. clean-splits (getD us k []) (still .some k h) (still .clean k h))
 
-    expanded : Expansion sps-ptl vps-ptl us (known .all-bytes) (still .read .config) pic (still .full) (still .full-list)
-    expanded =
-        expansion sps-ptl vps-ptl us (known .all-bytes) (still .read .config) pic (still .full) (still .full-list) (still .plain)
-        (subst (λ (vs : List (List ℕ)). expandUnits (still .read .config) pic vs ≡ accept (still .full, still .full-list)) (known .units .bytes)
-        (of-units (still .read .config) pic (still .list) (known .units .spans) (still .full, still .full-list) (known .units .read) (still .expands)))
+  expanded : Expansion us (known .all-bytes) (still .read .config) pic (still .full) (still .full-list)
+  expanded =
+      expansion us (known .all-bytes) (still .read .config) pic (still .full) (still .full-list) (still .plain)
+      (subst (λ (vs : List (List ℕ)). expandUnits (still .read .config) pic vs ≡ accept (still .full, still .full-list)) (known .units .bytes)
+      (of-units (still .read .config) pic (still .list) (known .units .spans) (still .full, still .full-list) (known .units .read) (still .expands)))
 
-    carries : Expanded (still .read .config) pic (expanded .ptl) us S
-    carries = record {
-        plain = still .plain;
-        size-low = known .size-low;
-        size-high = known .size-high;
-        size = still .size;
-        chroma = still .chroma;
-        depth = still .depth;
-        ptl-ok = expanded .writable;
-        units = groupable;
-        few = known .few;
-        split = splittable;
-        clean = still .picture-clean;
-        short = still .short;
-        fits = still .fits }
+  carries : Expanded (still .read .config) pic (expanded .ptl) us S
+  carries = record {
+      plain = still .plain;
+      size-low = known .size-low;
+      size-high = known .size-high;
+      size = still .size;
+      chroma = still .chroma;
+      depth = still .depth;
+      ptl-ok = expanded .writable;
+      units = groupable;
+      few = known .few;
+      split = splittable;
+      clean = still .picture-clean;
+      short = still .short;
+      fits = still .fits }
 
-    -- the stream, which depends on neither the picture's numbers nor the target
-    abbrev streamOf : List ℕ
-    streamOf = annexB startCode (unitsOf (grouped us) ++ ((0 ∷ 65 ∷ S) ∷ []))
+  -- the stream, which depends on neither the picture's numbers nor the target
+  abbrev streamOf : List ℕ
+  streamOf = annexB startCode (unitsOf (grouped us) ++ ((0 ∷ 65 ∷ S) ∷ []))
 
-    abbrev c : CompactVvcConfig
-    c = still .read .config
+  abbrev c : CompactVvcConfig
+  c = still .read .config
 
-    abbrev recordOf : List ℕ
-    recordOf = fullBytes (expandedHead c pic (expanded .ptl)) (grouped us)
+  abbrev recordOf : List ℕ
+  recordOf = fullBytes (expandedHead c pic (expanded .ptl)) (grouped us)
 
-    abbrev headBack : VvcConfig
-    headBack = back c pic (expanded .ptl) us S carries
+  abbrev headBack : VvcConfig
+  headBack = back c pic (expanded .ptl) us S carries
 
-    abbrev itemOf : List ℕ
-    itemOf = item c pic (expanded .ptl) us S carries
+  abbrev itemOf : List ℕ
+  itemOf = item c pic (expanded .ptl) us S carries
 
-    is-written : serializeFull (still .full .head) (still .full-list) ≡ accept recordOf
-    is-written =
-        subst (λ (h : VvcConfig). serializeFull h (still .full-list) ≡ accept recordOf) (sym (expanded .head))
-        (subst (λ (l : List ℕ). serializeFull (expandedHead c pic (expanded .ptl)) l ≡ accept recordOf) (sym (expanded .is-list))
-        (written c pic (expanded .ptl) us S carries))
+  is-written : serializeFull (still .full .head) (still .full-list) ≡ accept recordOf
+  is-written =
+      subst (λ (h : VvcConfig). serializeFull h (still .full-list) ≡ accept recordOf) (sym (expanded .head))
+      (subst (λ (l : List ℕ). serializeFull (expandedHead c pic (expanded .ptl)) l ≡ accept recordOf) (sym (expanded .is-list))
+      (written c pic (expanded .ptl) us S carries))
 
-    is-read-back : parseFull recordOf ≡ accept (record { head = headBack; consumed = length recordOf; listLength = length (still .full-list) }, still .full-list)
-    is-read-back =
-        subst (λ (l : List ℕ). parseFull recordOf ≡ accept (record { head = headBack; consumed = length recordOf; listLength = length l }, l)) (sym (expanded .is-list))
-        (read-back c pic (expanded .ptl) us S carries)
+  is-read-back : parseFull recordOf ≡ accept (record { head = headBack; consumed = length recordOf; listLength = length (still .full-list) }, still .full-list)
+  is-read-back =
+      subst (λ (l : List ℕ). parseFull recordOf ≡ accept (record { head = headBack; consumed = length recordOf; listLength = length l }, l)) (sym (expanded .is-list))
+      (read-back c pic (expanded .ptl) us S carries)
 
-    is-assembled : (tols : Option ℕ) → assemble headBack (still .full-list) itemOf tols ≡ accept streamOf
-    is-assembled tols =
-        subst (λ (l : List ℕ). assemble headBack l itemOf tols ≡ accept streamOf) (sym (expanded .is-list)) (assembles c pic (expanded .ptl) us S carries tols)
+  is-assembled : (tols : Option ℕ) → assemble headBack (still .full-list) itemOf tols ≡ accept streamOf
+  is-assembled tols =
+      subst (λ (l : List ℕ). assemble headBack l itemOf tols ≡ accept streamOf) (sym (expanded .is-list)) (assembles c pic (expanded .ptl) us S carries tols)
 
-    -- the claim's first half
-    pub path : (tols : Option ℕ) → Path C S pic tols
-    path tols = record {
-        read = still .read;
-        list = still .list;
-        reads = writes-of (parseCompact C) (still .read) (still .list) (still .reads);
-        full = still .full;
-        full-list = still .full-list;
-        expands = writes-of (toFull c pic (still .list)) (still .full) (still .full-list) (still .expands);
-        bytes = recordOf;
-        writes = counts-of (serializeFull (still .full .head) (still .full-list)) recordOf is-written;
-        head = headBack;
-        reads-back = writes-of (parseFull recordOf) (record { head = headBack; consumed = length recordOf; listLength = length (still .full-list) }) (still .full-list) is-read-back;
-        item = itemOf;
-        restores = counts-of (restore c S) itemOf (restored c pic (expanded .ptl) us S carries);
-        stream = streamOf;
-        assembles = counts-of (assemble headBack (still .full-list) itemOf tols) streamOf (is-assembled tols);
-        spans = unitsFrom streamOf 0;
-        splits = splits c pic (expanded .ptl) us S carries;
-        grouped = unitsOf (grouped us);
-        order = grouped-as us;
-        count = split-count c pic (expanded .ptl) us S carries;
-        unit = unit-below c pic (expanded .ptl) us S carries;
-        last = unit-last c pic (expanded .ptl) us S carries;
-        is-stream = refl }
+  -- the claim's first half
+  pub path : (tols : Option ℕ) → Path C S pic tols
+  path tols = record {
+      read = still .read;
+      list = still .list;
+      reads = writes-of (parseCompact C) (still .read) (still .list) (still .reads);
+      full = still .full;
+      full-list = still .full-list;
+      expands = writes-of (toFull c pic (still .list)) (still .full) (still .full-list) (still .expands);
+      bytes = recordOf;
+      writes = counts-of (serializeFull (still .full .head) (still .full-list)) recordOf is-written;
+      head = headBack;
+      reads-back = writes-of (parseFull recordOf) (record { head = headBack; consumed = length recordOf; listLength = length (still .full-list) }) (still .full-list) is-read-back;
+      item = itemOf;
+      restores = counts-of (restore c S) itemOf (restored c pic (expanded .ptl) us S carries);
+      stream = streamOf;
+      assembles = counts-of (assemble headBack (still .full-list) itemOf tols) streamOf (is-assembled tols);
+      spans = unitsFrom streamOf 0;
+      splits = splits c pic (expanded .ptl) us S carries;
+      grouped = unitsOf (grouped us);
+      order = grouped-as us;
+      count = split-count c pic (expanded .ptl) us S carries;
+      unit = unit-below c pic (expanded .ptl) us S carries;
+      last = unit-last c pic (expanded .ptl) us S carries;
+      is-stream = refl }
 
 -- The claim's second half: "the streams are the same bytes exactly when the S are equal and the grouped units are equal in order", for
 -- any two stills, each with its own prefix size, target, chroma, depth and dimensions.

@@ -1,0 +1,88 @@
+-- `sizes::measure_item` measures an access unit whose list is measured, or gives the refusal that comes first.
+use Prim.Native.Nat.{_+_, _≤_, _<_, _^_}
+use mathlib.Core.Path.{_≡_, sym, ap, _∙_}
+use mathlib.Core.Logic.{⊎-elim, inl, inr}
+use borrow.Author.Tests.{ltb-true, ltb-false}
+use Rattle.error.specs.Outcome.{accept, andThen}
+use Rattle.access_unit.specs.Answers.{tolsOf}
+use Rattle.access_unit.specs.Inside.{keptLeft, itemSum, summedOf, bothSums, sizesWith}
+use Rattle.access_unit.specs.declared.sizes.UnitSum.{UnitSum}
+use Rattle.access_unit.specs.declared.sizes.Summed.{Summed}
+use Rattle.access_unit.specs.declared.sizes.Summed.the-variants.{Sum, Refused}
+use Rattle.access_unit.proofs.Gathering.{sizes-size, sizes-left, item-sum-few, sums-none, sums-some}
+use borrow.Author.Needs.{needs}
+use native.Mathlib.Omega.{arith}
+use Rattle.access_unit.proofs.sizes.measure_item.Statement.{statement}
+use Rattle.access_unit.proofs.sizes.measure_item.Tie as tie
+
+returns : tie.Need-returns
+returns c =
+    let a = c .before .before .args in
+    sizes-size (a .length-size) (tolsOf (a .target)) (a .item .now) (a .listed) (c .before .before .pre .0)
+    (⊎-elim (λ h. inl (h .taken)) (λ h. inr (ltb-true 4 (a .length-size) (h .1 .taken))) (c .if1 .came))
+
+wide-requires : tie.Need-wide-requires
+wide-requires c κs = search needs
+
+item-sum-requires : tie.Need-item-sum-requires
+item-sum-requires c κs =
+    rw (c .wide .ensures .0) (record { some = omega (arith, c .before .before .if1 .left); four = omega (arith, ltb-false); within = omega arith; lent = c .before .before .before .before .pre .0 })
+
+-- what the item's sum says
+sums : (d : tie.After-item-sum)
+    → summedOf (d .item-sum .result) ≡ andThen (keptLeft (d .before .before .before .before .before .args .length-size) (tolsOf (d .before .before .before .before .before .args .target)) (d .before .before .before .before .before .args .item .now) 0) (λ ks. accept (itemSum (d .before .before .before .before .before .args .item .now) ks))
+sums d = rw (d .before .wide .ensures .0) at (d .item-sum .ensures)
+
+said : (d : tie.After-item-sum)
+    → andThen (summedOf (d .item-sum .result)) (bothSums (d .before .before .before .before .before .args .listed))
+    ≡ sizesWith (d .before .before .before .before .before .args .length-size) (tolsOf (d .before .before .before .before .before .args .target)) (d .before .before .before .before .before .args .item .now) (d .before .before .before .before .before .args .listed)
+said d =
+    let a = d .before .before .before .before .before .args in
+    sizes-left (a .length-size) (tolsOf (a .target)) (a .item .now) (a .listed) (d .before .before .before .before .before .pre .0) (omega (arith, d .before .before .before .if1 .left)) (omega (arith, ltb-false)) (summedOf (d .item-sum .result)) (sums d)
+
+sum-said : (d : tie.After-item-sum) (w : UnitSum) → d .item-sum .result ≡ Sum w
+    → bothSums (d .before .before .before .before .before .args .listed) w ≡ sizesWith (d .before .before .before .before .before .args .length-size) (tolsOf (d .before .before .before .before .before .args .target)) (d .before .before .before .before .before .args .item .now) (d .before .before .before .before .before .args .listed)
+sum-said d w e = ap (λ (r : Summed). andThen (summedOf r) (bothSums (d .before .before .before .before .before .args .listed))) (sym e) ∙ said d
+
+few : (d : tie.After-item-sum) (w : UnitSum) → d .item-sum .result ≡ Sum w → w .count + w .lengths ≤ 2 ^ 30
+few d w e =
+    let a = d .before .before .before .before .before .args in
+    item-sum-few (a .length-size) (tolsOf (a .target)) (a .item .now) (a .listed) (d .before .before .before .before .before .pre .0) (omega (arith, d .before .before .before .if1 .left)) (omega (arith, ltb-false)) w (ap summedOf (sym e) ∙ sums d)
+
+enum-known-summed : tie.Need-enum-known-summed
+enum-known-summed c = search needs
+
+add-count : tie.Need-add-count
+add-count c = let f = few (c .before .before .before .before .before) _ (c .before .before .before .summed .given .1) in omega (arith, c .before .before .before .before .before .before .before .before .before .before .pre .1)
+
+returns-2 : tie.Need-returns-2
+returns-2 c = sums-none (c .before .before .before .before .before .before .before .before .before .before .before .args .listed) (c .before .before .before .before .summed .given .0 .0) (c .if3 .taken) ∙ sum-said (c .before .before .before .before .before .before) _ (c .before .before .before .before .summed .given .1)
+
+add-lengths : tie.Need-add-lengths
+add-lengths c = let f = few (c .before .before .before .before .before .before .before .before) _ (c .before .before .before .before .before .before .summed .given .1) in omega (arith, c .before .before .before .before .before .before .before .before .before .before .before .before .before .pre .1)
+
+enum-known-summed-2 : tie.Need-enum-known-summed-2
+enum-known-summed-2 c = search needs
+
+returns-3 : tie.Need-returns-3
+returns-3 c = sums-some (c .before .before .before .before .before .before .before .before .before .before .before .before .before .args .listed) (c .before .before .before .before .before .before .summed .given .0 .0) (c .before .before .if3 .left) ∙ sum-said (c .before .before .before .before .before .before .before .before) _ (c .before .before .before .before .before .before .summed .given .1)
+
+returns-4 : tie.Need-returns-4
+returns-4 c =
+    let d = c .before .before .before in
+    ap (λ (r : Summed). andThen (summedOf r) (bothSums (d .before .before .before .before .before .args .listed))) (sym (c .before .summed2 .given .1)) ∙ said d
+
+pub measure-item-spec : {M : Type 1} → statement M
+measure-item-spec =
+    tie.close
+    (tie.spec
+    returns
+    wide-requires
+    item-sum-requires
+    enum-known-summed
+    add-count
+    returns-2
+    add-lengths
+    enum-known-summed-2
+    returns-3
+    returns-4)

@@ -1,0 +1,89 @@
+-- `parameter_sets::sps_ptl` reads the first SPS, where there is one, and takes the PTL that goes with it.
+use Prim.Native.Nat.{ℕ}
+use mathlib.Core.Path.{_≡_, sym, ap, _∙_, subst}
+use mathlib.Core.Option.{some}
+use borrow.Author.Needs.{needs}
+use Rattle.boxes.specs.Parts.{held}
+use Rattle.params.specs.Heads.{parseSps, zeroSps}
+use Rattle.params.specs.Answers.{spsGiven}
+use Rattle.expand.specs.Inside.{unitsAt, ptlOrZeros, firstOf, FirstFits}
+use Rattle.expand.proofs.SetsRead.{sps-missing, sps-found, sps-refused, read-value, read-refusal}
+use Rattle.expand.proofs.parameter_sets.sps_ptl.Statement.{statement}
+use Rattle.expand.proofs.parameter_sets.sps_ptl.Tie as tie
+
+first-having-requires : tie.Need-first-having-requires
+first-having-requires c κs = search needs
+
+enum-known-first : tie.Need-enum-known-first
+enum-known-first c = search needs
+
+enum-told : tie.Need-enum-told
+enum-told c = search needs
+
+no-ptl-requires : tie.Need-no-ptl-requires
+no-ptl-requires c κs = search needs
+
+returns : tie.Need-returns
+returns c =
+    let s = c .before .before .before .before .before .args .list .now in
+    c .no-ptl .ensures ∙ sps-missing _ (sym (ap (firstOf s) (c .before .enum-told .given .1)) ∙ c .before .before .before .first-having .ensures .0)
+
+part-requires : tie.Need-part-requires
+part-requires c κs = subst (FirstFits (c .before .before .before .before .before .args .list .now)) (c .before .first .given .1) (c .before .before .before .first-having .ensures .1)
+
+parse-nal-requires : tie.Need-parse-nal-requires
+parse-nal-requires c κs = search needs
+
+enum-told-2 : tie.Need-enum-told-2
+enum-told-2 c = search needs
+
+ptl-of-sets-requires : tie.Need-ptl-of-sets-requires
+ptl-of-sets-requires c κs = search needs
+
+enum-known-answer : tie.Need-enum-known-answer
+enum-known-answer c = search needs
+
+no-ptl-requires-2 : tie.Need-no-ptl-requires-2
+no-ptl-requires-2 c κs = search needs
+
+returns-2 : tie.Need-returns-2
+returns-2 c =
+    let a = c .before .before .before .before .before .before .before .before .before .before .before .args in
+    let s = a .list .now in
+    let y = c .before .before .before .before .parse-nal in
+    let g = c .before .before .before .before .before .before .before .first .given in
+    let u = held s (g .0 .0) in
+    let e = sym (ap (firstOf s) (g .1)) ∙ c .before .before .before .before .before .before .before .before .before .first-having .ensures .0 in
+    let f = y .ensures ∙ ap spsGiven (c .before .before .before .before .before .part .ensures .holds) in
+    c .ptl-of-sets .ensures
+    ∙ ap ptlOrZeros (sym (sps-found (unitsAt s (a .c)) u e (y .result .head) (read-value zeroSps (y .result .answer) (y .result .head) (parseSps u) f (c .before .enum-told2 .given .1))))
+
+returns-3 : tie.Need-returns-3
+returns-3 c =
+    let a = c .before .before .before .before .before .before .before .before .before .before .before .before .args in
+    let s = a .list .now in
+    let y = c .before .before .before .before .before .parse-nal in
+    let g = c .before .before .before .before .before .before .before .before .first .given in
+    let u = held s (g .0 .0) in
+    let e = sym (ap (firstOf s) (g .1)) ∙ c .before .before .before .before .before .before .before .before .before .before .first-having .ensures .0 in
+    let f = y .ensures ∙ ap spsGiven (c .before .before .before .before .before .before .part .ensures .holds) in
+    c .no-ptl2 .ensures
+    ∙ ap ptlOrZeros (sym (sps-refused (unitsAt s (a .c)) u e _ (read-refusal zeroSps (y .result .answer) (y .result .head) (parseSps u) f _ (c .before .before .answer .given .1))))
+
+pub sps-ptl-spec : {M : Type 1} → statement M
+sps-ptl-spec =
+    tie.close
+    (tie.spec
+    first-having-requires
+    enum-known-first
+    enum-told
+    no-ptl-requires
+    returns
+    part-requires
+    parse-nal-requires
+    enum-told-2
+    ptl-of-sets-requires
+    enum-known-answer
+    no-ptl-requires-2
+    returns-2
+    returns-3)

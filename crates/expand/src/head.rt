@@ -1,0 +1,71 @@
+// For this crate's calls: the head of an expanded record.
+use compact::CompactVvcConfig;
+use full::VvcConfig;
+use ptl::VvcPtlRecord;
+
+ghost use mathlib.Core.Path.{_≡_};
+ghost use Prim.Native.Nat.{_-_, min};
+ghost use Rattle.full.specs.Read.{zeroHead};
+ghost use Rattle.expand.specs.Expand.{expandedHead};
+
+// A width or height, cut at 65,535.
+fn cut(side: u32) -> u16
+    ensures { λ r. ⌜ r ≡ min side 65535 ⌝ }
+{
+    if 65535 < side {
+        return 65535;
+    }
+    side as u16
+}
+
+// A depth minus 8, 0 below 8.
+fn depth_minus8(bit_depth: u8) -> u8
+    ensures { λ r. ⌜ r ≡ «bit_depth» - 8 ⌝ }
+{
+    if bit_depth < 8 {
+        return 0;
+    }
+    bit_depth - 8
+}
+
+// A head of zeros.
+pub fn zero_head() -> VvcConfig
+    ensures { λ r. ⌜ r ≡ zeroHead ⌝ }
+{
+    let zeros = ptl::bits::zero_ptl();
+    VvcConfig {
+        length_size: 0,
+        ptl_present_flag: false,
+        ols_idx: 0,
+        num_sublayers: 0,
+        constant_frame_rate: 0,
+        chroma_format_idc: 0,
+        bit_depth_minus8: 0,
+        native_ptl: zeros,
+        max_picture_width: 0,
+        max_picture_height: 0,
+        avg_frame_rate: 0,
+    }
+}
+
+// The head that a compact record with this PTL expands to, for a picture as the caller knows it.
+pub fn expanded_head(config: CompactVvcConfig, chroma_format_idc: u8, bit_depth: u8, width: u32, height: u32, ptl: VvcPtlRecord) -> VvcConfig
+    ensures { λ r. ⌜ r ≡ expandedHead config (record { chroma = «chroma_format_idc»; depth = «bit_depth»; width = width; height = height }) ptl ⌝ }
+{
+    let depth = depth_minus8(bit_depth);
+    let max_width = cut(width);
+    let max_height = cut(height);
+    VvcConfig {
+        length_size: config.length_size,
+        ptl_present_flag: true,
+        ols_idx: 0,
+        num_sublayers: 1,
+        constant_frame_rate: 1,
+        chroma_format_idc: chroma_format_idc,
+        bit_depth_minus8: depth,
+        native_ptl: ptl,
+        max_picture_width: max_width,
+        max_picture_height: max_height,
+        avg_frame_rate: 0,
+    }
+}

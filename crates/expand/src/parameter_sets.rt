@@ -1,0 +1,87 @@
+// For this crate's calls: the PTL that the parameter sets of a list give.
+use super::units;
+use super::units::FirstUnit;
+use boxes::place;
+use error::Refusal;
+use nal::NAL_SPS;
+use nal::NAL_VPS;
+use params::ParamsAnswer;
+use params::PtlRead;
+use params::SpsHead;
+use params::vps;
+use unit_list::ListCursor;
+
+ghost use mathlib.Core.Path.{_≡_};
+ghost use Rattle.error.specs.Refusals.{numberOf};
+ghost use Rattle.params.specs.Answers.{readOf, ptlOf};
+ghost use Rattle.expand.specs.Expand.{multiLayerVps, ptlOfSets};
+ghost use Rattle.expand.specs.Inside.{Readable, unitsAt, ptlOrZeros, firstVpsPtl, firstSpsPtl, setsPtl};
+
+// The first PTL of the first VPS behind a cursor. Refusals: `missing` where there is no VPS, and the VPS's.
+fn vps_ptl(list: &[u8], c: ListCursor, missing: Refusal) -> PtlRead
+    requires { ⌜ Readable (now list) c ⌝ }
+    ensures { λ r. ⌜ ptlOf r ≡ ptlOrZeros (firstVpsPtl (numberOf missing) (unitsAt (now (list .entry)) c)) ⌝ }
+{
+    let first = units::first_having(list, c, NAL_VPS);
+    let FirstUnit::At(a) = first else {
+        return vps::no_ptl(missing);
+    };
+    let unit = place::part(list, a);
+    params::vps_first_ptl(unit)
+}
+
+// With the flag set the first VPS has to read. Refusals: 16, the VPS's.
+fn multi_layer_vps(multi_layer_flag: bool, list: &[u8], c: ListCursor) -> ParamsAnswer
+    requires { ⌜ Readable (now list) c ⌝ }
+    ensures { λ r. ⌜ readOf r tt ≡ multiLayerVps «multi_layer_flag» (unitsAt (now (list .entry)) c) ⌝ }
+{
+    if !multi_layer_flag {
+        return ParamsAnswer::Read;
+    }
+    let read = vps_ptl(list, c, Refusal::NoVps);
+    read.answer
+}
+
+// The PTL of an SPS, or else of the first VPS. Refusals: 18, the VPS's.
+fn ptl_of_sets(sps: SpsHead, list: &[u8], c: ListCursor) -> PtlRead
+    requires { ⌜ Readable (now list) c ⌝ }
+    ensures { λ r. ⌜ ptlOf r ≡ ptlOrZeros (ptlOfSets sps (unitsAt (now (list .entry)) c)) ⌝ }
+{
+    if !sps.ptl_present_flag {
+        return vps_ptl(list, c, Refusal::NoPtl);
+    }
+    let ptl = sps.ptl;
+    let answer = ParamsAnswer::Read;
+    PtlRead { answer, ptl }
+}
+
+// The PTL of the first SPS, or else of the first VPS. Refusals: 17, the SPS's, 18, the VPS's.
+fn sps_ptl(list: &[u8], c: ListCursor) -> PtlRead
+    requires { ⌜ Readable (now list) c ⌝ }
+    ensures { λ r. ⌜ ptlOf r ≡ ptlOrZeros (firstSpsPtl (unitsAt (now (list .entry)) c)) ⌝ }
+{
+    let first = units::first_having(list, c, NAL_SPS);
+    let FirstUnit::At(a) = first else {
+        return vps::no_ptl(Refusal::NoSps);
+    };
+    let unit = place::part(list, a);
+    let read = SpsHead::parse_nal(unit);
+    let answer = read.answer;
+    let sps = read.head;
+    match answer {
+        ParamsAnswer::Read => ptl_of_sets(sps, list, c),
+        ParamsAnswer::Refused(e) => vps::no_ptl(e),
+    }
+}
+
+// The PTL that the parameter sets behind a cursor give. Refusals: with the flag set 16 and the VPS's; 17, the SPS's, 18, the VPS's.
+pub fn sets_ptl(multi_layer_flag: bool, list: &[u8], c: ListCursor) -> PtlRead
+    requires { ⌜ Readable (now list) c ⌝ }
+    ensures { λ r. ⌜ ptlOf r ≡ ptlOrZeros (setsPtl «multi_layer_flag» (unitsAt (now (list .entry)) c)) ⌝ }
+{
+    let answer = multi_layer_vps(multi_layer_flag, list, c);
+    match answer {
+        ParamsAnswer::Read => sps_ptl(list, c),
+        ParamsAnswer::Refused(e) => vps::no_ptl(e),
+    }
+}

@@ -1,10 +1,10 @@
 -- The answers of the calls, from the access unit that was measured: the count, the stream in lent memory, unit k.
 use Prim.Native.Nat.{ℕ, _+_, _*_, _-_, _≤_, _<_}
-use mathlib.Core.Path.{_≡_, refl, sym, ap, _∙_}
+use mathlib.Core.Path.{_≡_, sym, ap, _∙_}
 use mathlib.Core.List.{List, _++_}
 use mathlib.Core.Option.{Option}
 use native.Mathlib.Omega.{arith}
-use lib.ListN.{length, getD, take, drop, length-append, length-drop}
+use lib.ListN.{length, getD, take, drop, length-append}
 use lib.Seq.{sets, take-all, length-sets}
 use borrow.Author.Tests.{le-leb, lt-leb}
 use Rattle.error.specs.Outcome.{Outcome, accept, refuse, andThen, lentOutput, counted}
@@ -18,9 +18,9 @@ use Rattle.unit_list.specs.declared.ListCursor.{ListCursor}
 use Rattle.unit_list.specs.declared.Wanted.the-variants.{Every}
 use Rattle.unit_list.proofs.Units.{list-every}
 use Rattle.full.specs.declared.VvcConfig.{VvcConfig}
-use Rattle.access_unit.specs.AccessUnit.{targetOf, leading, following, Source, ofList, ofItem, accessUnit, assemble}
+use Rattle.access_unit.specs.AccessUnit.{targetOf, leading, following, ofList, ofItem, accessUnit, assemble}
 use Rattle.access_unit.specs.Answers.{sourceAt}
-use Rattle.access_unit.specs.Inside.{Walks, keptLeft, unitsLeft, Gathered, gather, sizesOf, inOrder, sources, HasKept, bytesAt, foundBytes, PutsAll, firstOf, restOf, PutsFirst, FirstPut, gatheredBytes, PutsStream}
+use Rattle.access_unit.specs.Inside.{Walks, keptLeft, unitsLeft, Gathered, gather, inOrder, sources, HasKept, bytesAt, foundBytes, PutsAll, firstOf, PutsFirst, FirstPut, gatheredBytes, PutsStream}
 use Rattle.access_unit.specs.declared.sizes.Sizes.{Sizes}
 use Rattle.access_unit.specs.declared.stream.Places.{Places}
 use Rattle.access_unit.proofs.KeptUnits.{leads-and-follows, leading-take, following-drop}
@@ -270,9 +270,9 @@ module _ (size : ℕ) (target : Option ℕ) (list item : List ℕ) (k : ℕ) whe
           let y = listed-of in
           let j : k - v .lead ≡ k - length (leading item (n .parts .kept)) = omega arith in
           ap ofList (
-            e
-            ∙ ap (λ (o : Outcome (List Span)). found o (k - v .lead)) (list-every list ∙ made .listed)
-            ∙ ap (λ (i : ℕ). getD (n .parts .units) i nowhere) j)
+          e
+          ∙ ap (λ (o : Outcome (List Span)). found o (k - v .lead)) (list-every list ∙ made .listed)
+          ∙ ap (λ (i : ℕ). getD (n .parts .units) i nowhere) j)
           ∙ source-listed item (n .parts) k (omega arith) (omega arith)
           ∙ in-order
 
@@ -284,9 +284,9 @@ module _ (size : ℕ) (target : Option ℕ) (list item : List ℕ) (k : ℕ) whe
             let z = kept-of in
             let j : k - v .listed ≡ k - length (n .parts .units) = omega arith in
             ap ofItem (
-              e
-              ∙ ap (λ (o : Outcome (List Span)). found o (k - v .listed)) found-all
-              ∙ ap (λ (i : ℕ). getD (n .parts .kept) i nowhere) j)
+            e
+            ∙ ap (λ (o : Outcome (List Span)). found o (k - v .listed)) found-all
+            ∙ ap (λ (i : ℕ). getD (n .parts .kept) i nowhere) j)
             ∙ source-following item (n .parts) k (omega arith) (omega arith) (omega arith)
             ∙ in-order
 

@@ -1,19 +1,18 @@
 -- Laws of the units that are gathered: from the sums of list and item, in their order, and how small the sums are.
-use Prim.Native.Nat.{ℕ, zero, suc, _+_, _*_, _-_, _^_, _≤_, _<_}
+use Prim.Native.Nat.{ℕ, suc, _+_, _^_, _≤_, _<_}
 use mathlib.Core.Path.{_≡_, refl, sym, ap, _∙_}
 use mathlib.Core.Bool.{Bool, true, false}
 use mathlib.Core.Logic.{_⊎_}
-use mathlib.Core.List.{List, [], _∷_, _++_, map, map-append}
+use mathlib.Core.List.{List, [], _∷_, map}
 use mathlib.Core.Option.{Option}
 use native.Mathlib.Omega.{arith}
 use native.Mathlib.Decide.{decLe}
-use lib.Dec.{eqb, leb}
-use lib.ListN.{length, getD, take, drop, length-append, length-map, length-take, List·getD-append, List·getD-eq-default}
-use lib.Seq.{getD-append-add}
+use lib.Dec.{eqb}
+use lib.ListN.{length, drop, length-take}
 use borrow.Author.Tests.{eq-eqb, ne-eqb, le-leb, lt-leb}
 use Rattle.error.specs.Logic.{if_then_else_}
 use Rattle.error.specs.Outcome.{Outcome, accept, refuse, andThen}
-use Rattle.boxes.specs.Parts.{held, nowhere}
+use Rattle.boxes.specs.Parts.{held}
 use Rattle.boxes.specs.declared.Span.{Span}
 use Rattle.unit_list.specs.UnitList.{Array, decode, unitsOf}
 use Rattle.unit_list.specs.Answers.{listUnits}
@@ -21,18 +20,13 @@ use Rattle.unit_list.proofs.Accepted.{accepted}
 use Rattle.unit_list.proofs.Accepted as U
 use Rattle.hvcc.specs.Answers.{leftOf}
 use Rattle.hvcc.specs.Item.{splitItem}
-use Rattle.hvcc.specs.Stream.{annexB}
-use Rattle.hvcc.proofs.Items.{Sound, split-sound, split-lent, split-apart, items-size, items-left}
+use Rattle.hvcc.proofs.Items.{split-sound, split-lent, split-apart, items-size, items-left}
 use Rattle.hvcc.proofs.Spans.{apart-sum}
 use Rattle.hvcc.proofs.Spans as H
-use Rattle.full.specs.declared.VvcConfig.{VvcConfig}
-use Rattle.access_unit.specs.AccessUnit.{targetOf, keeps, leading, following, kept, Source, ofList, ofItem, arranged, notEmpty, accessUnit, heldIn, startCode, assemble}
-use Rattle.access_unit.specs.Inside.{keptLeft, lengths, itemSum, listSum, summedOf, Gathered, someGathered, gather, sizesOf, bothSums, sizesWith, inOrder, sources, bytesAt, gatheredBytes}
+use Rattle.access_unit.specs.AccessUnit.{keeps, leading, kept}
+use Rattle.access_unit.specs.Inside.{keptLeft, lengths, itemSum, listSum, Gathered, someGathered, gather, sizesOf, bothSums, sizesWith}
 use Rattle.access_unit.specs.declared.sizes.UnitSum.{UnitSum}
 use Rattle.access_unit.specs.declared.sizes.Sizes.{Sizes}
-use Rattle.access_unit.proofs.KeptUnits.{leads-and-follows, kept-leading, kept-following}
-use Rattle.access_unit.proofs.Sums.{lengths-append}
-use Rattle.access_unit.proofs.Streams.{stream-length, stream-append}
 
 -- ### how small the sums are
 

@@ -6,3 +6,4 @@ pub mod Streams
 pub mod Gathering
 pub mod Order
 pub mod Answering
+pub mod OneUnit

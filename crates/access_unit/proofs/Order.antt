@@ -7,7 +7,7 @@ use mathlib.Core.Option.{Option}
 use native.Mathlib.Omega.{arith}
 use native.Mathlib.Decide.{decLe}
 use lib.Dec.{eqb}
-use lib.ListN.{length, getD, take, drop, length-append, length-map, List·getD-append, List·getD-eq-default}
+use lib.ListN.{length, getD, length-append, length-map, List·getD-append, List·getD-eq-default}
 use lib.Seq.{getD-append-add}
 use borrow.Author.Tests.{eq-eqb, ne-eqb, le-leb, lt-leb}
 use Rattle.error.specs.Logic.{if_then_else_}
@@ -19,7 +19,7 @@ use Rattle.hvcc.specs.Item.{splitItem}
 use Rattle.hvcc.specs.Stream.{annexB}
 use Rattle.full.specs.declared.VvcConfig.{VvcConfig}
 use Rattle.access_unit.specs.AccessUnit.{targetOf, leading, following, kept, Source, ofList, ofItem, arranged, notEmpty, accessUnit, heldIn, startCode, assemble}
-use Rattle.access_unit.specs.Inside.{lengths, Gathered, someGathered, gather, sizesOf, inOrder, sources, bytesAt, gatheredBytes}
+use Rattle.access_unit.specs.Inside.{lengths, Gathered, someGathered, gather, inOrder, sources, bytesAt, gatheredBytes}
 use Rattle.access_unit.proofs.KeptUnits.{leads-and-follows, kept-leading, kept-following}
 use Rattle.access_unit.proofs.Sums.{lengths-append}
 use Rattle.access_unit.proofs.Streams.{stream-length, stream-append}
@@ -89,11 +89,11 @@ assemble-gathered h list item tols =
 -- ### the stream
 
 module _ (list item : List ℕ) where
-  held-list : (us : List Span) → map (heldIn list item) (map ofList us) ≡ map (held list) us
+  pub held-list : (us : List Span) → map (heldIn list item) (map ofList us) ≡ map (held list) us
   held-list [] = refl
   held-list (a ∷ us) = ap (λ (l : List (List ℕ)). held list a ∷ l) (held-list us)
 
-  held-item : (us : List Span) → map (heldIn list item) (map ofItem us) ≡ map (held item) us
+  pub held-item : (us : List Span) → map (heldIn list item) (map ofItem us) ≡ map (held item) us
   held-item [] = refl
   held-item (a ∷ us) = ap (λ (l : List (List ℕ)). held item a ∷ l) (held-item us)
 
@@ -154,9 +154,9 @@ module _ (item : List ℕ) (g : Gathered) (k : ℕ) where
       let e : getD (g .kept) k nowhere ≡ getD (leading item (g .kept)) k nowhere =
       ap (λ (us : List Span). getD us k nowhere) (sym (leads-and-follows item (g .kept))) ∙ List·getD-append (leading item (g .kept)) (following item (g .kept)) nowhere k h in
       sym (
-        List·getD-append (map ofItem (leading item (g .kept))) (map ofList (g .units) ++ map ofItem (following item (g .kept))) (ofList nowhere) k (omega arith)
-        ∙ getD-mapped ofItem (leading item (g .kept)) k (ofList nowhere) h
-        ∙ ap ofItem (sym e))
+      List·getD-append (map ofItem (leading item (g .kept))) (map ofList (g .units) ++ map ofItem (following item (g .kept))) (ofList nowhere) k (omega arith)
+      ∙ getD-mapped ofItem (leading item (g .kept)) k (ofList nowhere) h
+      ∙ ap ofItem (sym e))
 
   module _ (behind : length (leading item (g .kept)) ≤ k) where
     past-leading : getD (inOrder item g) k (ofList nowhere)
@@ -173,9 +173,9 @@ module _ (item : List ℕ) (g : Gathered) (k : ℕ) where
     source-listed h =
         let l = length-map (g .units) ofList in
         sym (
-          past-leading
-          ∙ List·getD-append (map ofList (g .units)) (map ofItem (following item (g .kept))) (ofList nowhere) (k - length (leading item (g .kept))) (omega arith)
-          ∙ getD-mapped ofList (g .units) (k - length (leading item (g .kept))) (ofList nowhere) h)
+        past-leading
+        ∙ List·getD-append (map ofList (g .units)) (map ofItem (following item (g .kept))) (ofList nowhere) (k - length (leading item (g .kept))) (omega arith)
+        ∙ getD-mapped ofList (g .units) (k - length (leading item (g .kept))) (ofList nowhere) h)
 
     pub source-following : length (g .units) ≤ k - length (leading item (g .kept)) → k - length (g .units) < length (g .kept)
         → ofItem (getD (g .kept) (k - length (g .units)) nowhere) ≡ getD (inOrder item g) k (ofList nowhere)
@@ -192,11 +192,11 @@ module _ (item : List ℕ) (g : Gathered) (k : ℕ) where
         ∙ ap (λ (i : ℕ). getD (leading item (g .kept) ++ following item (g .kept)) i nowhere) f
         ∙ getD-append-add (leading item (g .kept)) (following item (g .kept)) j nowhere in
         sym (
-          past-leading
-          ∙ ap (λ (i : ℕ). getD (map ofList (g .units) ++ map ofItem (following item (g .kept))) i (ofList nowhere)) e
-          ∙ getD-append-add (map ofList (g .units)) (map ofItem (following item (g .kept))) j (ofList nowhere)
-          ∙ getD-mapped ofItem (following item (g .kept)) j (ofList nowhere) (omega arith)
-          ∙ ap ofItem (sym a))
+        past-leading
+        ∙ ap (λ (i : ℕ). getD (map ofList (g .units) ++ map ofItem (following item (g .kept))) i (ofList nowhere)) e
+        ∙ getD-append-add (map ofList (g .units)) (map ofItem (following item (g .kept))) j (ofList nowhere)
+        ∙ getD-mapped ofItem (following item (g .kept)) j (ofList nowhere) (omega arith)
+        ∙ ap ofItem (sym a))
 
     pub source-past : length (g .units) ≤ k - length (leading item (g .kept)) → length (g .kept) ≤ k - length (g .units)
         → ofList nowhere ≡ getD (inOrder item g) k (ofList nowhere)

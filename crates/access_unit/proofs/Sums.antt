@@ -1,13 +1,12 @@
 -- Laws of the sums of a walk: one unit more, and how small they are.
-use Prim.Native.Nat.{ℕ, suc, _+_, _*_, _^_, _≤_, _<_}
+use Prim.Native.Nat.{ℕ, suc, _+_, _^_, _≤_, _<_}
 use mathlib.Core.Path.{_≡_, refl, sym, ap, _∙_}
 use mathlib.Core.Bool.{Bool, true, false, _&&_}
 use mathlib.Core.List.{List, [], _∷_, _++_, map, map-append, append-assoc, append-nil}
-use mathlib.Core.Option.{Option}
 use native.Mathlib.Omega.{arith}
 use native.Mathlib.Decide.{decLe}
 use lib.Dec.{eqb}
-use lib.ListN.{length, length-append, length-take, length-drop}
+use lib.ListN.{length, length-append}
 use borrow.Author.Tests.{eq-eqb, ne-eqb}
 use Rattle.error.specs.Logic.{if_then_else_}
 use Rattle.error.specs.Outcome.{Outcome, accept, refuse, andThen}
@@ -15,7 +14,7 @@ use Rattle.boxes.specs.Parts.{held}
 use Rattle.boxes.specs.Walk.{more}
 use Rattle.boxes.specs.declared.Span.{Span}
 use Rattle.unit_list.proofs.Accepted.{held-long}
-use Rattle.access_unit.specs.AccessUnit.{keeps, mayLead, leading, kept}
+use Rattle.access_unit.specs.AccessUnit.{mayLead, leading}
 use Rattle.access_unit.specs.Inside.{lengths, adding, itemSum, listSum}
 use Rattle.access_unit.specs.declared.sizes.UnitSum.{UnitSum}
 

@@ -1,14 +1,14 @@
 -- Laws of the target, of the units that it drops, and of those that may lead, by cases as the code tests them.
 use Prim.Native.Nat.{ℕ, _^_, _≤_}
 use mathlib.Core.Path.{_≡_, refl, sym, ap, _∙_}
-use mathlib.Core.Bool.{Bool, true, false}
+use mathlib.Core.Bool.{true, false}
 use mathlib.Core.List.{List}
 use mathlib.Core.Option.{Option, none, some}
 use native.Mathlib.Omega.{arith}
 use lib.Dec.{eqb}
 use lib.ListN.{length}
-use borrow.Author.Tests.{eq-eqb, ne-eqb}
-use Rattle.error.specs.Outcome.{Outcome, accept, refuse}
+use borrow.Author.Tests.{ne-eqb}
+use Rattle.error.specs.Outcome.{accept, refuse}
 use Rattle.error.specs.Refusals.{numberOf}
 use Rattle.error.specs.declared.Refusal.{Refusal}
 use Rattle.boxes.proofs.Lent.{lent-within}

@@ -9,7 +9,7 @@ use lib.ListN.{length, take, drop}
 use lib.Seq.{sets}
 use Rattle.error.specs.Logic.{if_then_else_}
 use Rattle.error.specs.Outcome.{Outcome, accept, refuse, andThen, lentInput}
-use Rattle.error.specs.Steps.{_>>=_, _>>_}
+use Rattle.error.specs.Steps.{_>>=_}
 use Rattle.error.specs.Refusals.{numberOf}
 use Rattle.boxes.specs.Parts.{held}
 use Rattle.boxes.specs.Walk.{more}
@@ -76,6 +76,7 @@ itemSum item ks = record { count = length ks; lead = length (leading item ks); l
 abbrev pub listSum : List ℕ → List Span → UnitSum
 listSum list us = record { count = length us; lead = 0; lengths = lengths (map (held list) us) }
 
+-- the answer of a sum
 abbrev pub summedOf : Summed → Outcome UnitSum
 summedOf (S.Sum v) = accept v
 summedOf (S.Refused e) = refuse (numberOf e)
@@ -96,10 +97,14 @@ gather size target list item = lentInput item do
   split ← splitItem size item
   someGathered (record { units = units; kept = kept item target split })
 
+-- how many units it has of each, how many of the kept ones lead, and the bytes that all hold
 abbrev pub sizesOf : List ℕ → List ℕ → Gathered → Sizes
 sizesOf list item g = record {
-    listed = length (g .units); kept = length (g .kept); lead = length (leading item (g .kept));
-    lengths = lengths (map (held list) (g .units)) + lengths (map (held item) (g .kept)) }
+  listed = length (g .units);
+  kept = length (g .kept);
+  lead = length (leading item (g .kept));
+  lengths = lengths (map (held list) (g .units)) + lengths (map (held item) (g .kept));
+}
 
 -- the same from the sums of list and item
 abbrev pub bothSums : UnitSum → UnitSum → Outcome Sizes
@@ -107,9 +112,11 @@ bothSums v w =
     if eqb (v .count + w .count) 0 then refuse 19
     else accept (record { listed = v .count; kept = w .count; lead = w .lead; lengths = v .lengths + w .lengths })
 
+-- the sizes where the list's sum is v: 4, then in byte order 1 and 5, 19
 abbrev pub sizesWith : ℕ → Option ℕ → List ℕ → UnitSum → Outcome Sizes
 sizesWith size target item v = andThen (splitItem size item) (λ split. bothSums v (itemSum item (kept item target split)))
 
+-- the answer of measuring
 abbrev pub measuredOf : Measured → Outcome Sizes
 measuredOf (M.Sized v) = accept v
 measuredOf (M.Refused e) = refuse (numberOf e)
@@ -120,9 +127,11 @@ measuredOf (M.Refused e) = refuse (numberOf e)
 unfoldable pub inOrder : List ℕ → Gathered → List Source
 inOrder item g = map ofItem (leading item (g .kept)) ++ (map ofList (g .units) ++ map ofItem (following item (g .kept)))
 
+-- the units of an access unit: 23, 21, 4, then in byte order 1 and 5, 19
 abbrev pub sources : ℕ → Option ℕ → List ℕ → List ℕ → Outcome (List Source)
 sources size target list item = andThen (gather size target list item) (λ g. accept (inOrder item g))
 
+-- the unit at a place
 abbrev pub sourceOf : UnitPlace → Source
 sourceOf (U.OfList a) = ofList a
 sourceOf (U.OfItem a) = ofItem a

@@ -25,7 +25,13 @@ pub enum Target {
 }
 
 // The access unit as a stream, each unit behind a start code. Refusals: 23, 21, 4, then in byte order 1 and 5, 19, 20.
-pub fn access_unit_annex_b(head: VvcConfig, list: &[u8], item: &[u8], tols: Target, out: &mut [u8]) -> Written
+pub fn access_unit_annex_b(
+    head: VvcConfig,
+    list: &[u8],
+    item: &[u8],
+    tols: Target,
+    out: &mut [u8],
+) -> Written
     ensures { λ r. ⌜ (writtenOf r, now (out .exit)) ≡ lentOutput (counted (assemble head (now (list .entry)) (now (item .entry)) (tolsOf tols))) (now (out .entry)) ⌝ }
 {
     let target = kept::target_of(head, tols);
@@ -60,7 +66,13 @@ pub fn access_unit_count(head: VvcConfig, list: &[u8], item: &[u8], tols: Target
 }
 
 // Unit k of the access unit, from 0 on, a part of the list or of the item; the list's empty part past the last and on a refusal.
-pub fn access_unit_nal<'a>(head: VvcConfig, list: &'a [u8], item: &'a [u8], tols: Target, k: usize) -> &'a [u8]
+pub fn access_unit_nal<'a>(
+    head: VvcConfig,
+    list: &'a [u8],
+    item: &'a [u8],
+    tols: Target,
+    k: usize,
+) -> &'a [u8]
     ensures { λ r. ⌜ PartOfEither r (list .entry) (item .entry) (sourceAt (accessUnit head (now (list .entry)) (now (item .entry)) (tolsOf tols)) k) ⌝ }
 {
     let target = kept::target_of(head, tols);

@@ -38,6 +38,7 @@ pub struct Sizes {
     pub lengths: usize,
 }
 
+// An access unit that was measured, or the refusal.
 pub enum Measured {
     Sized(Sizes),
     Refused(Refusal),

@@ -50,7 +50,15 @@ fn put_unit(src: &[u8], a: Span, out: &mut [u8], at: usize) -> usize
 }
 
 // Stores the first `n` of the kept units from a place of the item on.
-fn put_kept(item: &[u8], size: usize, target: Target, from: usize, n: usize, out: &mut [u8], to: usize) -> Places
+fn put_kept(
+    item: &[u8],
+    size: usize,
+    target: Target,
+    from: usize,
+    n: usize,
+    out: &mut [u8],
+    to: usize,
+) -> Places
     requires { ⌜ PutsFirst size (tolsOf target) (now item) from n (now out) to ⌝ }
     ensures { λ r. ⌜ FirstPut size (tolsOf target) (now (item .entry)) from n (now (out .entry)) to r (now (out .exit)) ⌝ }
 {
@@ -86,7 +94,14 @@ fn put_units(list: &[u8], c: ListCursor, out: &mut [u8], to: usize) -> usize
 }
 
 // Stores the stream of an access unit that was measured: the kept units of the item that lead, the list's units, the rest.
-pub fn put_stream(list: &[u8], item: &[u8], length_size: u8, target: Target, sizes: Sizes, out: &mut [u8])
+pub fn put_stream(
+    list: &[u8],
+    item: &[u8],
+    length_size: u8,
+    target: Target,
+    sizes: Sizes,
+    out: &mut [u8],
+)
     requires { ⌜ PutsStream «length_size» (tolsOf target) (now list) (now item) sizes (now out) ⌝ }
     ensures { λ _. ⌜ now (out .exit) ≡ sets (now (out .entry)) 0 (gatheredBytes (now (list .entry)) (now (item .entry)) (gather «length_size» (tolsOf target) (now (list .entry)) (now (item .entry)))) ⌝ }
 {

@@ -1,7 +1,5 @@
 -- `access_unit_annex_b` stores the stream of the access unit, or gives the refusal that comes first.
-use Prim.Native.Nat.{_+_, _*_}
 use mathlib.Core.Path.{_≡_, sym, ap, _∙_}
-use lib.ListN.{length}
 use lib.Seq.{sets}
 use Rattle.access_unit.specs.AccessUnit.{assemble}
 use Rattle.access_unit.specs.Answers.{tolsOf}

@@ -1,5 +1,5 @@
 -- `access_unit_nal` is the part of the list or of the item where unit k of the access unit lies.
-use mathlib.Core.Path.{_≡_, sym, ap, _∙_, subst}
+use mathlib.Core.Path.{sym, ap, _∙_, subst}
 use mathlib.Core.List.{List}
 use Rattle.error.specs.Outcome.{Outcome}
 use Rattle.access_unit.specs.AccessUnit.{Source}
@@ -7,7 +7,6 @@ use Rattle.access_unit.specs.Answers.{tolsOf, sourceAt, PartOfEither}
 use Rattle.access_unit.specs.Inside.{sourceOf, SourceFits}
 use Rattle.access_unit.proofs.Answering.{access-unit-is}
 use borrow.Author.Needs.{needs}
-use native.Mathlib.Omega.{arith}
 use Rattle.access_unit.proofs.access_unit_nal.Statement.{statement}
 use Rattle.access_unit.proofs.access_unit_nal.Tie as tie
 

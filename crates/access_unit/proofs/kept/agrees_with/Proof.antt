@@ -1,11 +1,10 @@
 -- `kept::agrees_with` compares an operating point with the target, where there is one.
-use mathlib.Core.Path.{_≡_, sym, ap}
+use mathlib.Core.Path.{sym, ap}
 use mathlib.Core.Option.{some}
 use Rattle.access_unit.specs.AccessUnit.{agrees}
 use Rattle.access_unit.specs.Answers.{tolsOf}
 use Rattle.access_unit.specs.declared.Target.{Target}
 use borrow.Author.Needs.{needs}
-use native.Mathlib.Omega.{arith}
 use Rattle.access_unit.proofs.kept.agrees_with.Statement.{statement}
 use Rattle.access_unit.proofs.kept.agrees_with.Tie as tie
 

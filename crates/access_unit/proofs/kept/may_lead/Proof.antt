@@ -1,7 +1,6 @@
 -- `kept::may_lead` tells an AUD or OPI unit.
 use Rattle.access_unit.proofs.Targets.{leads-aud, leads-opi}
 use borrow.Author.Needs.{needs}
-use native.Mathlib.Omega.{arith}
 use Rattle.access_unit.proofs.kept.may_lead.Statement.{statement}
 use Rattle.access_unit.proofs.kept.may_lead.Tie as tie
 

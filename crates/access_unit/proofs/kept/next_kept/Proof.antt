@@ -56,8 +56,7 @@ returns-2 c =
     let u = c .before .before .before in
     let f = unit-at u in
     let l = u .before .before .before .before .loop in
-    let a = u .before .before .before .before .before .before .args in
-    (
+    let a = u .before .before .before .before .before .before .args in (
       sym (over-kept _ _ _ _ _ _ (f .rest) (ap (keeps _) (sym (c .before .before .part .ensures .holds)) ∙ sym (c .before .is-kept .ensures) ∙ c .if1 .taken)) ∙ l .inv .2,
       onward-earlier (a .item .now) (a .from) (l .at) (l .inv .0) (Unit (u .before .step .given .0 .0) (u .before .step .given .0 .1 .0)) (f .here),
     )
@@ -68,8 +67,7 @@ loop-less c = let f = unit-at (c .before .before .before) in omega arith
 loop-again : tie.Need-loop-again Inv-loop μ-loop
 loop-again c =
     let u = c .before .before .before in
-    let f = unit-at u in
-    (
+    let f = unit-at u in (
       omega arith,
       omega arith,
       sym (over-dropped _ _ _ _ _ _ (f .rest) (ap (keeps _) (sym (c .before .before .part .ensures .holds)) ∙ sym (c .before .is-kept .ensures) ∙ c .if1 .left)) ∙ u .before .before .before .before .loop .inv .2,

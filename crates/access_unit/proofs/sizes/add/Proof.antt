@@ -3,7 +3,6 @@ use mathlib.Core.Logic.{⊎-elim}
 use Rattle.access_unit.proofs.Sums.{add-leads, add-last, add-behind}
 use borrow.Author.Needs.{needs}
 use borrow.Author.Tests.{eqb-true, eqb-false}
-use native.Mathlib.Omega.{arith}
 use Rattle.access_unit.proofs.sizes.add.Statement.{statement}
 use Rattle.access_unit.proofs.sizes.add.Tie as tie
 

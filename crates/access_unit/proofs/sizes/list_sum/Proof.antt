@@ -1,12 +1,11 @@
 -- `sizes::list_sum` sums the units of a list.
-use mathlib.Core.Path.{_≡_, ap, _∙_}
+use mathlib.Core.Path.{ap, _∙_}
 use mathlib.Core.List.{List}
 use Rattle.error.specs.Outcome.{Outcome, accept, andThen}
 use Rattle.boxes.specs.declared.Span.{Span}
 use Rattle.access_unit.specs.Inside.{listSum}
 use Rattle.access_unit.proofs.ListWalks.{start-fits, start-units, start-refused}
 use borrow.Author.Needs.{needs}
-use native.Mathlib.Omega.{arith}
 use Rattle.access_unit.proofs.sizes.list_sum.Statement.{statement}
 use Rattle.access_unit.proofs.sizes.list_sum.Tie as tie
 

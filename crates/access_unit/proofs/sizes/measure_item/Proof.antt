@@ -1,5 +1,5 @@
 -- `sizes::measure_item` measures an access unit whose list is measured, or gives the refusal that comes first.
-use Prim.Native.Nat.{_+_, _≤_, _<_, _^_}
+use Prim.Native.Nat.{_+_, _≤_, _^_}
 use mathlib.Core.Path.{_≡_, sym, ap, _∙_}
 use mathlib.Core.Logic.{⊎-elim, inl, inr}
 use borrow.Author.Tests.{ltb-true, ltb-false}
@@ -8,7 +8,7 @@ use Rattle.access_unit.specs.Answers.{tolsOf}
 use Rattle.access_unit.specs.Inside.{keptLeft, itemSum, summedOf, bothSums, sizesWith}
 use Rattle.access_unit.specs.declared.sizes.UnitSum.{UnitSum}
 use Rattle.access_unit.specs.declared.sizes.Summed.{Summed}
-use Rattle.access_unit.specs.declared.sizes.Summed.the-variants.{Sum, Refused}
+use Rattle.access_unit.specs.declared.sizes.Summed.the-variants.{Sum}
 use Rattle.access_unit.proofs.Gathering.{sizes-size, sizes-left, item-sum-few, sums-none, sums-some}
 use borrow.Author.Needs.{needs}
 use native.Mathlib.Omega.{arith}

@@ -14,7 +14,7 @@ use Rattle.access_unit.proofs.source.kept_unit.Statement.{statement}
 use Rattle.access_unit.proofs.source.kept_unit.Tie as tie
 
 abbrev Inv-walk : tie.InvT-walk
-Inv-walk item size target k at₀ skip₀ at skip = 
+Inv-walk item size target k at₀ skip₀ at skip =
     (at ≤ length item) × (skip < total (keptLeft size (tolsOf target) item at))
     × (found (keptLeft size (tolsOf target) item at) skip ≡ found (keptLeft size (tolsOf target) item 0) k)
 

@@ -1,5 +1,5 @@
 -- `stream::put_kept` stores the first kept units from a place of the item on. The loop's invariant: what is stored and what is left of them make the whole.
-use Prim.Native.Nat.{_+_, _-_, _≤_}
+use Prim.Native.Nat.{_+_, _≤_}
 use lib.ListN.{length}
 use lib.Seq.{sets}
 use Rattle.access_unit.specs.Answers.{tolsOf}
@@ -12,7 +12,7 @@ use Rattle.access_unit.proofs.stream.put_kept.Statement.{statement}
 use Rattle.access_unit.proofs.stream.put_kept.Tie as tie
 
 abbrev Inv-loop : tie.InvT-loop
-Inv-loop item size target from n out₀ to at₀ end₀ left₀ out at end left = 
+Inv-loop item size target from n out₀ to at₀ end₀ left₀ out at end left =
     (at ≤ length item)
     × FirstLeft item (length out₀) (to + length (foundBytes item (firstOf n (keptLeft size (tolsOf target) item from))))
     (sets out₀ to (foundBytes item (firstOf n (keptLeft size (tolsOf target) item from)))) (restOf n (keptLeft size (tolsOf target) item from)) (keptLeft size (tolsOf target) item at) left out end

@@ -1,5 +1,4 @@
 -- `stream::put_stream` stores the stream of an access unit: what leads, the list's units, the rest.
-use mathlib.Core.Path.{_≡_}
 use Rattle.access_unit.specs.Answers.{tolsOf}
 use Rattle.access_unit.proofs.ListWalks.{start-fits, start-units, start-refused}
 use Rattle.access_unit.proofs.Answering.{puts-listable, lead-le, puts-leading, puts-listed, puts-following, put-whole}

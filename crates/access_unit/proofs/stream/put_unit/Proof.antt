@@ -1,6 +1,5 @@
 -- `stream::put_unit` stores a start code and a unit behind it.
-use Prim.Native.Nat.{_+_}
-use mathlib.Core.Path.{_≡_, ap, _∙_}
+use mathlib.Core.Path.{ap, _∙_}
 use Rattle.boxes.specs.Parts.{held}
 use lib.ListN.{length}
 use Rattle.unit_list.proofs.Accepted.{held-long}

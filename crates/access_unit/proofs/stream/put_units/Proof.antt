@@ -12,7 +12,7 @@ use Rattle.access_unit.proofs.stream.put_units.Statement.{statement}
 use Rattle.access_unit.proofs.stream.put_units.Tie as tie
 
 abbrev Inv-loop : tie.InvT-loop
-Inv-loop list out₀ to here₀ end₀ out here end = 
+Inv-loop list out₀ to here₀ end₀ out here end =
     Fits list here
     × Remaining list (length out₀) (to + length (foundBytes list (unitsLeft list here₀))) (sets out₀ to (foundBytes list (unitsLeft list here₀))) (unitsLeft list here) out end
 

@@ -22,7 +22,6 @@ Parser A = List ℕ → ℕ → Parsed A
 
 infixl 20 _>>=_
 infixl 20 _>>_
-
 abbrev pub _>>=_ : {A B : Type 0} → Parser A → (A → Parser B) → Parser B
 _>>=_ P f s p = bind (P s p) (λ a q. f a s q)
 

@@ -5,7 +5,6 @@ use Rattle.error.specs.Outcome.{Outcome, accept, refuse, andThen}
 
 infixl 20 _>>=_
 infixl 20 _>>_
-
 abbrev pub _>>=_ : {A B : Type 0} → Outcome A → (A → Outcome B) → Outcome B
 _>>=_ o f = andThen o f
 

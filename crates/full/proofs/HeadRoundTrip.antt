@@ -54,15 +54,24 @@ small h e =
       rate = leb-true _ _ (c .0);
       chroma = leb-true _ _ (d .0);
       depth = leb-true _ _ (f .0);
-      ptl = f .1 }
+      ptl = f .1;
+    }
 
 -- the head with the PTL that is read back
 abbrev pub withPtl : VvcConfig → VvcPtlRecord → VvcConfig
 withPtl h q = record {
-    «length_size» = h .«length_size»; «ptl_present_flag» = true; «ols_idx» = h .«ols_idx»; «num_sublayers» = h .«num_sublayers»;
-    «constant_frame_rate» = h .«constant_frame_rate»; «chroma_format_idc» = h .«chroma_format_idc»;
-    «bit_depth_minus8» = h .«bit_depth_minus8»; «native_ptl» = q;
-    «max_picture_width» = h .«max_picture_width»; «max_picture_height» = h .«max_picture_height»; «avg_frame_rate» = h .«avg_frame_rate» }
+  «length_size» = h .«length_size»;
+  «ptl_present_flag» = true;
+  «ols_idx» = h .«ols_idx»;
+  «num_sublayers» = h .«num_sublayers»;
+  «constant_frame_rate» = h .«constant_frame_rate»;
+  «chroma_format_idc» = h .«chroma_format_idc»;
+  «bit_depth_minus8» = h .«bit_depth_minus8»;
+  «native_ptl» = q;
+  «max_picture_width» = h .«max_picture_width»;
+  «max_picture_height» = h .«max_picture_height»;
+  «avg_frame_rate» = h .«avg_frame_rate»;
+}
 
 -- the first two fields as one number
 abbrev word : VvcConfig → ℕ
@@ -144,11 +153,19 @@ module _ (h : VvcConfig) (q : VvcPtlRecord) (sm : Small h) (wide : Wide h) (read
       rw (number-there 2 s pre ((h .«bit_depth_minus8» * 32 + 31) ∷ (ptlOf ++ dims)) (word h) p whole l word-small)
       (rw (byte-there s (pre ++ toBe 2 (word h)) (ptlOf ++ dims) (h .«bit_depth_minus8» * 32 + 31) (p + 2) e1 l1)
       (let z : p + 2 + 1 ≡ p + 3 = omega arith in
-      rw (z, subl, ptl-there,
+      rw (
+        z,
+        subl,
+        ptl-there,
         number-there 2 s pre3 (toBe 2 (h .«max_picture_height») ++ (toBe 2 (h .«avg_frame_rate») ++ post)) (h .«max_picture_width») (p + 3 + length ptlOf) e3 l3 (wide .width),
         number-there 2 s pre4 (toBe 2 (h .«avg_frame_rate») ++ post) (h .«max_picture_height») (p + 3 + length ptlOf + 2) e4 l4 (wide .height),
         number-there 2 s (pre4 ++ toBe 2 (h .«max_picture_height»)) post (h .«avg_frame_rate») (p + 3 + length ptlOf + 2 + 2) e5 l5 (wide .rate),
-        ols, cfr, chroma, depth, end)))
+        ols,
+        cfr,
+        chroma,
+        depth,
+        end,
+      )))
 
 -- what is read of a head that was written: without the flag the fields under it are 0
 abbrev pub readBack : Bool → VvcConfig → VvcPtlRecord → VvcConfig

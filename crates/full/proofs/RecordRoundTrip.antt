@@ -46,9 +46,13 @@ module _ (h : VvcConfig) (q : VvcPtlRecord) (xs : List (Array (List ℕ))) (w : 
   unfolding vvcRecord
   record-read =
       let c : 0 + length (headBytes h) ≡ length (headBytes h) = omega arith in
-      rw (head-read h q w s [] (length xs ∷ arraysBytes xs) 0 from-head refl, c,
+      rw (
+        head-read h q w s [] (length xs ∷ arraysBytes xs) 0 from-head refl,
+        c,
         byte-there s (headBytes h) (arraysBytes xs) (length xs) (length (headBytes h)) from-head refl,
-        arrays-read s sound (headBytes h ++ (length xs ∷ [])) [] (length (headBytes h) + 1) from-arrays before (arrays-fit .1), sym length-record)
+        arrays-read s sound (headBytes h ++ (length xs ∷ [])) [] (length (headBytes h) + 1) from-arrays before (arrays-fit .1),
+        sym length-record,
+      )
 
   pub read-written : length s ≤ 2 ^ 30
       → parseFull s ≡ accept (record { head = readBack (h .«ptl_present_flag») h q; consumed = length s; listLength = length (encode xs) }, encode xs)

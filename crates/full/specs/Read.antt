@@ -18,9 +18,18 @@ use Rattle.full.specs.declared.VvcConfig.{VvcConfig}
 -- a head without the PTL flag: "the head fields under it are 0"
 abbrev pub plainHead : ℕ → VvcConfig
 plainHead size = record {
-    «length_size» = size; «ptl_present_flag» = false; «ols_idx» = 0; «num_sublayers» = 0; «constant_frame_rate» = 0;
-    «chroma_format_idc» = 0; «bit_depth_minus8» = 0; «native_ptl» = zeroPtl;
-    «max_picture_width» = 0; «max_picture_height» = 0; «avg_frame_rate» = 0 }
+  «length_size» = size;
+  «ptl_present_flag» = false;
+  «ols_idx» = 0;
+  «num_sublayers» = 0;
+  «constant_frame_rate» = 0;
+  «chroma_format_idc» = 0;
+  «bit_depth_minus8» = 0;
+  «native_ptl» = zeroPtl;
+  «max_picture_width» = 0;
+  «max_picture_height» = 0;
+  «avg_frame_rate» = 0;
+}
 
 -- the head on a refusal
 abbrev pub zeroHead : VvcConfig
@@ -29,21 +38,30 @@ zeroHead = plainHead 0
 -- what ptl_present_flag announces
 unfoldable pub headWithPtl : ℕ → Parser VvcConfig
 headWithPtl size = do
-  w ← uint 2                                     -- ols_idx 9, num_sublayers 3, constant_frame_rate 2, chroma_format_idc 2
-  d ← uint 1                                     -- bit_depth_minus8 3, reserved 5
-  ptl ← vvcPtlRecord (w / 16 % 8)                -- native_ptl
-  width ← uint 2                                 -- max_picture_width
-  height ← uint 2                                -- max_picture_height
-  rate ← uint 2                                  -- avg_frame_rate
+  w ← uint 2  -- ols_idx 9, num_sublayers 3, constant_frame_rate 2, chroma_format_idc 2
+  d ← uint 1  -- bit_depth_minus8 3, reserved 5
+  ptl ← vvcPtlRecord (w / 16 % 8)  -- native_ptl
+  width ← uint 2  -- max_picture_width
+  height ← uint 2  -- max_picture_height
+  rate ← uint 2  -- avg_frame_rate
   give (record {
-    «length_size» = size; «ptl_present_flag» = true; «ols_idx» = w / 128; «num_sublayers» = w / 16 % 8;
-    «constant_frame_rate» = w / 4 % 4; «chroma_format_idc» = w % 4; «bit_depth_minus8» = d / 32; «native_ptl» = ptl;
-    «max_picture_width» = width; «max_picture_height» = height; «avg_frame_rate» = rate })
+    «length_size» = size;
+    «ptl_present_flag» = true;
+    «ols_idx» = w / 128;
+    «num_sublayers» = w / 16 % 8;
+    «constant_frame_rate» = w / 4 % 4;
+    «chroma_format_idc» = w % 4;
+    «bit_depth_minus8» = d / 32;
+    «native_ptl» = ptl;
+    «max_picture_width» = width;
+    «max_picture_height» = height;
+    «avg_frame_rate» = rate;
+  })
 
 unfoldable pub vvcHead : Parser VvcConfig
 vvcHead = do
-  b ← uint 1                                     -- reserved 5, LengthSizeMinusOne 2, ptl_present_flag 1
-  refuseIf (eqb (b / 2 % 4) 2) 3                 -- size 3
+  b ← uint 1  -- reserved 5, LengthSizeMinusOne 2, ptl_present_flag 1
+  refuseIf (eqb (b / 2 % 4) 2) 3  -- size 3
   if isSet (b % 2) then headWithPtl (b / 2 % 4 + 1) else give (plainHead (b / 2 % 4 + 1))
 
 -- OPI and DCI arrays have no count: they hold one unit
@@ -53,15 +71,15 @@ holdsOne t = eqb t 12 || eqb t 13
 -- one array of the record
 unfoldable pub recordArray : Parser (Array Span)
 recordArray = do
-  b ← uint 1                                     -- array_completeness 1, reserved 2, NAL_unit_type 5
-  n ← if holdsOne (b % 32) then give 1 else uint 2   -- num_nalus
-  units ← times n (chunk 2)                      -- nal_unit_length, nal_unit
+  b ← uint 1  -- array_completeness 1, reserved 2, NAL_unit_type 5
+  n ← if holdsOne (b % 32) then give 1 else uint 2  -- num_nalus
+  units ← times n (chunk 2)  -- nal_unit_length, nal_unit
   give (record { complete = b / 128; unitType = b % 32; units = units })
 
 unfoldable pub vvcRecord : Parser (VvcConfig × List (Array Span))
 vvcRecord = do
   head ← vvcHead
-  n ← uint 1                                     -- num_of_arrays
+  n ← uint 1  -- num_of_arrays
   arrays ← times n recordArray
   give (head, arrays)
 

@@ -16,7 +16,7 @@ use Rattle.full.specs.declared.VvcConfig.{VvcConfig}
 unfoldable pub ptlPart : VvcConfig → List ℕ
 ptlPart h =
     toBe 2 (h .«ols_idx» * 128 + h .«num_sublayers» * 16 + h .«constant_frame_rate» * 4 + h .«chroma_format_idc»)
-    ++ ((h .«bit_depth_minus8» * 32 + 31) ∷ [])                                     -- bit_depth_minus8 3, 11111
+    ++ ((h .«bit_depth_minus8» * 32 + 31) ∷ [])  -- bit_depth_minus8 3, 11111
     ++ ptlBytes (h .«native_ptl») (h .«num_sublayers»)
     ++ toBe 2 (h .«max_picture_width»)
     ++ toBe 2 (h .«max_picture_height»)

@@ -27,5 +27,6 @@ croppedSize h =
     if h .«conformance_window_flag»
     then record {
       width = croppedSide (h .«pic_width») (subWidth (h .«chroma_format_idc»)) (h .«conf_win_left_offset») (h .«conf_win_right_offset»);
-      height = croppedSide (h .«pic_height») (subHeight (h .«chroma_format_idc»)) (h .«conf_win_top_offset») (h .«conf_win_bottom_offset») }
+      height = croppedSide (h .«pic_height») (subHeight (h .«chroma_format_idc»)) (h .«conf_win_top_offset») (h .«conf_win_bottom_offset»);
+    }
     else record { width = h .«pic_width»; height = h .«pic_height» }

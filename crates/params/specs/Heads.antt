@@ -36,23 +36,23 @@ noWindow = record { left = 0; right = 0; top = 0; bottom = 0 }
 -- 7.3.2.4, seq_parameter_set_rbsp( ) up to sps_bitdepth_minus8
 unfoldable pub spsHead : Parser SpsHead
 spsHead = do
-  id ← u 4                             -- sps_seq_parameter_set_id
-  vps ← u 4                            -- sps_video_parameter_set_id
-  s ← u 3                              -- sps_max_sublayers_minus1
-  chroma ← u 2                         -- sps_chroma_format_idc
-  ctu ← u 2                            -- sps_log2_ctu_size_minus5
-  hasPtl ← u 1                         -- sps_ptl_dpb_hrd_params_present_flag
+  id ← u 4  -- sps_seq_parameter_set_id
+  vps ← u 4  -- sps_video_parameter_set_id
+  s ← u 3  -- sps_max_sublayers_minus1
+  chroma ← u 2  -- sps_chroma_format_idc
+  ctu ← u 2  -- sps_log2_ctu_size_minus5
+  hasPtl ← u 1  -- sps_ptl_dpb_hrd_params_present_flag
   ptl ← if isSet hasPtl then profileTierLevel s else give zeroPtl
-  u 1                                  -- sps_gdr_enabled_flag
-  resampling ← u 1                     -- sps_ref_pic_resampling_enabled_flag
-  if isSet resampling then u 1 else give 0   -- sps_res_change_in_clvs_allowed_flag
-  width ← ue                           -- sps_pic_width_max_in_luma_samples
-  height ← ue                          -- sps_pic_height_max_in_luma_samples
-  hasWindow ← u 1                      -- sps_conformance_window_flag
+  u 1  -- sps_gdr_enabled_flag
+  resampling ← u 1  -- sps_ref_pic_resampling_enabled_flag
+  if isSet resampling then u 1 else give 0  -- sps_res_change_in_clvs_allowed_flag
+  width ← ue  -- sps_pic_width_max_in_luma_samples
+  height ← ue  -- sps_pic_height_max_in_luma_samples
+  hasWindow ← u 1  -- sps_conformance_window_flag
   win ← if isSet hasWindow then window else give noWindow
-  subpictures ← u 1                    -- sps_subpic_info_present_flag
+  subpictures ← u 1  -- sps_subpic_info_present_flag
   refuseIf (isSet subpictures) 13
-  depth ← ue                           -- sps_bitdepth_minus8
+  depth ← ue  -- sps_bitdepth_minus8
   refuseIf (ltb 8 depth) 14
   give (record {
     «sps_id» = id;
@@ -69,44 +69,46 @@ spsHead = do
     «conf_win_right_offset» = win .right;
     «conf_win_top_offset» = win .top;
     «conf_win_bottom_offset» = win .bottom;
-    «bit_depth» = depth + 8 })
+    «bit_depth» = depth + 8;
+  })
 
 abbrev pub zeroSps : SpsHead
 zeroSps = record {
-    «sps_id» = 0;
-    «vps_id» = 0;
-    «max_sublayers_minus1» = 0;
-    «chroma_format_idc» = 0;
-    «log2_ctu_size» = 0;
-    «ptl_present_flag» = false;
-    ptl = zeroPtl;
-    «pic_width» = 0;
-    «pic_height» = 0;
-    «conformance_window_flag» = false;
-    «conf_win_left_offset» = 0;
-    «conf_win_right_offset» = 0;
-    «conf_win_top_offset» = 0;
-    «conf_win_bottom_offset» = 0;
-    «bit_depth» = 0 }
+  «sps_id» = 0;
+  «vps_id» = 0;
+  «max_sublayers_minus1» = 0;
+  «chroma_format_idc» = 0;
+  «log2_ctu_size» = 0;
+  «ptl_present_flag» = false;
+  ptl = zeroPtl;
+  «pic_width» = 0;
+  «pic_height» = 0;
+  «conformance_window_flag» = false;
+  «conf_win_left_offset» = 0;
+  «conf_win_right_offset» = 0;
+  «conf_win_top_offset» = 0;
+  «conf_win_bottom_offset» = 0;
+  «bit_depth» = 0;
+}
 
 -- 7.3.2.3, video_parameter_set_rbsp( ) up to its first PTL. With one layer the fields between vps_max_sublayers_minus1 and
 -- vps_ptl_alignment_zero_bit are vps_layer_id[ 0 ] alone.
 unfoldable pub vpsPtl : Parser VvcPtlRecord
 vpsPtl = do
-  u 4                                  -- vps_video_parameter_set_id
-  layers ← u 6                         -- vps_max_layers_minus1
-  s ← u 3                              -- vps_max_sublayers_minus1
+  u 4  -- vps_video_parameter_set_id
+  layers ← u 6  -- vps_max_layers_minus1
+  s ← u 3  -- vps_max_sublayers_minus1
   refuseIf (not (eqb layers 0)) 15
-  u 6                                  -- vps_layer_id[ 0 ]
-  align                                -- vps_ptl_alignment_zero_bit
+  u 6  -- vps_layer_id[ 0 ]
+  align  -- vps_ptl_alignment_zero_bit
   profileTierLevel s
 
 -- 7.3.2.2, operating_point_information_rbsp( ) up to opi_ols_idx, which is refused where it is not there: no number is said of it
 unfoldable pub opiPoint : Parser ℕ
 opiPoint = do
-  present ← u 1                        -- opi_ols_info_present_flag
-  u 1                                  -- opi_htid_info_present_flag
-  if isSet present then ue else refusing 0   -- opi_ols_idx
+  present ← u 1  -- opi_ols_info_present_flag
+  u 1  -- opi_htid_info_present_flag
+  if isSet present then ue else refusing 0  -- opi_ols_idx
 
 -- what P reads of a unit of type t: of the RBSP of what follows its two header bytes
 abbrev pub ofUnit : {A : Type 0} → ℕ → Parser A → List ℕ → Outcome A

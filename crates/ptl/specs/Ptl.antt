@@ -34,16 +34,16 @@ withoutFlags (b ∷ r) = b % 64 ∷ r
 -- the bits that gci_present_flag announces
 unfoldable pub constraintBits : Parser (Unit {0})
 constraintBits = do
-  skip 71                              -- gci_intra_only_constraint_flag and so on
-  n ← u 8                              -- gci_num_additional_bits
+  skip 71  -- gci_intra_only_constraint_flag and so on
+  n ← u 8  -- gci_num_additional_bits
   skip n
 
 -- 7.3.3.2, general_constraints_info( )
 unfoldable pub generalConstraintsInfo : Parser (Unit {0})
 generalConstraintsInfo = do
-  present ← u 1                        -- gci_present_flag
+  present ← u 1  -- gci_present_flag
   if isSet present then constraintBits else give tt
-  align                                -- gci_alignment_zero_bit
+  align  -- gci_alignment_zero_bit
 
 -- the whole bytes from a bit position up to where reading stands: "Constraint bytes run from the frame-only bit to the alignment"
 unfoldable pub constraintBytes : ℕ → Parser (List ℕ)
@@ -52,18 +52,18 @@ constraintBytes from s p = value (withoutFlags (take (p / 8 - from / 8) (drop (f
 -- profile_tier_level( 1, s )
 unfoldable pub profileTierLevel : ℕ → Parser VvcPtlRecord
 profileTierLevel s = do
-  profile ← u 7                        -- general_profile_idc
-  tier ← u 1                           -- general_tier_flag
-  level ← u 8                          -- general_level_idc
+  profile ← u 7  -- general_profile_idc
+  tier ← u 1  -- general_tier_flag
+  level ← u 8  -- general_level_idc
   from ← here
-  frameOnly ← u 1                      -- ptl_frame_only_constraint_flag
-  multilayer ← u 1                     -- ptl_multilayer_enabled_flag
+  frameOnly ← u 1  -- ptl_frame_only_constraint_flag
+  multilayer ← u 1  -- ptl_multilayer_enabled_flag
   generalConstraintsInfo
   constraint ← constraintBytes from
-  flags ← if ltb 0 s then u 8 else give 0   -- s ptl_sublayer_level_present_flag, 8 - s ptl_reserved_zero_bit
-  sublayers ← levels (u 8) s flags     -- sublayer_level_idc
-  n ← u 8                              -- ptl_num_sub_profiles
-  subs ← times n (u 32)                -- general_sub_profile_idc
+  flags ← if ltb 0 s then u 8 else give 0  -- s ptl_sublayer_level_present_flag, 8 - s ptl_reserved_zero_bit
+  sublayers ← levels (u 8) s flags  -- sublayer_level_idc
+  n ← u 8  -- ptl_num_sub_profiles
+  subs ← times n (u 32)  -- general_sub_profile_idc
   give (record {
     «general_profile_idc» = profile;
     «general_tier_flag» = isSet tier;
@@ -76,19 +76,21 @@ profileTierLevel s = do
     «sublayer_level_present_flag» = padded 7 false (presentFlags s flags);
     «sublayer_level_idc» = padded 7 0 sublayers;
     «num_sub_profiles» = n;
-    «general_sub_profile_idc» = padded 255 0 subs })
+    «general_sub_profile_idc» = padded 255 0 subs;
+  })
 
 abbrev pub zeroPtl : VvcPtlRecord
 zeroPtl = record {
-    «general_profile_idc» = 0;
-    «general_tier_flag» = false;
-    «general_level_idc» = 0;
-    «ptl_frame_only_constraint_flag» = false;
-    «ptl_multilayer_enabled_flag» = false;
-    «num_bytes_constraint_info» = 0;
-    «general_constraint_info» = replicate 63 0;
-    «num_sublayer_levels» = 0;
-    «sublayer_level_present_flag» = replicate 7 false;
-    «sublayer_level_idc» = replicate 7 0;
-    «num_sub_profiles» = 0;
-    «general_sub_profile_idc» = replicate 255 0 }
+  «general_profile_idc» = 0;
+  «general_tier_flag» = false;
+  «general_level_idc» = 0;
+  «ptl_frame_only_constraint_flag» = false;
+  «ptl_multilayer_enabled_flag» = false;
+  «num_bytes_constraint_info» = 0;
+  «general_constraint_info» = replicate 63 0;
+  «num_sublayer_levels» = 0;
+  «sublayer_level_present_flag» = replicate 7 false;
+  «sublayer_level_idc» = replicate 7 0;
+  «num_sub_profiles» = 0;
+  «general_sub_profile_idc» = replicate 255 0;
+}

@@ -105,10 +105,11 @@ module _ (c : CompactVvcConfig) (pic : Picture) (ptl : VvcPtlRecord) (us : List 
 
   writable : Writable head (asWritten ptl 1)
   writable = record {
-      fits = head-fits;
-      size = k .size;
-      wide = record { width = omega arith; height = omega arith; rate = omega arith };
-      reads = λ _ pre post. P.round-trip ptl (k .ptl-ok) 1 (omega arith) pre post }
+    fits = head-fits;
+    size = k .size;
+    wide = record { width = omega arith; height = omega arith; rate = omega arith };
+    reads = λ _ pre post. P.round-trip ptl (k .ptl-ok) 1 (omega arith) pre post;
+  }
 
   ptl-long : length (ptlBytes ptl 1) ≤ 2000
   ptl-long =
@@ -142,8 +143,15 @@ module _ (c : CompactVvcConfig) (pic : Picture) (ptl : VvcPtlRecord) (us : List 
   unfolding fullBytes
   record-long =
       let n = k .few in
-      omega (arith, length-append (headBytes head ++ (length (grouped us) ∷ [])) (arraysBytes (grouped us)), length-append (headBytes head) (length (grouped us) ∷ []), head-long,
-        arrays-long (grouped us) (every-grouped us (k .units) (λ u. length u ≤ 255) (k .units .short)), grouped-few us (k .units), grouped-count us (k .units))
+      omega (
+        arith,
+        length-append (headBytes head ++ (length (grouped us) ∷ [])) (arraysBytes (grouped us)),
+        length-append (headBytes head) (length (grouped us) ∷ []),
+        head-long,
+        arrays-long (grouped us) (every-grouped us (k .units) (λ u. length u ≤ 255) (k .units .short)),
+        grouped-few us (k .units),
+        grouped-count us (k .units),
+      )
 
   pub read-back : parseFull (fullBytes head (grouped us))
       ≡ accept (record { head = back; consumed = length (fullBytes head (grouped us)); listLength = length groupedList }, groupedList)

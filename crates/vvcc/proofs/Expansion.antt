@@ -43,7 +43,6 @@ first-is P t (v ∷ us) p e u h = go (eqb (typeOf v) t) (first-is P t us (p .1) 
     go false r h = r h
 
 module _ (us : List (List ℕ)) (bytes : Every Bytes us) where
-
   ptl-of : (h : SpsHead) (u : List ℕ) (p : VvcPtlRecord) → Bytes u → parseSps u ≡ accept h → ptlOfSets h us ≡ accept p → P.Writable p
   unfolding ptlOfSets
   ptl-of h u p b e f = go (h .«ptl_present_flag») refl f
@@ -74,7 +73,8 @@ module _ (us : List (List ℕ)) (bytes : Every Bytes us) where
         ptl = t .0;
         writable = ptl-of (s .0) (r .0) (t .0) (first-is Bytes 15 us bytes 17 (r .0) (r .1)) (s .1) (t .1);
         head = ap (λ (x : FullHead × List ℕ). x .0 .head) (sym m);
-        is-list = ap (λ (x : FullHead × List ℕ). x .1) (sym m) }
+        is-list = ap (λ (x : FullHead × List ℕ). x .1) (sym m);
+      }
     where
       made : VvcPtlRecord → FullHead × List ℕ
       made p = withList (expandedHead c pic p) (encode (grouped us))

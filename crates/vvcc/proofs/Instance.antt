@@ -64,22 +64,23 @@ none-of t n i j h k e f = n (sym f ∙ types-two t j k (omega arith))
 pub instance : Still C (0x9A ∷ []) (record { chroma = 1; depth = 8; width = 16; height = 8 })
 unfolding times many manyUpTo be toBe uint bytes chunk toChunk inside arrayRest array unitList decode unitsOf encodeUnits encodeArray encodeArrays encode drops nextZeros unescape bitsAt u skip align zerosBeforeOne ue presentFlags levels withoutFlags constraintBits generalConstraintsInfo constraintBytes profileTierLevel window spsHead parseSps atEnd compactRecord parseCompact havingType without firsts grouped multiLayerVps ptlOfSets expandUnits toFull allBytes isStartCode scan endsInZero unitChecked
 instance = record {
-    bytes = bytes-of C refl;
-    picture-bytes = bytes-of (0x9A ∷ []) refl;
-    read = record { config = record { «multi_layer_flag» = false; «length_size» = 4 }; unitCount = 2; listLength = length (oneArray (P ∷ Q ∷ [])) };
-    list = oneArray (P ∷ Q ∷ []);
-    reads = refl;
-    full = record { head = expandedHead (record { «multi_layer_flag» = false; «length_size» = 4 }) (record { chroma = 1; depth = 8; width = 16; height = 8 }) ptlOfP; listLength = length (encode (grouped (P ∷ Q ∷ []))) };
-    full-list = encode (grouped (P ∷ Q ∷ []));
-    expands = refl;
-    plain = refl;
-    size = λ e. omega arith;
-    chroma = omega arith;
-    depth = omega arith;
-    one-opi = none-of 12 (λ e. omega arith);
-    one-dci = none-of 13 (λ e. omega arith);
-    some = λ k h. checked-splittable (getD (P ∷ Q ∷ []) k []) (checked-two k h) .some;
-    clean = λ k h. clean-of (getD (P ∷ Q ∷ []) k []) (checked-two k h);
-    picture-clean = clean-of (0x9A ∷ []) refl;
-    short = omega arith;
-    fits = omega arith }
+  bytes = bytes-of C refl;
+  picture-bytes = bytes-of (0x9A ∷ []) refl;
+  read = record { config = record { «multi_layer_flag» = false; «length_size» = 4 }; unitCount = 2; listLength = length (oneArray (P ∷ Q ∷ [])) };
+  list = oneArray (P ∷ Q ∷ []);
+  reads = refl;
+  full = record { head = expandedHead (record { «multi_layer_flag» = false; «length_size» = 4 }) (record { chroma = 1; depth = 8; width = 16; height = 8 }) ptlOfP; listLength = length (encode (grouped (P ∷ Q ∷ []))) };
+  full-list = encode (grouped (P ∷ Q ∷ []));
+  expands = refl;
+  plain = refl;
+  size = λ e. omega arith;
+  chroma = omega arith;
+  depth = omega arith;
+  one-opi = none-of 12 (λ e. omega arith);
+  one-dci = none-of 13 (λ e. omega arith);
+  some = λ k h. checked-splittable (getD (P ∷ Q ∷ []) k []) (checked-two k h) .some;
+  clean = λ k h. clean-of (getD (P ∷ Q ∷ []) k []) (checked-two k h);
+  picture-clean = clean-of (0x9A ∷ []) refl;
+  short = omega arith;
+  fits = omega arith;
+}

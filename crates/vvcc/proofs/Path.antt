@@ -83,11 +83,12 @@ module _ (C S : List ℕ) (pic : Picture) (still : Still C S pic) where
 
   groupable : Groupable us
   groupable = record {
-      count = omega (arith, known .few);
-      short = known .short;
-      types = every-of (λ u. typeOr31 u ≤ 31) us (λ k h. type-small (getD us k []) (every-at Bytes us (known .all-bytes) k h));
-      opi = one-of 12 us (still .one-opi);
-      dci = one-of 13 us (still .one-dci) }
+    count = omega (arith, known .few);
+    short = known .short;
+    types = every-of (λ u. typeOr31 u ≤ 31) us (λ k h. type-small (getD us k []) (every-at Bytes us (known .all-bytes) k h));
+    opi = one-of 12 us (still .one-opi);
+    dci = one-of 13 us (still .one-dci);
+  }
 
   splittable : Every Splittable us
   splittable = every-of Splittable us (λ k h. clean-splits (getD us k []) (still .some k h) (still .clean k h))
@@ -100,19 +101,20 @@ module _ (C S : List ℕ) (pic : Picture) (still : Still C S pic) where
 
   carries : Expanded (still .read .config) pic (expanded .ptl) us S
   carries = record {
-      plain = still .plain;
-      size-low = known .size-low;
-      size-high = known .size-high;
-      size = still .size;
-      chroma = still .chroma;
-      depth = still .depth;
-      ptl-ok = expanded .writable;
-      units = groupable;
-      few = known .few;
-      split = splittable;
-      clean = still .picture-clean;
-      short = still .short;
-      fits = still .fits }
+    plain = still .plain;
+    size-low = known .size-low;
+    size-high = known .size-high;
+    size = still .size;
+    chroma = still .chroma;
+    depth = still .depth;
+    ptl-ok = expanded .writable;
+    units = groupable;
+    few = known .few;
+    split = splittable;
+    clean = still .picture-clean;
+    short = still .short;
+    fits = still .fits;
+  }
 
   -- the stream, which depends on neither the picture's numbers nor the target
   abbrev streamOf : List ℕ
@@ -148,28 +150,29 @@ module _ (C S : List ℕ) (pic : Picture) (still : Still C S pic) where
   -- the claim's first half
   pub path : (tols : Option ℕ) → Path C S pic tols
   path tols = record {
-      read = still .read;
-      list = still .list;
-      reads = writes-of (parseCompact C) (still .read) (still .list) (still .reads);
-      full = still .full;
-      full-list = still .full-list;
-      expands = writes-of (toFull c pic (still .list)) (still .full) (still .full-list) (still .expands);
-      bytes = recordOf;
-      writes = counts-of (serializeFull (still .full .head) (still .full-list)) recordOf is-written;
-      head = headBack;
-      reads-back = writes-of (parseFull recordOf) (record { head = headBack; consumed = length recordOf; listLength = length (still .full-list) }) (still .full-list) is-read-back;
-      item = itemOf;
-      restores = counts-of (restore c S) itemOf (restored c pic (expanded .ptl) us S carries);
-      stream = streamOf;
-      assembles = counts-of (assemble headBack (still .full-list) itemOf tols) streamOf (is-assembled tols);
-      spans = unitsFrom streamOf 0;
-      splits = splits c pic (expanded .ptl) us S carries;
-      grouped = unitsOf (grouped us);
-      order = grouped-as us;
-      count = split-count c pic (expanded .ptl) us S carries;
-      unit = unit-below c pic (expanded .ptl) us S carries;
-      last = unit-last c pic (expanded .ptl) us S carries;
-      is-stream = refl }
+    read = still .read;
+    list = still .list;
+    reads = writes-of (parseCompact C) (still .read) (still .list) (still .reads);
+    full = still .full;
+    full-list = still .full-list;
+    expands = writes-of (toFull c pic (still .list)) (still .full) (still .full-list) (still .expands);
+    bytes = recordOf;
+    writes = counts-of (serializeFull (still .full .head) (still .full-list)) recordOf is-written;
+    head = headBack;
+    reads-back = writes-of (parseFull recordOf) (record { head = headBack; consumed = length recordOf; listLength = length (still .full-list) }) (still .full-list) is-read-back;
+    item = itemOf;
+    restores = counts-of (restore c S) itemOf (restored c pic (expanded .ptl) us S carries);
+    stream = streamOf;
+    assembles = counts-of (assemble headBack (still .full-list) itemOf tols) streamOf (is-assembled tols);
+    spans = unitsFrom streamOf 0;
+    splits = splits c pic (expanded .ptl) us S carries;
+    grouped = unitsOf (grouped us);
+    order = grouped-as us;
+    count = split-count c pic (expanded .ptl) us S carries;
+    unit = unit-below c pic (expanded .ptl) us S carries;
+    last = unit-last c pic (expanded .ptl) us S carries;
+    is-stream = refl;
+  }
 
 -- The claim's second half: "the streams are the same bytes exactly when the S are equal and the grouped units are equal in order", for
 -- any two stills, each with its own prefix size, target, chroma, depth and dimensions.

@@ -41,19 +41,39 @@ plain size = record { «multi_layer_flag» = false; «length_size» = size }
 -- profile 1, level 51, frame-only, one constraint byte
 abbrev pub ptlOfP : VvcPtlRecord
 ptlOfP = record {
-    «general_profile_idc» = 1; «general_tier_flag» = false; «general_level_idc» = 51;
-    «ptl_frame_only_constraint_flag» = true; «ptl_multilayer_enabled_flag» = false;
-    «num_bytes_constraint_info» = 1; «general_constraint_info» = replicate 63 0;
-    «num_sublayer_levels» = 0; «sublayer_level_present_flag» = replicate 7 false; «sublayer_level_idc» = replicate 7 0;
-    «num_sub_profiles» = 0; «general_sub_profile_idc» = replicate 255 0 }
+  «general_profile_idc» = 1;
+  «general_tier_flag» = false;
+  «general_level_idc» = 51;
+  «ptl_frame_only_constraint_flag» = true;
+  «ptl_multilayer_enabled_flag» = false;
+  «num_bytes_constraint_info» = 1;
+  «general_constraint_info» = replicate 63 0;
+  «num_sublayer_levels» = 0;
+  «sublayer_level_present_flag» = replicate 7 false;
+  «sublayer_level_idc» = replicate 7 0;
+  «num_sub_profiles» = 0;
+  «general_sub_profile_idc» = replicate 255 0;
+}
 
 -- chroma 1, CTU 7, 16 by 8, depth 8
 abbrev pub headOfP : SpsHead
 headOfP = record {
-    «sps_id» = 0; «vps_id» = 0; «max_sublayers_minus1» = 0; «chroma_format_idc» = 1; «log2_ctu_size» = 7;
-    «ptl_present_flag» = true; ptl = ptlOfP; «pic_width» = 16; «pic_height» = 8;
-    «conformance_window_flag» = false; «conf_win_left_offset» = 0; «conf_win_right_offset» = 0;
-    «conf_win_top_offset» = 0; «conf_win_bottom_offset» = 0; «bit_depth» = 8 }
+  «sps_id» = 0;
+  «vps_id» = 0;
+  «max_sublayers_minus1» = 0;
+  «chroma_format_idc» = 1;
+  «log2_ctu_size» = 7;
+  «ptl_present_flag» = true;
+  ptl = ptlOfP;
+  «pic_width» = 16;
+  «pic_height» = 8;
+  «conformance_window_flag» = false;
+  «conf_win_left_offset» = 0;
+  «conf_win_right_offset» = 0;
+  «conf_win_top_offset» = 0;
+  «conf_win_bottom_offset» = 0;
+  «bit_depth» = 8;
+}
 
 -- a read list expanded with chroma 1, depth 8, 16 by 8, and the full record of that
 abbrev written : Outcome (CompactParsed × List ℕ) → Outcome (List ℕ)
@@ -93,16 +113,17 @@ pub record Worked : Type 0 where
 pub worked : Worked
 unfolding times many manyUpTo be toBe uint bytes chunk toChunk inside arrayRest array unitList decode unitsOf unitsOfType encodeUnits encodeArray encodeArrays encode drops nextZeros unescape bitsAt u skip align zerosBeforeOne ue presentFlags levels withoutFlags constraintBits generalConstraintsInfo constraintBytes profileTierLevel window spsHead vpsPtl parseSps vpsFirstPtl atEnd compactRecord parseCompact restore octets vvcPtlRecord headWithPtl vvcHead recordArray vvcRecord parseFull withFlags flagByte levelBytes subProfiles ptlBytes ptlPart headBytes arrayBytes arraysBytes fullBytes ptlFits ptlPartFits headFits unitsFit arrayFits arraysFit recordFits writeFull serializeFull havingType without firsts grouped multiLayerVps ptlOfSets expandUnits toFull
 worked = record {
-    compact-reads = refl;
-    sps-head = refl;
-    expanded-and-written = refl;
-    restored = refl;
-    size-3-reads = refl;
-    unit-missing = refl;
-    byte-left = refl;
-    full-rewritten = refl;
-    full-size-3 = refl;
-    largest-code = refl;
-    too-long-code = refl;
-    code-runs-out = refl;
-    extracted = refl }
+  compact-reads = refl;
+  sps-head = refl;
+  expanded-and-written = refl;
+  restored = refl;
+  size-3-reads = refl;
+  unit-missing = refl;
+  byte-left = refl;
+  full-rewritten = refl;
+  full-size-3 = refl;
+  largest-code = refl;
+  too-long-code = refl;
+  code-runs-out = refl;
+  extracted = refl;
+}

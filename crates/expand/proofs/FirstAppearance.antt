@@ -1,27 +1,21 @@
 -- Laws of the arrays by type: the array of a type, and the types by first appearance as a walk meets them.
-use Prim.Native.Nat.{ℕ, _+_, _-_, _*_, _^_, _≤_, _<_, suc}
-use mathlib.Core.Path.{_≡_, refl, sym, ap, _∙_, subst}
+use Prim.Native.Nat.{ℕ, _+_, _-_, _≤_, _<_, suc}
+use mathlib.Core.Path.{_≡_, refl, sym, ap, _∙_}
 use mathlib.Core.Bool.{Bool, true, false, _||_}
 use mathlib.Core.List.{List, [], _∷_, _++_, map, append-assoc}
 use native.Mathlib.Omega.{arith}
-use native.Mathlib.Decide.{decLe}
 use lib.Dec.{eqb}
 use lib.ListN.{length, getD, set, replicate, length-append, length-replicate, getD-replicate, length-set}
-use lib.Seq.{sets, length-sets, getD-set-same, getD-set-other}
-use borrow.Author.Tests.{eq-eqb, ne-eqb, eqb-true}
+use lib.Seq.{sets, getD-set-same, getD-set-other}
+use borrow.Author.Tests.{eq-eqb, eqb-true}
 use Rattle.error.specs.Logic.{if_then_else_}
 use Rattle.boxes.specs.Bytes.{toBe, toChunk}
-use Rattle.boxes.specs.Parts.{held}
-use Rattle.boxes.specs.declared.Span.{Span}
 use Rattle.boxes.proofs.Numbers.{length-toBe}
 use Rattle.boxes.proofs.Sets.{sets-append, set-before}
 use Rattle.nal.specs.Header.{typeOr31}
-use Rattle.unit_list.specs.UnitList.{Array, encodeUnits, encodeArray, encodeArrays}
-use Rattle.unit_list.specs.declared.ListCursor.{ListCursor}
+use Rattle.unit_list.specs.UnitList.{encodeUnits, encodeArray, encodeArrays}
 use Rattle.unit_list.proofs.Encode.{length-toChunk}
 use Rattle.expand.specs.Expand.{havingType, without, firsts, group, grouped}
-use Rattle.expand.specs.Inside.{unitsAt, Readable}
-use Rattle.expand.proofs.Walks.{Turn}
 
 -- ### the array of a type
 

@@ -91,9 +91,10 @@ has-more u us (t ∷ ts) e = ((more-units (eqb (typeOr31 u) t) u (havingType t u
 types-have : (us : List (List ℕ)) → Every (λ u. typeOr31 u ≤ 31) us → EachOf (Has-units us) (firsts (map typeOr31 us))
 unfolding firsts Has-units havingType
 types-have [] e = tt
-types-have (u ∷ us) e =
-    ((rw (eq-eqb (typeOr31 u) (typeOr31 u) refl) (omega arith), e .0),
-     without-of (Has-units (u ∷ us)) (typeOr31 u) (firsts (map typeOr31 us)) (has-more u us (firsts (map typeOr31 us)) (types-have us (e .1))))
+types-have (u ∷ us) e = (
+  (rw (eq-eqb (typeOr31 u) (typeOr31 u) refl) (omega arith), e .0),
+  without-of (Has-units (u ∷ us)) (typeOr31 u) (firsts (map typeOr31 us)) (has-more u us (firsts (map typeOr31 us)) (types-have us (e .1))),
+)
 
 -- The arrays of units that are few and short, with at most one OPI and one DCI unit, can be written.
 pub record Groupable (us : List (List ℕ)) : Type 0 where

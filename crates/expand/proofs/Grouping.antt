@@ -160,9 +160,10 @@ ordered [] = tt
 ordered (u ∷ us) =
     let t = typeOr31 u in
     let L = without t (firsts (map typeOr31 us)) in
-    let n = without-ne t (firsts (map typeOr31 us)) in
-    (each-map (λ x h. omega (arith, first-same u us, first-other u us x h)) L n,
-     pairwise-map (λ x y p q r. omega (arith, first-other u us x p, first-other u us y q)) L n (without-pairwise _ t _ (ordered us)))
+    let n = without-ne t (firsts (map typeOr31 us)) in (
+      each-map (λ x h. omega (arith, first-same u us, first-other u us x h)) L n,
+      pairwise-map (λ x y p q r. omega (arith, first-other u us x p, first-other u us y q)) L n (without-pairwise _ t _ (ordered us)),
+    )
 
 has-once : (x t : ℕ) (L : List ℕ) → Has x L → Has x (t ∷ without t L)
 has-once x t L h = go (eqb x t) refl
@@ -288,7 +289,7 @@ flat-split us t (x ∷ ts) d h =
     by-eqb (λ l. length (places t us) + length (flat us l) ≡ length (places x us ++ flat us ts)) x t (without t ts) (x ∷ without t ts)
     (λ e. rw (without-none t ts (each-map (λ y n z. n (e ∙ sym z)) ts (d .0)), e) (sym (length-append (places t us) (flat us ts))))
     (λ n.
-      omega (arith, length-append (places x us) (flat us ts), length-append (places x us) (flat us (without t ts)), flat-split us t ts (d .1) (λ g. h (λ p. g (back n p)))))
+    omega (arith, length-append (places x us) (flat us ts), length-append (places x us) (flat us (without t ts)), flat-split us t ts (d .1) (λ g. h (λ p. g (back n p)))))
   where
     back : (x ≡ t → ⊥) → Has t (x ∷ ts) → Has t ts
     back n (zero, k, e) = absurd (n e)
@@ -347,9 +348,9 @@ module _ (us : List (List ℕ)) where
       elim (decLe (suc a) b) [
         | yes l ↦ l
         | no l ↦ absurd (elim (decLe (suc b) a) [
-            | yes m ↦ before-not-back us _ _ p (in-order-sorted b a k h m)
-            | no m ↦ let e : a ≡ b = omega arith in let q = subst (λ x. Before us (getD in-order a 0) (getD in-order x 0)) (sym e) p in before-not-back us _ _ q q
-          ])
+          | yes m ↦ before-not-back us _ _ p (in-order-sorted b a k h m)
+          | no m ↦ let e : a ≡ b = omega arith in let q = subst (λ x. Before us (getD in-order a 0) (getD in-order x 0)) (sym e) p in before-not-back us _ _ q q
+        ])
       ]
 
   in-order-once : (a b : ℕ) → a < length us → b < length us → getD in-order a 0 ≡ getD in-order b 0 → a ≡ b
@@ -357,9 +358,9 @@ module _ (us : List (List ℕ)) where
       elim (decLe (suc a) b) [
         | yes l ↦ absurd (same (subst (λ x. Before us (getD in-order a 0) x) (sym e) (in-order-sorted a b h k l)))
         | no l ↦ elim (decLe (suc b) a) [
-            | yes m ↦ absurd (same (subst (λ x. Before us x (getD in-order a 0)) (sym e) (in-order-sorted b a k h m)))
-            | no m ↦ omega arith
-          ]
+          | yes m ↦ absurd (same (subst (λ x. Before us x (getD in-order a 0)) (sym e) (in-order-sorted b a k h m)))
+          | no m ↦ omega arith
+        ]
       ]
     where
       same : Before us (getD in-order a 0) (getD in-order a 0) → ⊥
@@ -373,10 +374,11 @@ module _ (us : List (List ℕ)) where
   pub grouped-as : GroupedAs us (unitsOf (grouped us))
   unfolding grouped
   grouped-as = record {
-      order = in-order;
-      count = flat-count us;
-      units = flat-units us (firsts (map typeOr31 us));
-      each = in-order-each;
-      once = in-order-once;
-      sorted = in-order-sorted;
-      sorted-only = in-order-only }
+    order = in-order;
+    count = flat-count us;
+    units = flat-units us (firsts (map typeOr31 us));
+    each = in-order-each;
+    once = in-order-once;
+    sorted = in-order-sorted;
+    sorted-only = in-order-only;
+  }

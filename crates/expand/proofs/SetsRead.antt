@@ -2,10 +2,8 @@
 use Prim.Native.Nat.{ℕ}
 use mathlib.Core.Path.{_≡_, refl, sym, ap, _∙_}
 use mathlib.Core.Bool.{Bool, true, false}
-use mathlib.Core.List.{List, [], _∷_}
-use mathlib.Core.Option.{Option, none, some}
-use native.Mathlib.Omega.{arith}
-use Rattle.error.specs.Logic.{if_then_else_}
+use mathlib.Core.List.{List}
+use mathlib.Core.Option.{none, some}
 use Rattle.error.specs.Outcome.{Outcome, accept, refuse, andThen, handsBack}
 use Rattle.error.specs.Refusals.{numberOf}
 use Rattle.error.specs.Steps.{orRefuse}
@@ -13,14 +11,13 @@ use Rattle.error.specs.declared.Refusal.{Refusal}
 use Rattle.ptl.specs.Ptl.{zeroPtl}
 use Rattle.ptl.specs.declared.VvcPtlRecord.{VvcPtlRecord}
 use Rattle.params.specs.Heads.{parseSps, vpsFirstPtl}
-use Rattle.params.specs.Answers.{readOf, ptlOf, ptlGiven, spsOf, spsGiven}
+use Rattle.params.specs.Answers.{readOf, ptlOf, ptlGiven}
 use Rattle.params.specs.declared.ParamsAnswer.{ParamsAnswer}
 use Rattle.params.specs.declared.ParamsAnswer.the-variants as P
 use Rattle.params.specs.declared.PtlRead.{PtlRead}
-use Rattle.params.specs.declared.SpsRead.{SpsRead}
 use Rattle.params.specs.declared.SpsHead.{SpsHead}
 use Rattle.compact.specs.declared.CompactVvcConfig.{CompactVvcConfig}
-use Rattle.expand.specs.Expand.{havingType, first, multiLayerVps, ptlOfSets, expandUnits, Picture, expandedHead, FullHead}
+use Rattle.expand.specs.Expand.{havingType, first, multiLayerVps, ptlOfSets, expandUnits, Picture, expandedHead}
 use Rattle.expand.specs.Inside.{ptlOrZeros, firstVpsPtl, firstSpsPtl, setsPtl, withUnits}
 
 -- ### a value beside an answer

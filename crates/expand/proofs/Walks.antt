@@ -43,10 +43,11 @@ module _ (s : List ℕ) (here : ListCursor) (r : ListStep) (f : (stepped s r ≡
     reads : (o : Outcome (List Span)) → unitsLeft s next ≡ o → Readable s next × (unitsAt s here ≡ held s a ∷ unitsAt s next)
     unfolding unitsAt
     reads (refuse n) g = let h = i .left in let k = left-next s here r f a next e in let z : _≡_ {A = ℕ} 0 1 = cc in absurd (omega arith)
-    reads (accept us) g =
-        (record { fits = next-fits s here r f a next e; spans = us; left = g },
-        ap (λ (o : Outcome (List Span)). map (held s) (spansOf o)) (left-next s here r f a next e ∙ ap (more a) g)
-        ∙ ap (λ (o : Outcome (List Span)). held s a ∷ map (held s) (spansOf o)) (sym g))
+    reads (accept us) g = (
+      record { fits = next-fits s here r f a next e; spans = us; left = g },
+      ap (λ (o : Outcome (List Span)). map (held s) (spansOf o)) (left-next s here r f a next e ∙ ap (more a) g)
+          ∙ ap (λ (o : Outcome (List Span)). held s a ∷ map (held s) (spansOf o)) (sym g),
+    )
 
     pub turned : Turn s here a next
     turned =

@@ -73,9 +73,18 @@ pub record Picture : Type 0 where
 -- dimensions cut at 65,535, average rate 0"
 abbrev pub expandedHead : CompactVvcConfig → Picture → VvcPtlRecord → VvcConfig
 expandedHead c pic ptl = record {
-    «length_size» = c .«length_size»; «ptl_present_flag» = true; «ols_idx» = 0; «num_sublayers» = 1; «constant_frame_rate» = 1;
-    «chroma_format_idc» = pic .chroma; «bit_depth_minus8» = pic .depth - 8; «native_ptl» = ptl;
-    «max_picture_width» = min (pic .width) 65535; «max_picture_height» = min (pic .height) 65535; «avg_frame_rate» = 0 }
+  «length_size» = c .«length_size»;
+  «ptl_present_flag» = true;
+  «ols_idx» = 0;
+  «num_sublayers» = 1;
+  «constant_frame_rate» = 1;
+  «chroma_format_idc» = pic .chroma;
+  «bit_depth_minus8» = pic .depth - 8;
+  «native_ptl» = ptl;
+  «max_picture_width» = min (pic .width) 65535;
+  «max_picture_height» = min (pic .height) 65535;
+  «avg_frame_rate» = 0;
+}
 
 -- what expansion hands back
 pub record FullHead : Type 0 where

@@ -6,7 +6,6 @@ use unit_list::ListCursor;
 use unit_list::ListStep;
 use unit_list::walk;
 use unit_list::write;
-
 ghost use mathlib.Core.Path.{_≡_};
 ghost use Prim.Native.Nat.{_+_, _≤_, _<_, _^_};
 ghost use lib.ListN.{length};
@@ -105,7 +104,7 @@ fn put_groups(list: &[u8], c: ListCursor, out: &mut [u8], at: usize)
     ensures { λ _. ⌜ now (out .exit) ≡ sets (now (out .entry)) at (encodeArrays 4 (grouped (unitsAt (now (list .entry)) c))) ⌝ }
 {
     let mut here = c;
-    let mut seen = [false; 32];
+    let mut stored = [false; 32];
     let mut to = at;
     loop {
         let step = walk::step(list, here);
@@ -113,9 +112,9 @@ fn put_groups(list: &[u8], c: ListCursor, out: &mut [u8], at: usize)
             return;
         };
         let t = units::unit_type(list, a);
-        let kind = place::wide(t);
-        if !seen[kind] {
-            seen[kind] = true;
+        let i = place::wide(t);
+        if !stored[i] {
+            stored[i] = true;
             to = put_group(list, c, t, out, to);
         }
         here = next;

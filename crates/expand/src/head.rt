@@ -2,7 +2,6 @@
 use compact::CompactVvcConfig;
 use full::VvcConfig;
 use ptl::VvcPtlRecord;
-
 ghost use mathlib.Core.Path.{_≡_};
 ghost use Prim.Native.Nat.{_-_, min};
 ghost use Rattle.full.specs.Read.{zeroHead};
@@ -49,7 +48,14 @@ pub fn zero_head() -> VvcConfig
 }
 
 // The head that a compact record with this PTL expands to, for a picture as the caller knows it.
-pub fn expanded_head(config: CompactVvcConfig, chroma_format_idc: u8, bit_depth: u8, width: u32, height: u32, ptl: VvcPtlRecord) -> VvcConfig
+pub fn expanded_head(
+    config: CompactVvcConfig,
+    chroma_format_idc: u8,
+    bit_depth: u8,
+    width: u32,
+    height: u32,
+    ptl: VvcPtlRecord,
+) -> VvcConfig
     ensures { λ r. ⌜ r ≡ expandedHead config (record { chroma = «chroma_format_idc»; depth = «bit_depth»; width = width; height = height }) ptl ⌝ }
 {
     let depth = depth_minus8(bit_depth);

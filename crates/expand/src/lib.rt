@@ -10,7 +10,6 @@ use full::VvcConfig;
 use params::ParamsAnswer;
 use unit_list::ListCursor;
 use unit_list::ListStart;
-
 ghost use mathlib.Core.Path.{_≡_};
 ghost use Rattle.error.specs.Outcome.{refuse};
 ghost use Rattle.error.specs.Refusals.{numberOf};
@@ -37,7 +36,10 @@ fn refused(e: Refusal) -> Expanded
 {
     let zeros = head::zero_head();
     let answer = ExpandAnswer::Refused(e);
-    Expanded { answer, head: zeros }
+    Expanded {
+        answer,
+        head: zeros,
+    }
 }
 
 // A head with the list of the units behind a cursor, which goes to the output. Refusal: 20.
@@ -51,11 +53,23 @@ fn put_expanded(full_head: VvcConfig, list: &[u8], c: ListCursor, out: &mut [u8]
     }
     groups::put_list(list, c, out);
     let answer = ExpandAnswer::List(len);
-    Expanded { answer, head: full_head }
+    Expanded {
+        answer,
+        head: full_head,
+    }
 }
 
 // What the units behind a cursor expand to. Refusals: with the flag set 16 and the VPS's; 17, the SPS's, 18, the VPS's, 20.
-fn expand_units(config: CompactVvcConfig, list: &[u8], c: ListCursor, chroma_format_idc: u8, bit_depth: u8, width: u32, height: u32, out: &mut [u8]) -> Expanded
+fn expand_units(
+    config: CompactVvcConfig,
+    list: &[u8],
+    c: ListCursor,
+    chroma_format_idc: u8,
+    bit_depth: u8,
+    width: u32,
+    height: u32,
+    out: &mut [u8],
+) -> Expanded
     requires { ⌜ Readable (now list) c ⌝ }
     ensures { λ r. ⌜ (expandedOf r, now (out .exit)) ≡ expandedGiven (expandUnits config (record { chroma = «chroma_format_idc»; depth = «bit_depth»; width = width; height = height }) (unitsAt (now (list .entry)) c)) (now (out .entry)) ⌝ }
 {
@@ -65,7 +79,14 @@ fn expand_units(config: CompactVvcConfig, list: &[u8], c: ListCursor, chroma_for
     let ptl = read.ptl;
     match answer {
         ParamsAnswer::Read => {
-            let full_head = head::expanded_head(config, chroma_format_idc, bit_depth, width, height, ptl);
+            let full_head = head::expanded_head(
+                config,
+                chroma_format_idc,
+                bit_depth,
+                width,
+                height,
+                ptl,
+            );
             put_expanded(full_head, list, c, out)
         }
         ParamsAnswer::Refused(e) => refused(e),
@@ -74,11 +95,28 @@ fn expand_units(config: CompactVvcConfig, list: &[u8], c: ListCursor, chroma_for
 
 // The full record that a compact record and its units stand for; the units go to the output grouped by type, as a unit list.
 // Refusals: 23, 21; with the flag set 16 and the VPS's; 17, the SPS's, 18, the VPS's, 20.
-pub fn to_full(config: CompactVvcConfig, list: &[u8], chroma_format_idc: u8, bit_depth: u8, width: u32, height: u32, out: &mut [u8]) -> Expanded
+pub fn to_full(
+    config: CompactVvcConfig,
+    list: &[u8],
+    chroma_format_idc: u8,
+    bit_depth: u8,
+    width: u32,
+    height: u32,
+    out: &mut [u8],
+) -> Expanded
     ensures { λ r. ⌜ (expandedOf r, now (out .exit)) ≡ expandedGiven (toFull config (record { chroma = «chroma_format_idc»; depth = «bit_depth»; width = width; height = height }) (now (list .entry))) (now (out .entry)) ⌝ }
 {
     match units::start(list) {
-        ListStart::At(c) => expand_units(config, list, c, chroma_format_idc, bit_depth, width, height, out),
+        ListStart::At(c) => expand_units(
+            config,
+            list,
+            c,
+            chroma_format_idc,
+            bit_depth,
+            width,
+            height,
+            out,
+        ),
         ListStart::Refused(e) => refused(e),
     }
 }

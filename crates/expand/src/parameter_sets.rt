@@ -10,7 +10,6 @@ use params::PtlRead;
 use params::SpsHead;
 use params::vps;
 use unit_list::ListCursor;
-
 ghost use mathlib.Core.Path.{_≡_};
 ghost use Rattle.error.specs.Refusals.{numberOf};
 ghost use Rattle.params.specs.Answers.{readOf, ptlOf};

@@ -9,7 +9,6 @@ use unit_list::ListStep;
 use unit_list::Wanted;
 use unit_list::find;
 use unit_list::walk;
-
 ghost use mathlib.Core.Path.{_≡_};
 ghost use Prim.Native.Nat.{_+_, _≤_};
 ghost use lib.ListN.{length};

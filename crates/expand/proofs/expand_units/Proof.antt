@@ -1,6 +1,6 @@
 -- `expand_units` takes the PTL of the parameter sets, and the list of the units.
 use Prim.Native.Nat.{ℕ}
-use mathlib.Core.Path.{_≡_, sym, ap, _∙_}
+use mathlib.Core.Path.{sym, ap, _∙_}
 use mathlib.Core.List.{List}
 use borrow.Author.Needs.{needs}
 use Rattle.error.specs.Outcome.{Outcome}

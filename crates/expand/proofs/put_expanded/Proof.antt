@@ -1,7 +1,5 @@
 -- `put_expanded` stores the list where it fits.
-use Prim.Native.Nat.{ℕ}
-use mathlib.Core.Path.{_≡_, ap, _∙_}
-use mathlib.Core.List.{List}
+use mathlib.Core.Path.{ap, _∙_}
 use native.Mathlib.Omega.{arith}
 use borrow.Author.Needs.{needs}
 use Rattle.error.specs.Outcome.{Outcome}
@@ -9,7 +7,7 @@ use Rattle.unit_list.specs.UnitList.{encode}
 use Rattle.full.specs.declared.VvcConfig.{VvcConfig}
 use Rattle.expand.specs.Expand.{FullHead}
 use Rattle.expand.specs.Inside.{unitsAt}
-use Rattle.expand.proofs.Expansion.{Given, expanded-short, expanded-fits}
+use Rattle.expand.proofs.Expansion.{expanded-short, expanded-fits}
 use Rattle.expand.proofs.put_expanded.Statement.{statement}
 use Rattle.expand.proofs.put_expanded.Tie as tie
 
@@ -31,7 +29,7 @@ returns c =
 
 put-list-requires : tie.Need-put-list-requires
 unfolding encode
-put-list-requires c κs =     (c .before .before .before .before .before .pre, omega (arith, c .before .if1 .left, c .before .before .groups-len .ensures .0))
+put-list-requires c κs = (c .before .before .before .before .before .pre, omega (arith, c .before .if1 .left, c .before .before .groups-len .ensures .0))
 
 same-length : tie.Need-same-length
 same-length c = search needs

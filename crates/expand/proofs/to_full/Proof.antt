@@ -1,6 +1,6 @@
 -- `to_full` expands the units behind the list's start, or gives its refusal.
 use Prim.Native.Nat.{ℕ}
-use mathlib.Core.Path.{_≡_, sym, ap, _∙_, subst}
+use mathlib.Core.Path.{sym, ap, _∙_, subst}
 use mathlib.Core.List.{List}
 use borrow.Author.Needs.{needs}
 use Rattle.error.specs.Outcome.{Outcome}

@@ -1,6 +1,6 @@
 -- `groups::group_len` measures the units of a type. The loop's invariant: those passed and those left make the whole.
 use Prim.Native.Nat.{_-_}
-use mathlib.Core.Path.{_≡_, sym, _∙_}
+use mathlib.Core.Path.{sym, _∙_}
 use native.Mathlib.Omega.{arith}
 use borrow.Author.Needs.{needs}
 use lib.ListN.{length}

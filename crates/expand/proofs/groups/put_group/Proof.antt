@@ -1,6 +1,6 @@
 -- `groups::put_group` stores the units of a type, and before them the array's length, complete and type.
 use Prim.Native.Nat.{_+_, _-_}
-use mathlib.Core.Path.{_≡_, refl, sym, ap, _∙_}
+use mathlib.Core.Path.{ap, _∙_}
 use native.Mathlib.Omega.{arith}
 use borrow.Author.Needs.{needs}
 use lib.ListN.{length}
@@ -38,9 +38,10 @@ returns c =
     let a = c .before .before .before .before .before .before .before .before .before .before .args in
     let us = unitsAt (a .list .now) (a .c) in
     let y = c .before .before .before .before .before .before .put-group-units in
-    let h = y .ensures .0 in
-    (omega (arith, array-long us (a .t)),
-    array-stored us (a .t) (a .out .now) _ _ (a .at) (y .result - (a .at + 4)) (y .ensures .1) (c .before .before .put-array-head .ensures) (omega arith))
+    let h = y .ensures .0 in (
+      omega (arith, array-long us (a .t)),
+      array-stored us (a .t) (a .out .now) _ _ (a .at) (y .result - (a .at + 4)) (y .ensures .1) (c .before .before .put-array-head .ensures) (omega arith),
+    )
 
 pub put-group-spec : {M : Type 1} → statement M
 put-group-spec =

@@ -1,6 +1,6 @@
 -- `groups::put_group_units` stores the units of a type. The loop's invariant: those stored and those left make the whole.
 use Prim.Native.Nat.{_-_}
-use mathlib.Core.Path.{_≡_, sym, _∙_}
+use mathlib.Core.Path.{sym, _∙_}
 use native.Mathlib.Omega.{arith}
 use borrow.Author.Needs.{needs}
 use lib.ListN.{length}

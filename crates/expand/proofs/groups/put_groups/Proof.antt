@@ -10,10 +10,10 @@ use Rattle.expand.proofs.groups.put_groups.Statement.{statement}
 use Rattle.expand.proofs.groups.put_groups.Tie as tie
 
 abbrev Inv-loop : tie.InvT-loop
-Inv-loop list c out₀ at here₀ seen₀ to₀ out here seen to = Laid list c out₀ at here seen out to
+Inv-loop list c out₀ at here₀ stored₀ to₀ out here stored to = Laid list c out₀ at here stored out to
 
 abbrev μ-loop : tie.MeasureT-loop
-μ-loop list c out₀ at here₀ seen₀ to₀ out here seen to = length list - here .at
+μ-loop list c out₀ at here₀ stored₀ to₀ out here stored to = length list - here .at
 
 loop-holds : tie.Need-loop-holds Inv-loop μ-loop
 loop-holds c = laid-start _ _ _ _ (c .before .before .pre .0)
@@ -44,15 +44,16 @@ wide-requires c κs = search needs
 array-read-if1 : tie.Need-array-read-if1 Inv-loop μ-loop
 array-read-if1 c = omega (arith, c .wide .ensures .0, c .before .unit-type .ensures .1)
 
-array-write-seen : tie.Need-array-write-seen Inv-loop μ-loop
-array-write-seen c = omega (arith, c .before .wide .ensures .0, c .before .before .unit-type .ensures .1)
+array-write-stored : tie.Need-array-write-stored Inv-loop μ-loop
+array-write-stored c = omega (arith, c .before .wide .ensures .0, c .before .before .unit-type .ensures .1)
 
 put-group-requires : tie.Need-put-group-requires Inv-loop μ-loop
 put-group-requires c κs =
-    let y = c .before .before .before .unit-type in
-    (c .before .before .before .before .before .before .before .before .before .before .before .pre .0,
-    laid-room _ _ _ _ _ _ _ _ (c .before .before .before .before .before .before .before .before .loop .inv) _ _ (turn-here (c .before .before .before .before)) _ _ (y .ensures .0) (y .ensures .1) (c .before .before .wide .ensures .0) (not-true _ (c .before .if1 .taken))
-    (c .before .before .before .before .before .before .before .before .before .before .before .pre .1))
+    let y = c .before .before .before .unit-type in (
+      c .before .before .before .before .before .before .before .before .before .before .before .pre .0,
+      laid-room _ _ _ _ _ _ _ _ (c .before .before .before .before .before .before .before .before .loop .inv) _ _ (turn-here (c .before .before .before .before)) _ _ (y .ensures .0) (y .ensures .1) (c .before .before .wide .ensures .0) (not-true _ (c .before .if1 .taken))
+          (c .before .before .before .before .before .before .before .before .before .before .before .pre .1),
+    )
 
 loop-less : tie.Need-loop-less Inv-loop μ-loop
 loop-less c = let u = turn-here (c .before .before .before .before .before .before .before) in omega arith
@@ -86,7 +87,7 @@ put-groups-spec =
     unit-type-requires
     wide-requires
     array-read-if1
-    array-write-seen
+    array-write-stored
     put-group-requires
     loop-less
     loop-again

@@ -1,7 +1,5 @@
 -- `parameter_sets::sps_ptl` reads the first SPS, where there is one, and takes the PTL that goes with it.
-use Prim.Native.Nat.{ℕ}
-use mathlib.Core.Path.{_≡_, sym, ap, _∙_, subst}
-use mathlib.Core.Option.{some}
+use mathlib.Core.Path.{sym, ap, _∙_, subst}
 use borrow.Author.Needs.{needs}
 use Rattle.boxes.specs.Parts.{held}
 use Rattle.params.specs.Heads.{parseSps, zeroSps}

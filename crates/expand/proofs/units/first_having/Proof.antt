@@ -1,7 +1,6 @@
 -- `units::first_having` finds the first unit of a type. The loop's invariant: those of the type that are left are all of them.
 use Prim.Native.Nat.{_-_}
 use mathlib.Core.Path.{_≡_, refl, sym, ap, _∙_}
-use mathlib.Core.List.{List}
 use native.Mathlib.Omega.{arith}
 use borrow.Author.Needs.{needs}
 use lib.ListN.{length}

@@ -38,9 +38,9 @@ use Rattle.full.proofs.RecordRoundTrip.{read-written}
 use Rattle.expand.specs.Expand.{Picture, grouped, expandedHead}
 use Rattle.expand.proofs.GroupedFits.{Every, Groupable, grouped-fit, grouped-sound, grouped-few, grouped-count, every-grouped, grouped-long}
 use Rattle.access_unit.specs.AccessUnit.{startCode, assemble}
+use Rattle.access_unit.proofs.OneUnit.{one-assembled}
 use Rattle.vvcc.proofs.Premises.{Clean}
 use Rattle.vvcc.proofs.Units.{still-splits, all-split, every-at}
-use Rattle.vvcc.proofs.Steps.{assembled}
 
 every-parts : (P : List ℕ → Type 0) (us vs : List (List ℕ)) → Every P (us ++ vs) → Every P us × Every P vs
 every-parts P [] vs e = (tt, e)
@@ -198,8 +198,7 @@ module _ (c : CompactVvcConfig) (pic : Picture) (ptl : VvcPtlRecord) (us : List 
   assembles tols =
       let l = grouped-long us (k .units) in
       let r = units-encode (grouped us) (omega arith) (grouped-sound us (k .units)) in
-      let e : typeOr31 (held item one) ≡ 8 = rw item-held in
-      assembled back groupedList item tols (r .spans) one item-long (r .read) item-split (λ x. omega arith) (λ x. omega arith) ∙ rw (r .bytes, item-held)
+      one-assembled back groupedList item tols (r .spans) one (0 ∷ 65 ∷ S) (r .read) item-split item-held (λ x. omega arith) (λ x. omega arith) ∙ rw (r .bytes)
 
   all-splits : (j : ℕ) → j < length carried → Splittable (getD carried j [])
   all-splits = all-split (unitsOf (grouped us)) (0 ∷ 65 ∷ S) (every-grouped us (k .units) Splittable (k .split)) (still-splits S (k .clean))

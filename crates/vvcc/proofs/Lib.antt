@@ -1,7 +1,6 @@
 pub mod Worked
 pub mod Premises
 pub mod Units
-pub mod Steps
 pub mod Carried
 pub mod Ptls
 pub mod Expansion

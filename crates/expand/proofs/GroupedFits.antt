@@ -16,7 +16,7 @@ use Rattle.unit_list.proofs.Encode.{length-toChunk}
 use Rattle.full.specs.Read.{holdsOne}
 use Rattle.full.specs.Write.{unitsFit, arrayFits, arraysFit}
 use Rattle.expand.specs.Expand.{havingType, without, firsts, group, grouped}
-use Rattle.expand.proofs.Grouping.{GroupedAs, grouped-as}
+use Rattle.expand.proofs.Grouping.{grouped-as}
 
 -- what holds of every unit
 abbrev pub Every : (List ℕ → Type 0) → List (List ℕ) → Type 0

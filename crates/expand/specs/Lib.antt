@@ -1,3 +1,4 @@
 pub mod Expand
 pub mod Answers
 pub mod Inside
+pub mod Order

@@ -39,7 +39,7 @@ use Rattle.expand.specs.Expand.{Picture, grouped, expandedHead}
 use Rattle.expand.proofs.GroupedFits.{Every, Groupable, grouped-fit, grouped-sound, grouped-few, grouped-count, every-grouped, grouped-long}
 use Rattle.access_unit.specs.AccessUnit.{startCode, assemble}
 use Rattle.access_unit.proofs.OneUnit.{one-assembled}
-use Rattle.vvcc.proofs.Premises.{Clean}
+use Rattle.vvcc.specs.Still.{Clean}
 use Rattle.vvcc.proofs.Units.{still-splits, all-split, every-at}
 
 every-parts : (P : List ℕ → Type 0) (us vs : List (List ℕ)) → Every P (us ++ vs) → Every P us × Every P vs

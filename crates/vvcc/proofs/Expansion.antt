@@ -21,7 +21,7 @@ use Rattle.params.specs.declared.SpsHead.{SpsHead}
 use Rattle.compact.specs.declared.CompactVvcConfig.{CompactVvcConfig}
 use Rattle.expand.specs.Expand.{Picture, FullHead, havingType, first, multiLayerVps, ptlOfSets, expandedHead, withList, grouped, expandUnits, toFull}
 use Rattle.expand.proofs.GroupedFits.{Every}
-use Rattle.vvcc.proofs.Premises.{Bytes}
+use Rattle.vvcc.specs.Still.{Bytes}
 use Rattle.vvcc.proofs.Ptls.{sps-ptl, vps-ptl}
 
 -- an accepted step behind another: both were accepted

@@ -21,7 +21,7 @@ use Rattle.params.specs.Heads.{window, spsHead, parseSps}
 use Rattle.compact.specs.Compact.{CompactParsed, atEnd, compactRecord, oneArray, parseCompact}
 use Rattle.expand.specs.Expand.{Picture, FullHead, havingType, without, firsts, grouped, multiLayerVps, ptlOfSets, expandedHead, expandUnits, toFull}
 use Rattle.vvcc.proofs.Worked.{P, Q, C, ptlOfP}
-use Rattle.vvcc.proofs.Premises.{Bytes, Clean, AtMostOne, unitsIn, Still}
+use Rattle.vvcc.specs.Still.{Bytes, Clean, AtMostOne, unitsIn, Still}
 
 -- bytes, by a test
 allBytes : List ℕ → Bool
@@ -53,7 +53,7 @@ checked-two zero h = refl
 checked-two (suc zero) h = refl
 checked-two (suc (suc k)) h = absurd (omega arith)
 
-types-two : (t j : ℕ) → j < 2 → 0 < j → Rattle.expand.proofs.Grouping.typeAt (P ∷ Q ∷ []) j ≡ 16
+types-two : (t j : ℕ) → j < 2 → 0 < j → Rattle.expand.specs.Order.typeAt (P ∷ Q ∷ []) j ≡ 16
 types-two t zero h k = absurd (omega arith)
 types-two t (suc zero) h k = refl
 types-two t (suc (suc j)) h k = absurd (omega arith)

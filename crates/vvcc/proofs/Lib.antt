@@ -1,5 +1,4 @@
 pub mod Worked
-pub mod Premises
 pub mod Units
 pub mod Carried
 pub mod Ptls

@@ -13,7 +13,7 @@ use Rattle.ptl_record.proofs.RoundTrip as P
 use Rattle.params.specs.Heads.{parseSps, vpsFirstPtl}
 use Rattle.params.specs.declared.SpsHead.{SpsHead}
 use Rattle.params.proofs.Bounds.{sps-unit-fits, vps-unit-fits}
-use Rattle.vvcc.proofs.Premises.{Bytes}
+use Rattle.vvcc.specs.Still.{Bytes}
 
 writable : (m : ℕ) (r : VvcPtlRecord) → m ≤ 7 → Fits m r → P.Writable r
 unfolding ptlFits

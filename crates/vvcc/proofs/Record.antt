@@ -10,7 +10,7 @@ use Rattle.unit_list.proofs.Encode.{UnitsRead}
 use Rattle.compact.specs.Compact.{CompactParsed, parseCompact}
 use Rattle.compact.proofs.Facts.{CompactFacts, compact-facts}
 use Rattle.expand.proofs.GroupedFits.{Every}
-use Rattle.vvcc.proofs.Premises.{Bytes, unitsIn}
+use Rattle.vvcc.specs.Still.{Bytes, unitsIn}
 use Rattle.vvcc.proofs.Units.{every-of}
 
 pub record Facts (us : List (List ℕ)) (read : CompactParsed) (list : List ℕ) : Type 0 where

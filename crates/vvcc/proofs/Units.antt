@@ -16,9 +16,9 @@ use Rattle.nal.proofs.StartCodes.{CodeAt}
 use Rattle.nal.proofs.Checks.{Splittable}
 use Rattle.hvcc.proofs.RoundTrip.{AllSplittable}
 use Rattle.expand.specs.Expand.{havingType}
-use Rattle.expand.proofs.Grouping.{typeAt}
+use Rattle.expand.specs.Order.{typeAt}
 use Rattle.expand.proofs.GroupedFits.{Every}
-use Rattle.vvcc.proofs.Premises.{Bytes, Clean, AtMostOne}
+use Rattle.vvcc.specs.Still.{Bytes, Clean, AtMostOne}
 
 -- what holds at every place holds of every unit, and back
 pub every-of : (P : List ℕ → Type 0) (us : List (List ℕ)) → ((k : ℕ) → k < length us → P (getD us k [])) → Every P us

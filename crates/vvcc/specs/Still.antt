@@ -11,7 +11,7 @@ use Rattle.boxes.specs.declared.Span.{Span}
 use Rattle.compact.specs.Compact.{CompactParsed, compactRecord, parseCompact}
 use Rattle.compact.specs.declared.CompactVvcConfig.{CompactVvcConfig}
 use Rattle.expand.specs.Expand.{Picture, FullHead, toFull}
-use Rattle.expand.proofs.Grouping.{typeAt}
+use Rattle.expand.specs.Order.{typeAt}
 
 -- a list of bytes
 abbrev pub Bytes : List ℕ → Type 0

@@ -1,23 +1,27 @@
 -- A full record read after writing: the same head and list, and the bytes consumed are the bytes written.
-use Prim.Native.Nat.{ℕ, _+_, _^_, _≤_}
+use Prim.Native.Nat.{ℕ, _+_, _^_, _≤_, _<_}
 use native.Mathlib.Omega.{arith}
-use mathlib.Core.Path.{_≡_, refl, sym, ap, _∙_}
+use mathlib.Core.Path.{_≡_, refl, sym, ap, _∙_, subst}
 use mathlib.Core.Bool.{Bool, true, false, _&&_}
 use mathlib.Core.List.{List, [], _∷_, _++_, append-nil, append-assoc}
-use lib.Dec.{leb}
-use lib.ListN.{length, length-append}
-use borrow.Author.Tests.{leb-true, le-leb}
-use Rattle.error.specs.Outcome.{Outcome, accept}
+use lib.Dec.{leb, eqb}
+use lib.ListN.{length, getD, length-append}
+use borrow.Author.Tests.{leb-true, le-leb, eqb-false}
+use Rattle.error.specs.Logic.{if_then_else_}
+use Rattle.error.specs.Outcome.{Outcome, accept, refuse}
 use Rattle.error.specs.Parse.{value}
 use Rattle.nal.proofs.StartCodes.{and-true}
 use Rattle.unit_list.specs.UnitList.{Array, encode, heldArrays}
 use Rattle.unit_list.proofs.Arrays.{Sound}
 use Rattle.ptl.specs.declared.VvcPtlRecord.{VvcPtlRecord}
 use Rattle.full.specs.Read.{FullParsed, vvcRecord, fullParsed, parseFull}
-use Rattle.full.specs.Write.{headBytes, headFits, arraysBytes, arraysFit, fullBytes, recordFits}
+use Rattle.ptl_record.specs.AsWritten.{asWritten}
+use Rattle.ptl_record.proofs.AsWritten.{Canonical, kept}
+use Rattle.ptl_record.proofs.RoundTrip as P
+use Rattle.full.specs.Write.{headBytes, ptlPartFits, headFits, arraysBytes, arraysFit, fullBytes, recordFits, writeFull}
 use Rattle.full.specs.declared.VvcConfig.{VvcConfig}
 use Rattle.full.proofs.ArraysRoundTrip.{placedArrays, arrays-read, arrays-held, byte-there}
-use Rattle.full.proofs.HeadRoundTrip.{Writable, readBack, head-read}
+use Rattle.full.proofs.HeadRoundTrip.{Wide, ReadsAs, small, withPtl, Writable, readBack, head-read}
 
 module _ (h : VvcConfig) (q : VvcPtlRecord) (xs : List (Array (List ℕ))) (w : Writable h q) (sound : Sound xs) (fits : recordFits h xs ≡ true) where
   abbrev s : List ℕ
@@ -59,3 +63,70 @@ module _ (h : VvcConfig) (q : VvcPtlRecord) (xs : List (Array (List ℕ))) (w : 
   unfolding parseFull
   read-written l =
       rw (le-leb (length s) (2 ^ 30) l, record-read, arrays-held s sound (headBytes h ++ (length xs ∷ [])) [] (length (headBytes h) + 1) from-arrays before (arrays-fit .1))
+
+-- A head as the code has it: its numbers fit their types, and its arrays are as long as the struct says.
+pub record Typed (h : VvcConfig) : Type 0 where
+  pub wide : Wide h
+  pub info : length (h .«native_ptl» .«general_constraint_info») ≡ 63
+  pub subs : length (h .«native_ptl» .«general_sub_profile_idc») ≡ 255
+  pub subs-small : (i : ℕ) → getD (h .«native_ptl» .«general_sub_profile_idc») i 0 < 2 ^ 32
+
+-- What is read of a head that was written, the exceptions said plainly: without the flag the fields under it are 0 (`plainHead`); with it, no
+-- constraint bytes become one zero byte, and only the levels below the highest sublayer come back (`asWritten`).
+abbrev pub headRead : VvcConfig → VvcConfig
+headRead h = readBack (h .«ptl_present_flag») h (asWritten (h .«native_ptl») (h .«num_sublayers»))
+
+module _ (h : VvcConfig) (t : Typed h) (xs : List (Array (List ℕ))) (sound : Sound xs) where
+  fitting-parts : recordFits h xs ≡ true → headFits h ≡ true
+  unfolding recordFits
+  fitting-parts e = and-true (headFits h) _ e .0
+
+  ptl-part : headFits h ≡ true → h .«ptl_present_flag» ≡ true → ptlPartFits h ≡ true
+  unfolding headFits
+  ptl-part e f =
+      let a = and-true (leb 1 (h .«length_size»)) _ e in
+      let b = and-true (leb (h .«length_size») 4) _ (a .1) in
+      subst (λ (c : Bool). (if c then ptlPartFits h else true) ≡ true) f (b .1)
+
+  reads : headFits h ≡ true → h .«ptl_present_flag» ≡ true → ReadsAs (h .«native_ptl») (h .«num_sublayers») (asWritten (h .«native_ptl») (h .«num_sublayers»))
+  reads e f =
+      let s = small h (ptl-part e f) in
+      P.round-trip (h .«native_ptl») (record { fits = s .ptl; info-is = t .info; subs-are = t .subs; subs-small = t .subs-small }) (h .«num_sublayers») (s .sublayers)
+
+  -- for every head and arrays that the writer accepts
+  pub read-after-write : (b : List ℕ) → writeFull h xs ≡ accept b → length b ≤ 2 ^ 30
+      → parseFull b ≡ accept (record { head = headRead h; consumed = length b; listLength = length (encode xs) }, encode xs)
+  unfolding writeFull
+  read-after-write b e l = go (eqb (h .«length_size») 3) refl (recordFits h xs) refl e
+    where
+      go : (c : Bool) → eqb (h .«length_size») 3 ≡ c → (d : Bool) → recordFits h xs ≡ d → (if c then refuse 3 else (if d then accept (fullBytes h xs) else refuse 22)) ≡ accept b
+          → parseFull b ≡ accept (record { head = headRead h; consumed = length b; listLength = length (encode xs) }, encode xs)
+      go true c d f x = let z : _≡_ {A = ℕ} 0 1 = cc in absurd (omega arith)
+      go false c false f x = let z : _≡_ {A = ℕ} 0 1 = cc in absurd (omega arith)
+      go false c true f x =
+          let is : fullBytes h xs ≡ b = cc in
+          let w : Writable h (asWritten (h .«native_ptl») (h .«num_sublayers»)) = record { fits = fitting-parts f; size = eqb-false (h .«length_size») 3 c; wide = t .wide; reads = reads (fitting-parts f) } in
+          subst (λ (v : List ℕ). length v ≤ 2 ^ 30 → parseFull v ≡ accept (record { head = headRead h; consumed = length v; listLength = length (encode xs) }, encode xs)) is
+          (read-written h (asWritten (h .«native_ptl») (h .«num_sublayers»)) xs w sound f) l
+
+-- a head with the flag whose PTL is as it is read comes back whole
+pub head-kept : (h : VvcConfig) → h .«ptl_present_flag» ≡ true → Canonical (h .«native_ptl») (h .«num_sublayers») → headRead h ≡ h
+head-kept h f c =
+    let q = kept (h .«native_ptl») (h .«num_sublayers») c in
+    subst (λ (b : Bool). readBack b h (asWritten (h .«native_ptl») (h .«num_sublayers»)) ≡ h) (sym f)
+    (ap (withPtl h) q ∙ whole h f)
+  where
+    whole : (h : VvcConfig) → h .«ptl_present_flag» ≡ true → withPtl h (h .«native_ptl») ≡ h
+    whole h f = let g = sym f in λ i. record {
+      «length_size» = h .«length_size»;
+      «ptl_present_flag» = g i;
+      «ols_idx» = h .«ols_idx»;
+      «num_sublayers» = h .«num_sublayers»;
+      «constant_frame_rate» = h .«constant_frame_rate»;
+      «chroma_format_idc» = h .«chroma_format_idc»;
+      «bit_depth_minus8» = h .«bit_depth_minus8»;
+      «native_ptl» = h .«native_ptl»;
+      «max_picture_width» = h .«max_picture_width»;
+      «max_picture_height» = h .«max_picture_height»;
+      «avg_frame_rate» = h .«avg_frame_rate»;
+    }

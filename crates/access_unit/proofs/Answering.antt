@@ -6,12 +6,11 @@ use mathlib.Core.Option.{Option}
 use native.Mathlib.Omega.{arith}
 use lib.ListN.{length, getD, take, drop, length-append}
 use lib.Seq.{sets, take-all, length-sets}
-use borrow.Author.Tests.{le-leb, lt-leb}
 use Rattle.error.specs.Outcome.{Outcome, accept, refuse, andThen, lentOutput, counted}
 use Rattle.boxes.specs.Parts.{nowhere}
 use Rattle.boxes.specs.Walk.{countFound, found}
 use Rattle.boxes.specs.declared.Span.{Span}
-use Rattle.boxes.proofs.Sets.{sets-append, sets-front}
+use Rattle.boxes.proofs.Sets.{sets-append}
 use Rattle.unit_list.specs.Answers.{listUnits}
 use Rattle.unit_list.specs.Find.{wantedList}
 use Rattle.unit_list.specs.declared.ListCursor.{ListCursor}
@@ -20,7 +19,8 @@ use Rattle.unit_list.proofs.Units.{list-every}
 use Rattle.full.specs.declared.VvcConfig.{VvcConfig}
 use Rattle.access_unit.specs.AccessUnit.{targetOf, leading, following, ofList, ofItem, accessUnit, assemble}
 use Rattle.access_unit.specs.Answers.{sourceAt}
-use Rattle.access_unit.specs.Inside.{Walks, keptLeft, unitsLeft, Gathered, gather, inOrder, sources, HasKept, bytesAt, foundBytes, PutsAll, firstOf, PutsFirst, FirstPut, gatheredBytes, PutsStream}
+use Rattle.unit_list.specs.Find.{unitsLeft}
+use Rattle.access_unit.specs.Inside.{Walks, keptLeft, Gathered, gather, inOrder, sources, HasKept, bytesAt, foundBytes, PutsAll, firstOf, PutsFirst, FirstPut, gatheredBytes, PutsStream}
 use Rattle.access_unit.specs.declared.sizes.Sizes.{Sizes}
 use Rattle.access_unit.specs.declared.stream.Places.{Places}
 use Rattle.access_unit.proofs.KeptUnits.{leads-and-follows, leading-take, following-drop}
@@ -68,21 +68,6 @@ module _ (h : VvcConfig) (list item : List ℕ) (tols target : Option ℕ) (is :
         given = assembled ∙ rw (n .found);
         long = ap (λ (w : Sizes). 4 * (w .listed + w .kept) + w .lengths) (n .sized) ∙ sym (stream-size list item (n .parts));
       }
-
--- a result of bytes in lent memory: refused, too long for it, stored
-module _ (o : Outcome (List ℕ)) (out : List ℕ) where
-  pub output-refused : (n : ℕ) → o ≡ refuse n → _≡_ {A = Outcome ℕ × List ℕ} (refuse n, out) (lentOutput (counted o) out)
-  output-refused n e = rw e
-
-  module _ (bytes : List ℕ) (e : o ≡ accept bytes) where
-    pub output-short : length out < length bytes → _≡_ {A = Outcome ℕ × List ℕ} (refuse 20, out) (lentOutput (counted o) out)
-    output-short h = rw (e, lt-leb (length bytes) (length out) h)
-
-    pub output-stored : (len : ℕ) → len ≡ length bytes → len ≤ length out → (after : List ℕ) → after ≡ sets out 0 bytes
-        → _≡_ {A = Outcome ℕ × List ℕ} (accept len, after) (lentOutput (counted o) out)
-    output-stored len l h after f =
-        let k : length bytes ≤ length out = omega arith in
-        rw (e, le-leb (length bytes) (length out) k, l, f, sets-front out bytes k)
 
 -- ### the stream stored in three parts
 

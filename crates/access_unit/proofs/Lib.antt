@@ -1,6 +1,5 @@
 pub mod Targets
 pub mod KeptUnits
-pub mod ListWalks
 pub mod Sums
 pub mod Streams
 pub mod Gathering

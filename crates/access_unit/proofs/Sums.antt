@@ -2,7 +2,7 @@
 use Prim.Native.Nat.{ℕ, suc, _+_, _^_, _≤_, _<_}
 use mathlib.Core.Path.{_≡_, refl, sym, ap, _∙_}
 use mathlib.Core.Bool.{Bool, true, false, _&&_}
-use mathlib.Core.List.{List, [], _∷_, _++_, map, map-append, append-assoc, append-nil}
+use mathlib.Core.List.{List, [], _∷_, _++_, map, map-append}
 use native.Mathlib.Omega.{arith}
 use native.Mathlib.Decide.{decLe}
 use lib.Dec.{eqb}
@@ -13,34 +13,11 @@ use Rattle.error.specs.Outcome.{Outcome, accept, refuse, andThen}
 use Rattle.boxes.specs.Parts.{held}
 use Rattle.boxes.specs.Walk.{more}
 use Rattle.boxes.specs.declared.Span.{Span}
+use Rattle.boxes.proofs.Walk.{after, after-nil, done-more, done-end, done-refused}
 use Rattle.unit_list.proofs.Accepted.{held-long}
 use Rattle.access_unit.specs.AccessUnit.{mayLead, leading}
 use Rattle.access_unit.specs.Inside.{lengths, adding, itemSum, listSum}
 use Rattle.access_unit.specs.declared.sizes.UnitSum.{UnitSum}
-
--- ### what is done, and what is left behind it
-
-abbrev pub after : List Span → Outcome (List Span) → Outcome (List Span)
-after done (accept us) = accept (done ++ us)
-after done (refuse e) = refuse e
-
-pub after-nil : (o : Outcome (List Span)) → after [] o ≡ o
-after-nil (accept us) = refl
-after-nil (refuse e) = refl
-
-module _ (done : List Span) (left whole : Outcome (List Span)) (so : after done left ≡ whole) where
-  pub done-more : (a : Span) (rest : Outcome (List Span)) → left ≡ more a rest → after (done ++ (a ∷ [])) rest ≡ whole
-  done-more a rest e = go rest ∙ ap (after done) (sym e) ∙ so
-    where
-      go : (o : Outcome (List Span)) → after (done ++ (a ∷ [])) o ≡ after done (more a o)
-      go (accept us) = ap accept (append-assoc done (a ∷ []) us)
-      go (refuse e) = refl
-
-  pub done-end : left ≡ accept [] → accept done ≡ whole
-  done-end e = ap accept (sym (append-nil done)) ∙ ap (after done) (sym e) ∙ so
-
-  pub done-refused : (n : ℕ) → left ≡ refuse n → refuse n ≡ whole
-  done-refused n e = ap (after done) (sym e) ∙ so
 
 -- ### one unit more
 

@@ -15,10 +15,6 @@ use Rattle.boxes.specs.Parts.{held}
 use Rattle.boxes.specs.Walk.{more}
 use Rattle.boxes.specs.declared.Span.{Span}
 use Rattle.unit_list.specs.Answers.{listUnits}
-use Rattle.unit_list.specs.Find.{wantedOf}
-use Rattle.unit_list.specs.Walk.{leftOf as listLeft}
-use Rattle.unit_list.specs.declared.ListCursor.{ListCursor}
-use Rattle.unit_list.specs.declared.Wanted.the-variants.{Every}
 use Rattle.hvcc.specs.Answers.{leftOf}
 use Rattle.hvcc.specs.Item.{splitItem}
 use Rattle.hvcc.specs.Stream.{annexB}
@@ -51,10 +47,6 @@ abbrev pub keptStepped : ℕ → Option ℕ → List ℕ → ItemStep → Outcom
 keptStepped size target item (I.Unit a next) = more a (keptLeft size target item next)
 keptStepped size target item I.End = accept []
 keptStepped size target item (I.Refused e) = refuse (numberOf e)
-
--- the units of a list behind a cursor: 21
-abbrev pub unitsLeft : List ℕ → ListCursor → Outcome (List Span)
-unitsLeft list c = wantedOf Every (listLeft list c)
 
 -- ### measured
 

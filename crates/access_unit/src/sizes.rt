@@ -13,9 +13,10 @@ ghost use Prim.Native.Nat.{_+_, _≤_, _<_, _^_};
 ghost use lib.ListN.{length};
 ghost use Rattle.error.specs.Outcome.{accept, andThen};
 ghost use Rattle.unit_list.specs.Walk.{Fits};
+ghost use Rattle.unit_list.specs.Find.{unitsLeft};
 ghost use Rattle.unit_list.specs.Answers.{listUnits};
 ghost use Rattle.access_unit.specs.Answers.{tolsOf};
-ghost use Rattle.access_unit.specs.Inside.{Walks, keptLeft, unitsLeft, adding, summedOf, itemSum, listSum, gather, sizesOf, sizesWith, measuredOf};
+ghost use Rattle.access_unit.specs.Inside.{Walks, keptLeft, adding, summedOf, itemSum, listSum, gather, sizesOf, sizesWith, measuredOf};
 
 // Units one after another: how many, how many of them may lead in front of all others, and the bytes that they hold.
 pub struct UnitSum {

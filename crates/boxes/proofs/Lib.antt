@@ -4,3 +4,4 @@ pub mod Many
 pub mod Fields
 pub mod Walk
 pub mod Lent
+pub mod Output

@@ -1,9 +1,14 @@
 -- What one step of a walk does to the count and to the one found as number k. One set of laws for lists, items and streams.
-use Prim.Native.Nat.{ℕ, zero, suc, _+_, _-_, _≤_, _<_}
+use Prim.Native.Nat.{ℕ, suc, _+_, _≤_, _<_}
 use native.Mathlib.Omega.{arith}
-use mathlib.Core.Path.{_≡_, refl, sym, ap}
-use mathlib.Core.List.{List, [], _∷_}
-use lib.ListN.{length, getD, List·getD-eq-default}
+use native.Mathlib.Decide.{decLe}
+use mathlib.Core.Path.{_≡_, refl, sym, ap, _∙_}
+use mathlib.Core.List.{List, [], _∷_, _++_, append-nil, append-assoc}
+use lib.Dec.{eqb}
+use lib.ListN.{length, getD, length-append, List·getD-append, List·getD-eq-default}
+use lib.Seq.{getD-at}
+use borrow.Author.Tests.{eq-eqb, ne-eqb}
+use Rattle.error.specs.Logic.{if_then_else_}
 use Rattle.error.specs.Outcome.{Outcome, accept, refuse}
 use Rattle.boxes.specs.Parts.{nowhere}
 use Rattle.boxes.specs.Walk.{more, countFound, found}
@@ -52,3 +57,42 @@ found-next a (refuse e) i h = absurd (omega arith)
 pub found-past : (o : Outcome (List Span)) (k : ℕ) → total o ≤ k → found o k ≡ nowhere
 found-past (accept xs) k h = List·getD-eq-default xs nowhere h
 found-past (refuse e) k h = refl
+
+-- ### a walk that keeps what it has passed: what is done, and what is left behind it
+
+abbrev pub after : List Span → Outcome (List Span) → Outcome (List Span)
+after done (accept us) = accept (done ++ us)
+after done (refuse e) = refuse e
+
+pub after-nil : (o : Outcome (List Span)) → after [] o ≡ o
+after-nil (accept us) = refl
+after-nil (refuse e) = refl
+
+module _ (done : List Span) (left whole : Outcome (List Span)) (so : after done left ≡ whole) where
+  pub done-more : (a : Span) (rest : Outcome (List Span)) → left ≡ more a rest → after (done ++ (a ∷ [])) rest ≡ whole
+  done-more a rest e = go rest ∙ ap (after done) (sym e) ∙ so
+    where
+      go : (o : Outcome (List Span)) → after (done ++ (a ∷ [])) o ≡ after done (more a o)
+      go (accept us) = ap accept (append-assoc done (a ∷ []) us)
+      go (refuse e) = refl
+
+  pub done-end : left ≡ accept [] → accept done ≡ whole
+  done-end e = ap accept (sym (append-nil done)) ∙ ap (after done) (sym e) ∙ so
+
+  pub done-refused : (n : ℕ) → left ≡ refuse n → refuse n ≡ whole
+  done-refused n e = ap (after done) (sym e) ∙ so
+
+-- number k, with one more at the end
+pub done-last : (done : List Span) (a : Span) (k : ℕ) → getD (done ++ (a ∷ [])) k nowhere ≡ (if eqb (length done) k then a else getD done k nowhere)
+done-last done a k =
+    let l = length-append done (a ∷ []) in
+    elim (decLe (length done) k) [
+      | no h ↦ rw (ne-eqb (length done) k (λ e. omega arith)) (List·getD-append done (a ∷ []) nowhere k (omega arith))
+      | yes h ↦
+          elim (decLe k (length done)) [
+            | yes g ↦ let e : length done ≡ k = omega arith in rw (eq-eqb (length done) k e) (getD-at done a [] nowhere k e)
+            | no g ↦
+                rw (ne-eqb (length done) k (λ e. omega arith), List·getD-eq-default done nowhere {n = k} h)
+                (List·getD-eq-default (done ++ (a ∷ [])) nowhere {n = k} (omega arith))
+          ]
+    ]

@@ -1,4 +1,3 @@
-pub mod Output
 pub mod Copying
 pub mod RecordUnits
 pub mod RecordRead

@@ -1,6 +1,6 @@
--- Laws of the units of a list that is walked to be written as a compact record: the next one, all measured, and the record's refusals.
+-- Laws of the units of a list that is walked to be written as a compact record: all measured, and the record's refusals.
 use Prim.Native.Nat.{ℕ, _+_, _-_, _*_, _^_, _≤_, _<_}
-use mathlib.Core.Path.{_≡_, refl, sym, ap, _∙_, subst}
+use mathlib.Core.Path.{_≡_, refl, sym, ap, _∙_}
 use mathlib.Core.Bool.{Bool, true, false, _&&_}
 use mathlib.Core.Logic.{_⊎_, ⊎-elim, inl, inr}
 use mathlib.Core.List.{List, [], _∷_, map}
@@ -15,65 +15,21 @@ use Rattle.error.specs.declared.Refusal.{Refusal}
 use Rattle.boxes.specs.Parts.{held}
 use Rattle.boxes.specs.Walk.{more}
 use Rattle.boxes.specs.declared.Span.{Span}
-use Rattle.unit_list.specs.UnitList.{encodeUnits}
-use Rattle.unit_list.specs.Walk.{TypedUnit, typedList, leftOf, started, stepped, Fits, Passed, StepFits}
-use Rattle.unit_list.specs.Find.{wantedUnits, wantedOf}
+use Rattle.unit_list.specs.UnitList.{encodeUnits, decode}
+use Rattle.unit_list.specs.Walk.{typedList, leftOf, started, arraysStarted, StartFits, stepped, Fits, StepFits}
+use Rattle.unit_list.specs.Find.{unitsLeft}
 use Rattle.unit_list.specs.declared.ListCursor.{ListCursor}
 use Rattle.unit_list.specs.declared.ListStart.{ListStart}
 use Rattle.unit_list.specs.declared.ListStart.the-variants as S
 use Rattle.unit_list.specs.declared.ListStep.{ListStep}
 use Rattle.unit_list.specs.declared.ListStep.the-variants as L
-use Rattle.unit_list.specs.declared.Wanted.the-variants.{Every}
-use types.Run.{OneOf}
-use denote.Enum.Declared.{tagOf}
-use Rattle.unit_list.proofs.ListStep.{the-type}
 use Rattle.unit_list.proofs.Accepted.{held-long}
-use Rattle.unit_list.proofs.Units.{list-every}
+use Rattle.unit_list.proofs.Turns.{ListTurn, list-found, list-end, list-malformed, start-units, start-refused}
 use Rattle.compact.specs.Compact.{allAtMost, compactBytes, bit, serializeCompact}
-use Rattle.compact.specs.Inside.{unitBytes, foundBytes, Copies, adding, addingAll, summed, nothing, unitsLeft, firstByte, recordOf}
+use Rattle.compact.specs.Inside.{unitBytes, foundBytes, Copies, adding, addingAll, summed, nothing, firstByte, recordOf}
 use Rattle.compact.specs.declared.CompactVvcConfig.{CompactVvcConfig}
 use Rattle.compact.specs.declared.list_units.UnitSum.{UnitSum}
 use Rattle.compact.proofs.Copying.{room-more}
-
-wanted-all : (x : TypedUnit) (o : Outcome (List TypedUnit)) → wantedOf Every (more x o) ≡ more (x .unit) (wantedOf Every o)
-unfolding wantedUnits
-wanted-all x (accept xs) = refl
-wanted-all x (refuse e) = refl
-
--- a step from `here`
-module _ (s : List ℕ) (here : ListCursor) (r : ListStep) (f : (stepped s r ≡ leftOf s here) × StepFits s here r) where
-  pub left-end : r ≡ L.End → unitsLeft s here ≡ accept []
-  unfolding wantedUnits
-  left-end e = ap (wantedOf Every) (sym (sym (ap (stepped s) e) ∙ f .0))
-
-  pub left-malformed : r ≡ L.Malformed → unitsLeft s here ≡ refuse 21
-  left-malformed e = ap (wantedOf Every) (sym (sym (ap (stepped s) e) ∙ f .0))
-
-  module _ (a : Span) (next : ListCursor) (e : r ≡ L.Unit a next) where
-    passed : (stepped s (L.Unit a next) ≡ leftOf s here) × Passed s here a next
-    passed = subst (λ (r : ListStep). (stepped s r ≡ leftOf s here) × StepFits s here r) e f
-
-    pub left-next : unitsLeft s here ≡ more a (unitsLeft s next)
-    left-next = ap (wantedOf Every) (sym (passed .0)) ∙ wanted-all (record { unit = a; unitType = next .«unit_type» }) (leftOf s next)
-
-    pub next-fits : Fits s next
-    next-fits = passed .1 .fits
-
-    pub next-ahead : here .at + 4 + a .len ≤ next .at
-    next-ahead = omega (arith, passed .1 .start, passed .1 .next)
-
-    pub unit-within : a .start + a .len ≤ length s
-    unit-within = omega (arith, passed .1 .next, next-fits .before, next-fits .within)
-
--- a step that found no unit
-pub left-none : (s : List ℕ) (here : ListCursor) (r : ListStep) → stepped s r ≡ leftOf s here → OneOf (1 ∷ 2 ∷ []) (tagOf the-type r)
-    → (unitsLeft s here ≡ accept []) ⊎ (unitsLeft s here ≡ refuse 21)
-unfolding wantedUnits
-left-none s here (L.Unit a next) e k = absurd (⊎-elim (λ h. omega arith) (λ h. omega arith) k)
-left-none s here L.End e k = inl (ap (wantedOf Every) (sym e))
-left-none s here L.Malformed e k = inr (ap (wantedOf Every) (sym e))
-
--- ### measured
 
 and-more : (a b c : Bool) → (a && b) && c ≡ a && (b && c)
 and-more true b c = refl
@@ -122,32 +78,29 @@ module _ (s : List ℕ) (c : ListCursor) where
   module _ (here : ListCursor) (v : UnitSum) (i : Summing s c here v) (r : ListStep) (f : (stepped s r ≡ leftOf s here) × StepFits s here r) where
     pub summing-end : r ≡ L.End → (accept v ≡ summed s nothing (unitsLeft s c)) × (v .room ≤ 2 ^ 32)
     summing-end e = (
-      ap accept (sym (adding-none s v)) ∙ ap (summed s v) (sym (left-end s here r f e)) ∙ i .whole,
+      ap accept (sym (adding-none s v)) ∙ ap (summed s v) (sym (list-end s here r f e)) ∙ i .whole,
       omega (arith, i .few, i .fits .before, i .fits .within, i .fits .lent),
     )
 
     pub summing-malformed : r ≡ L.Malformed → refuse 21 ≡ summed s nothing (unitsLeft s c)
-    summing-malformed e = ap (summed s v) (sym (left-malformed s here r f e)) ∙ i .whole
+    summing-malformed e = ap (summed s v) (sym (list-malformed s here r f e)) ∙ i .whole
 
     module _ (a : Span) (next : ListCursor) (e : r ≡ L.Unit a next) where
+      turn : ListTurn s here a next
+      turn = list-found s here r f a next e
+
       pub summing-room : v .count + v .room + a .len < 2 ^ 32
-      summing-room =
-          let n = next-fits s here r f a next e in
-          omega (arith, i .few, next-ahead s here r f a next e, n .before, n .within, n .lent)
+      summing-room = omega (arith, i .few, turn .ahead, turn .within, turn .passed .fits .lent)
 
       pub summing-less : length s - next .at < length s - here .at
-      summing-less =
-          let n = next-fits s here r f a next e in
-          omega (arith, next-ahead s here r f a next e, n .before, n .within)
+      summing-less = omega (arith, turn .ahead, turn .within)
 
       pub summing-again : Summing s c next (adding (a .len) v)
       summing-again =
           record {
-            fits = next-fits s here r f a next e;
-            few = omega (arith, i .few, next-ahead s here r f a next e);
-            whole =
-                summed-more s a (unit-within s here r f a next e) v (unitsLeft s next)
-                ∙ ap (summed s v) (sym (left-next s here r f a next e)) ∙ i .whole;
+            fits = turn .passed .fits;
+            few = omega (arith, i .few, turn .ahead);
+            whole = summed-more s a (turn .inside) v (unitsLeft s next) ∙ ap (summed s v) (sym (turn .rest)) ∙ i .whole;
           }
 
 -- what is known of a list once it is measured
@@ -238,14 +191,11 @@ module _ (c : CompactVvcConfig) (s : List ℕ) (o : Outcome (List Span)) (v : Un
           ∙ rw (l, m .found)
 
 -- the whole list, from its start
-module _ (c : CompactVvcConfig) (s : List ℕ) (r : ListStart) (f : started s r ≡ typedList s) where
+module _ (c : CompactVvcConfig) (s : List ℕ) (r : ListStart) (f : (started s r ≡ typedList s) × (arraysStarted s r ≡ decode s) × StartFits s r) where
   pub serialize-start : (d : ListCursor) → r ≡ S.At d → recordOf c s (unitsLeft s d) ≡ serializeCompact c s
   unfolding serializeCompact
-  serialize-start d e =
-      ap (λ (o : Outcome (List TypedUnit)). recordOf c s (wantedOf Every o)) (sym (ap (started s) e) ∙ f) ∙ ap (recordOf c s) (list-every s)
+  serialize-start d e = ap (recordOf c s) (start-units s r f d e)
 
   pub serialize-refused : (e : Refusal) → r ≡ S.Refused e → serializeCompact c s ≡ refuse (numberOf e)
   unfolding serializeCompact
-  serialize-refused n e =
-      sym (ap (recordOf c s) (list-every s))
-      ∙ ap (λ (o : Outcome (List TypedUnit)). recordOf c s (wantedOf Every o)) (sym (sym (ap (started s) e) ∙ f))
+  serialize-refused n e = ap (recordOf c s) (sym (start-refused s r f n e))

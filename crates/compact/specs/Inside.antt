@@ -11,10 +11,6 @@ use Rattle.boxes.specs.Bytes.{chunk}
 use Rattle.boxes.specs.Parts.{held}
 use Rattle.boxes.specs.declared.Span.{Span}
 use Rattle.unit_list.specs.UnitList.{encodeUnits}
-use Rattle.unit_list.specs.Walk.{leftOf}
-use Rattle.unit_list.specs.Find.{wantedOf}
-use Rattle.unit_list.specs.declared.ListCursor.{ListCursor}
-use Rattle.unit_list.specs.declared.Wanted.the-variants.{Every}
 use Rattle.compact.specs.Compact.{oneArray, allAtMost, bit, compactBytes}
 use Rattle.compact.specs.declared.CompactVvcConfig.{CompactVvcConfig}
 use Rattle.compact.specs.declared.record_units.UnitsRoom.{UnitsRoom}
@@ -66,10 +62,6 @@ foundList s (refuse e) = []
 -- the fields of a compact record's first byte
 abbrev pub configOf : ℕ → CompactVvcConfig
 configOf b = record { «multi_layer_flag» = eqb (b / 128) 1; «length_size» = b / 32 % 4 + 1 }
-
--- the units of a list behind a cursor: 21
-abbrev pub unitsLeft : List ℕ → ListCursor → Outcome (List Span)
-unitsLeft s c = wantedOf Every (leftOf s c)
 
 -- one unit more: its count, its bytes behind a length of one byte, and whether it is short enough for that
 abbrev pub adding : ℕ → UnitSum → UnitSum

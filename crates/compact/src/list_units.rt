@@ -1,12 +1,12 @@
 // For this crate's calls: the units of a unit list, measured and stored as a compact record.
 use super::CompactVvcConfig;
-use super::copied;
 use boxes::place;
 use error::Refusal;
 use error::Written;
 use unit_list::ListCursor;
 use unit_list::ListStep;
 use unit_list::walk;
+use unit_list::write;
 ghost use mathlib.Core.Path.{_≡_};
 ghost use mathlib.Core.List.{_∷_};
 ghost use Prim.Native.Nat.{_+_, _≤_, _<_, _^_};
@@ -14,7 +14,8 @@ ghost use lib.Seq.{sets};
 ghost use Rattle.error.specs.Outcome.{lentOutput, counted};
 ghost use Rattle.error.specs.Answers.{writtenOf};
 ghost use Rattle.unit_list.specs.Walk.{Fits};
-ghost use Rattle.compact.specs.Inside.{adding, summed, nothing, sumOf, SumFits, unitsLeft, Copies, foundBytes, firstByte, recordOf};
+ghost use Rattle.unit_list.specs.Find.{unitsLeft};
+ghost use Rattle.compact.specs.Inside.{adding, summed, nothing, sumOf, SumFits, Copies, foundBytes, firstByte, recordOf};
 
 // The units seen so far: how many, the bytes that they take behind lengths of one byte, and whether all fit such a length.
 pub struct UnitSum {
@@ -85,7 +86,7 @@ fn put_units(list: &[u8], c: ListCursor, out: &mut [u8], to: usize)
         let ListStep::Unit(a, next) = walk::step(list, here) else {
             return;
         };
-        copied::put_unit(list, a, out, at, 1);
+        write::put_unit(list, a, out, at, 1);
         at = at + 1 + a.len;
         here = next;
     }

@@ -1,6 +1,5 @@
 // For this crate's calls: the units of a compact record, measured and stored as a unit list.
 use super::CompactVvcConfig;
-use super::copied;
 use boxes::place;
 use unit_list::ChunkRead;
 use unit_list::walk;
@@ -61,7 +60,7 @@ fn put_units(record: &[u8], count: usize, out: &mut [u8], to: usize)
         let ChunkRead::Bytes(a) = walk::chunk(record, at, record.len(), 1) else {
             return;
         };
-        copied::put_unit(record, a, out, next, 4);
+        write::put_unit(record, a, out, next, 4);
         next = next + 4 + a.len;
         at = a.start + a.len;
         left -= 1;

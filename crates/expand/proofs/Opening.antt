@@ -1,23 +1,15 @@
--- Laws of a list whose units all read: what its start says of them.
+-- Laws of units that were counted: they all read, or give the count's refusal.
 use Prim.Native.Nat.{ℕ}
-use mathlib.Core.Path.{_≡_, refl, sym, ap, _∙_}
+use mathlib.Core.Path.{_≡_, refl, ap}
 use mathlib.Core.List.{List, map}
 use native.Mathlib.Omega.{arith}
 use Rattle.error.specs.Outcome.{Outcome, accept, refuse}
-use Rattle.error.specs.Refusals.{numberOf}
-use Rattle.error.specs.declared.Refusal.{Refusal}
 use Rattle.boxes.specs.Parts.{held}
 use Rattle.boxes.specs.Walk.{countFound}
 use Rattle.boxes.specs.declared.Span.{Span}
-use Rattle.unit_list.specs.Answers.{listUnits}
-use Rattle.unit_list.specs.Walk.{Fits, TypedUnit, typedList, started}
-use Rattle.unit_list.specs.Find.{wantedOf}
+use Rattle.unit_list.specs.Walk.{Fits}
+use Rattle.unit_list.specs.Find.{unitsLeft}
 use Rattle.unit_list.specs.declared.ListCursor.{ListCursor}
-use Rattle.unit_list.specs.declared.ListStart.{ListStart}
-use Rattle.unit_list.specs.declared.ListStart.the-variants as S
-use Rattle.unit_list.specs.declared.Wanted.the-variants.{Every}
-use Rattle.unit_list.proofs.Units.{list-every}
-use Rattle.compact.specs.Inside.{unitsLeft}
 use Rattle.expand.specs.Inside.{spansOf, unitsAt, Readable, heldUnits}
 
 module _ (s : List ℕ) (c : ListCursor) (n : ℕ) where
@@ -36,11 +28,3 @@ module _ (s : List ℕ) (c : ListCursor) (n : ℕ) where
       go : (o : Outcome (List Span)) → refuse n ≡ countFound o → refuse n ≡ heldUnits s o
       go (accept us) g = absurd (let z : _≡_ {A = ℕ} 0 1 = cc in omega arith)
       go (refuse m) g = let z : n ≡ m = cc in ap refuse z
-
--- the units behind the start of a list are all of its units
-module _ (s : List ℕ) (r : ListStart) (f : started s r ≡ typedList s) where
-  pub start-units : (c : ListCursor) → r ≡ S.At c → unitsLeft s c ≡ listUnits s
-  start-units c e = ap (wantedOf Every) (sym (ap (started s) e) ∙ f) ∙ list-every s
-
-  pub start-refusal : (e : Refusal) → r ≡ S.Refused e → refuse (numberOf e) ≡ heldUnits s (listUnits s)
-  start-refusal n e = ap (λ (o : Outcome (List TypedUnit)). heldUnits s (wantedOf Every o)) (sym (ap (started s) e) ∙ f) ∙ ap (heldUnits s) (list-every s)

@@ -12,13 +12,13 @@ use Rattle.boxes.specs.Parts.{held}
 use Rattle.boxes.specs.Walk.{more}
 use Rattle.boxes.specs.declared.Span.{Span}
 use Rattle.unit_list.specs.Walk.{leftOf, stepped, StepFits}
+use Rattle.unit_list.specs.Find.{unitsLeft}
 use Rattle.unit_list.specs.declared.ListCursor.{ListCursor}
 use Rattle.unit_list.specs.declared.ListStep.{ListStep}
 use Rattle.unit_list.specs.declared.ListStep.the-variants as L
 use Rattle.unit_list.proofs.ListStep.{the-type}
 use Rattle.unit_list.proofs.Accepted.{held-long}
-use Rattle.compact.specs.Inside.{unitsLeft}
-use Rattle.compact.proofs.ListUnits.{left-none, left-next, next-fits, next-ahead, unit-within}
+use Rattle.unit_list.proofs.Turns.{ListTurn, list-found, list-stops}
 use Rattle.expand.specs.Inside.{spansOf, unitsAt, Readable}
 
 -- a step that found no unit: there is none
@@ -26,7 +26,7 @@ pub none-left : (s : List ℕ) (here : ListCursor) (r : ListStep) → stepped s 
 unfolding unitsAt
 none-left s here r e k =
     let f : Outcome (List Span) → List (List ℕ) = λ o. map (held s) (spansOf o) in
-    ⊎-elim (λ h. ap f h) (λ h. ap f h) (left-none s here r e k)
+    ⊎-elim (λ h. ap f h) (λ h. ap f h) (list-stops s here r e k)
 
 -- one turn of a walk: the unit at a, and the others from `next` on
 pub record Turn (s : List ℕ) (here : ListCursor) (a : Span) (next : ListCursor) : Type 0 where
@@ -40,26 +40,27 @@ pub record Turn (s : List ℕ) (here : ListCursor) (a : Span) (next : ListCursor
 
 module _ (s : List ℕ) (here : ListCursor) (r : ListStep) (f : (stepped s r ≡ leftOf s here) × StepFits s here r) (i : Readable s here) where
   module _ (a : Span) (next : ListCursor) (e : r ≡ L.Unit a next) where
+    turn : ListTurn s here a next
+    turn = list-found s here r f a next e
+
     reads : (o : Outcome (List Span)) → unitsLeft s next ≡ o → Readable s next × (unitsAt s here ≡ held s a ∷ unitsAt s next)
     unfolding unitsAt
-    reads (refuse n) g = let h = i .left in let k = left-next s here r f a next e in let z : _≡_ {A = ℕ} 0 1 = cc in absurd (omega arith)
+    reads (refuse n) g = let h = i .left in let k = turn .rest in let z : _≡_ {A = ℕ} 0 1 = cc in absurd (omega arith)
     reads (accept us) g = (
-      record { fits = next-fits s here r f a next e; spans = us; left = g },
-      ap (λ (o : Outcome (List Span)). map (held s) (spansOf o)) (left-next s here r f a next e ∙ ap (more a) g)
+      record { fits = turn .passed .fits; spans = us; left = g },
+      ap (λ (o : Outcome (List Span)). map (held s) (spansOf o)) (turn .rest ∙ ap (more a) g)
           ∙ ap (λ (o : Outcome (List Span)). held s a ∷ map (held s) (spansOf o)) (sym g),
     )
 
     pub turned : Turn s here a next
     turned =
-        let q = next-fits s here r f a next e in
         let h = reads (unitsLeft s next) refl in
-        let inside = unit-within s here r f a next e in
         record {
           units = h .1;
           readable = h .0;
-          inside = inside;
-          long = held-long s a inside;
-          ahead = next-ahead s here r f a next e;
-          within = omega (arith, q .before, q .within);
-          lent = q .lent;
+          inside = turn .inside;
+          long = held-long s a (turn .inside);
+          ahead = turn .ahead;
+          within = turn .within;
+          lent = turn .passed .fits .lent;
         }

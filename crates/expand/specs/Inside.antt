@@ -12,13 +12,13 @@ use Rattle.boxes.specs.Parts.{held}
 use Rattle.boxes.specs.declared.Span.{Span}
 use Rattle.unit_list.specs.UnitList.{encode}
 use Rattle.unit_list.specs.Walk.{Fits}
+use Rattle.unit_list.specs.Find.{unitsLeft}
 use Rattle.unit_list.specs.declared.ListCursor.{ListCursor}
 use Rattle.unit_list.specs.declared.ListStart.{ListStart}
 use Rattle.unit_list.specs.declared.ListStart.the-variants as S
 use Rattle.ptl.specs.Ptl.{zeroPtl}
 use Rattle.ptl.specs.declared.VvcPtlRecord.{VvcPtlRecord}
 use Rattle.params.specs.Heads.{parseSps, vpsFirstPtl}
-use Rattle.compact.specs.Inside.{unitsLeft}
 use Rattle.full.specs.declared.VvcConfig.{VvcConfig}
 use Rattle.expand.specs.Expand.{havingType, first, grouped, multiLayerVps, ptlOfSets, FullHead, withList}
 use Rattle.expand.specs.declared.units.FirstUnit.{FirstUnit}

@@ -1,6 +1,5 @@
 // For this crate's calls: the units behind a cursor, measured and stored as arrays, one for each type.
 use super::units;
-use boxes::Span;
 use boxes::place;
 use unit_list::ListCursor;
 use unit_list::ListStep;
@@ -10,8 +9,6 @@ ghost use mathlib.Core.Path.{_≡_};
 ghost use Prim.Native.Nat.{_+_, _≤_, _<_, _^_};
 ghost use lib.ListN.{length};
 ghost use lib.Seq.{sets};
-ghost use Rattle.boxes.specs.Bytes.{toChunk};
-ghost use Rattle.boxes.specs.Parts.{held};
 ghost use Rattle.unit_list.specs.UnitList.{encodeUnits, encodeArray, encodeArrays, encode};
 ghost use Rattle.expand.specs.Expand.{havingType, group, grouped};
 ghost use Rattle.expand.specs.Inside.{Readable, unitsAt};
@@ -58,15 +55,6 @@ pub fn groups_len(list: &[u8], c: ListCursor) -> usize
     }
 }
 
-// Stores the unit at a span behind its length of 4 bytes.
-fn put_unit(list: &[u8], a: Span, out: &mut [u8], at: usize)
-    requires { ⌜ (a .start + a .len ≤ length (now list)) × (at + 4 + a .len ≤ length (now out)) ⌝ }
-    ensures { λ _. ⌜ now (out .exit) ≡ sets (now (out .entry)) at (toChunk 4 (held (now (list .entry)) a)) ⌝ }
-{
-    let unit = place::part(list, a);
-    write::put_chunk(unit, out, at, 4);
-}
-
 // Stores the units of a type from a place on; the place behind them.
 fn put_group_units(list: &[u8], c: ListCursor, t: u8, out: &mut [u8], at: usize) -> usize
     requires { ⌜ Readable (now list) c × (at + length (encodeUnits 4 (havingType t (unitsAt (now list) c))) ≤ length (now out)) ⌝ }
@@ -80,7 +68,7 @@ fn put_group_units(list: &[u8], c: ListCursor, t: u8, out: &mut [u8], at: usize)
             return to;
         };
         if units::unit_type(list, a) == t {
-            put_unit(list, a, out, to);
+            write::put_unit(list, a, out, to, 4);
             to = to + 4 + a.len;
         }
         here = next;

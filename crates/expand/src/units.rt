@@ -16,7 +16,7 @@ ghost use Rattle.boxes.specs.Parts.{held};
 ghost use Rattle.nal.specs.Header.{typeOr31};
 ghost use Rattle.unit_list.specs.Walk.{Fits};
 ghost use Rattle.unit_list.specs.Answers.{listUnits};
-ghost use Rattle.compact.specs.Inside.{unitsLeft};
+ghost use Rattle.unit_list.specs.Find.{unitsLeft};
 ghost use Rattle.expand.specs.Expand.{havingType, first};
 ghost use Rattle.expand.specs.Inside.{Readable, unitsAt, firstOf, FirstFits, startedUnits, StartReads, heldUnits};
 

@@ -1,8 +1,6 @@
 // For this crate's call: the arrays of a full record, known to be there, stored as those of a unit list.
 use super::arrays;
 use super::arrays::ArrayHeadRead;
-use boxes::Span;
-use boxes::place;
 use unit_list::ChunkRead;
 use unit_list::walk;
 use unit_list::write;
@@ -11,8 +9,7 @@ ghost use Prim.Native.Nat.{_+_, _≤_, _^_};
 ghost use lib.ListN.{length};
 ghost use lib.Seq.{sets};
 ghost use Rattle.error.specs.Parse.{times};
-ghost use Rattle.boxes.specs.Bytes.{chunk, toChunk};
-ghost use Rattle.boxes.specs.Parts.{held};
+ghost use Rattle.boxes.specs.Bytes.{chunk};
 ghost use Rattle.full.specs.Read.{recordArray};
 ghost use Rattle.full_read.specs.Inside.{unitsBytes, arrayBytes, arraysBytes, storedBytes, Stores, StoredAt};
 
@@ -20,15 +17,6 @@ ghost use Rattle.full_read.specs.Inside.{unitsBytes, arrayBytes, arraysB
 pub struct Stored {
     pub from: usize,
     pub to: usize,
-}
-
-// Stores the unit at a span of the record behind a length of four bytes.
-fn put_unit(record: &[u8], a: Span, out: &mut [u8], at: usize)
-    requires { ⌜ (a .start + a .len ≤ length (now «record»)) × (at + 4 + a .len ≤ length (now out)) ⌝ }
-    ensures { λ _. ⌜ now (out .exit) ≡ sets (now (out .entry)) at (toChunk 4 (held (now («record» .entry)) a)) ⌝ }
-{
-    let unit = place::part(record, a);
-    write::put_chunk(unit, out, at, 4);
 }
 
 // Stores `count` units of the record from a place on.
@@ -43,7 +31,7 @@ fn put_units(record: &[u8], from: usize, count: usize, out: &mut [u8], to: usize
         let ChunkRead::Bytes(a) = walk::chunk(record, at, record.len(), 2) else {
             return Stored { from: at, to: next };
         };
-        put_unit(record, a, out, next);
+        write::put_unit(record, a, out, next, 4);
         next = next + 4 + a.len;
         at = a.start + a.len;
         left -= 1;

@@ -1,4 +1,3 @@
-pub mod Output
 pub mod Measures
 pub mod Stores
 pub mod Heads

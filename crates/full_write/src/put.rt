@@ -1,7 +1,6 @@
 // For this crate's call: the arrays of a list stored as those of a full record.
 use super::measure;
 use super::measure::Measured;
-use boxes::Span;
 use boxes::place;
 use unit_list::ArrayStep;
 use unit_list::ListCursor;
@@ -12,19 +11,8 @@ ghost use mathlib.Core.Path.{_≡_};
 ghost use Prim.Native.Nat.{_+_, _≤_, _^_};
 ghost use lib.ListN.{length};
 ghost use lib.Seq.{sets};
-ghost use Rattle.boxes.specs.Bytes.{toChunk};
-ghost use Rattle.boxes.specs.Parts.{held};
 ghost use Rattle.unit_list.specs.Walk.{Fits, unitsFrom, arraysFrom};
 ghost use Rattle.full_write.specs.Inside.{Puts, bytesOf, unitsBytes, countBytes, arrayBytesBy, arraysBytesAt};
-
-// Stores the unit at a span of a list behind its length of two bytes.
-fn put_unit(list: &[u8], a: Span, out: &mut [u8], to: usize)
-    requires { ⌜ (a .start + a .len ≤ length (now list)) × (to + 2 + a .len ≤ length (now out)) ⌝ }
-    ensures { λ _. ⌜ now (out .exit) ≡ sets (now (out .entry)) to (toChunk 2 (held (now (list .entry)) a)) ⌝ }
-{
-    let unit = place::part(list, a);
-    write::put_chunk(unit, out, to, 2);
-}
 
 // Stores the units behind a cursor, up to the end of its array, and gives the place behind them.
 fn put_units(list: &[u8], c: ListCursor, out: &mut [u8], to: usize) -> usize
@@ -37,7 +25,7 @@ fn put_units(list: &[u8], c: ListCursor, out: &mut [u8], to: usize) -> usize
         let ListStep::Unit(a, next) = walk::unit_step(list, here) else {
             return at;
         };
-        put_unit(list, a, out, at);
+        write::put_unit(list, a, out, at, 2);
         at = at + 2 + a.len;
         here = next;
     }

@@ -10,8 +10,9 @@ use Rattle.error.specs.Outcome.{Outcome, accept, andThen}
 use Rattle.error.specs.Answers.{countOf}
 use Rattle.boxes.specs.Walk.{countFound, found}
 use Rattle.boxes.specs.declared.Span.{Span}
-use Rattle.unit_list.specs.Walk.{TypedUnit, typedList}
+use Rattle.unit_list.specs.Walk.{TypedUnit, typedList, leftOf}
 use Rattle.unit_list.specs.declared.Found.{Found}
+use Rattle.unit_list.specs.declared.ListCursor.{ListCursor}
 use Rattle.unit_list.specs.declared.Wanted.{Wanted}
 use Rattle.unit_list.specs.declared.Wanted.the-variants.{Every, OfType}
 use Rattle.unit_list.specs.declared.find.Seen.{Seen}
@@ -28,6 +29,10 @@ wantedUnits w (x ∷ xs) = if wants w (x .unitType) then x .unit ∷ wantedUnits
 
 abbrev pub wantedOf : Wanted → Outcome (List TypedUnit) → Outcome (List Span)
 wantedOf w o = andThen o (λ xs. accept (wantedUnits w xs))
+
+-- all units behind a cursor: 21
+abbrev pub unitsLeft : List ℕ → ListCursor → Outcome (List Span)
+unitsLeft s c = wantedOf Every (leftOf s c)
 
 -- the wanted units of a list: 23, 21
 abbrev pub wantedList : Wanted → List ℕ → Outcome (List Span)

@@ -1,4 +1,5 @@
 // For the crates further down: the pieces of a list, stored at a place of lent memory.
+use boxes::Span;
 use boxes::place;
 ghost use mathlib.Core.Path.{_≡_};
 ghost use mathlib.Core.List.{[], _∷_, _++_};
@@ -6,6 +7,7 @@ ghost use Prim.Native.Nat.{_+_, _≤_};
 ghost use lib.ListN.{length};
 ghost use lib.Seq.{sets};
 ghost use Rattle.boxes.specs.Bytes.{toBe, toChunk};
+ghost use Rattle.boxes.specs.Parts.{held};
 
 // What stands before an array's units: the length of its rest, complete, type.
 pub fn put_array_head(out: &mut [u8], at: usize, rest: usize, complete: u8, unit_type: u8)
@@ -24,4 +26,13 @@ pub fn put_chunk(src: &[u8], out: &mut [u8], at: usize, width: usize)
 {
     place::put_number(out, at, width, src.len());
     place::copy(src, out, at + width);
+}
+
+// The bytes at a span of `src`, behind their length of `width` bytes.
+pub fn put_unit(src: &[u8], a: Span, out: &mut [u8], at: usize, width: usize)
+    requires { ⌜ (a .start + a .len ≤ length (now src)) × (width ≤ 4) × (at + width + a .len ≤ length (now out)) ⌝ }
+    ensures { λ _. ⌜ now (out .exit) ≡ sets (now (out .entry)) at (toChunk width (held (now (src .entry)) a)) ⌝ }
+{
+    let unit = place::part(src, a);
+    put_chunk(unit, out, at, width);
 }

@@ -6,8 +6,9 @@ use Rattle.access_unit.specs.Answers.{tolsOf}
 use Rattle.access_unit.specs.Inside.{measuredOf}
 use Rattle.access_unit.specs.declared.sizes.Sizes.{Sizes}
 use Rattle.access_unit.specs.declared.sizes.Measured.the-variants.{Sized}
+use Rattle.boxes.proofs.Output.{written-refused, written-short, written-fits}
 use Rattle.access_unit.proofs.Gathering.{Known, known, unknown, known-small}
-use Rattle.access_unit.proofs.Answering.{assemble-unknown, Assembled, assemble-known, output-refused, output-short, output-stored, puts-stream}
+use Rattle.access_unit.proofs.Answering.{assemble-unknown, Assembled, assemble-known, puts-stream}
 use borrow.Author.Needs.{needs}
 use native.Mathlib.Omega.{arith}
 use Rattle.access_unit.proofs.access_unit_annex_b.Statement.{statement}
@@ -41,7 +42,7 @@ returns : tie.Need-returns
 returns c =
     let a = c .before .before .before .before .before .before .before .before .before .before .before .args in
     let m = made-at (c .before .before .before .before .before .before) _ (c .before .before .before .before .measured .given .1) in
-    output-short (assemble (a .head) (a .list .now) (a .item .now) (tolsOf (a .tols))) (a .out .now) (m .bytes) (m .given) (omega (arith, c .before .stream-len .ensures, m .long))
+    written-short (assemble (a .head) (a .list .now) (a .item .now) (tolsOf (a .tols))) (a .out .now) (m .bytes) (m .given) (omega (arith, c .before .stream-len .ensures, m .long))
 
 put-stream-requires : tie.Need-put-stream-requires
 put-stream-requires c κs =
@@ -58,13 +59,13 @@ returns-2 : tie.Need-returns-2
 returns-2 c =
     let a = c .before .before .before .before .before .before .before .before .before .before .before .before .before .before .before .args in
     let m = made-at (c .before .before .before .before .before .before .before .before .before .before) _ (c .before .before .before .before .before .before .before .before .measured .given .1) in
-    output-stored (assemble (a .head) (a .list .now) (a .item .now) (tolsOf (a .tols))) (a .out .now) (m .bytes) (m .given)
-    _ (c .before .before .before .before .before .stream-len .ensures ∙ m .long) (c .before .before .before .before .if1 .left) _ (c .before .before .put-stream .ensures ∙ ap (sets (a .out .now) 0) (m .found))
+    written-fits (assemble (a .head) (a .list .now) (a .item .now) (tolsOf (a .tols))) (a .out .now) (m .bytes) (m .given)
+    _ _ (c .before .before .before .before .before .stream-len .ensures ∙ m .long) (c .before .before .before .before .if1 .left) (c .before .before .put-stream .ensures ∙ ap (sets (a .out .now) 0) (m .found))
 
 returns-3 : tie.Need-returns-3
 returns-3 c =
     let a = c .before .before .before .before .before .before .before .before .args in
-    output-refused (assemble (a .head) (a .list .now) (a .item .now) (tolsOf (a .tols))) (a .out .now) _
+    written-refused (assemble (a .head) (a .list .now) (a .item .now) (tolsOf (a .tols))) (a .out .now) _
     (assemble-unknown (a .head) (a .list .now) (a .item .now) (tolsOf (a .tols)) _ (c .before .before .before .before .target-of .ensures) _
     (unknown _ _ _ _ _ (ap measuredOf (sym (c .before .measured2 .given .1)) ∙ c .before .before .before .measure .ensures)))
 

@@ -10,7 +10,7 @@ use Rattle.unit_list.specs.Walk.{arraysFrom}
 use Rattle.full.specs.Write.{headFits, fullBytes}
 use Rattle.unit_list.specs.UnitList.{heldArrays}
 use Rattle.full_write.specs.Inside.{measureOf, ArraysWithin, recordOf}
-use Rattle.full_write.proofs.Output.{written-refused, written-short, written-fits}
+use Rattle.boxes.proofs.Output.{written-refused, written-short, written-fits}
 use Rattle.full_write.proofs.Records.{Known, known, fits-parts, record-refused, record-three, record-wide, record-given, length-record, arrays-put, record-stored}
 use Rattle.full_write.proofs.put_record.Statement.{statement}
 use Rattle.full_write.proofs.put_record.Tie as tie

@@ -7,7 +7,7 @@ use Rattle.error.specs.Outcome.{Outcome, refuse, lentOutput, counted}
 use Rattle.error.specs.Refusals.{numberOf}
 use Rattle.unit_list.specs.Walk.{StartFits, arraysStarted, arraysFrom}
 use Rattle.full.specs.Write.{serializeFull}
-use Rattle.full_write.proofs.Output.{written-refused}
+use Rattle.boxes.proofs.Output.{written-refused}
 use Rattle.full_write.proofs.Records.{serialize-arrays}
 use Rattle.full_write.proofs.serialize.Statement.{statement}
 use Rattle.full_write.proofs.serialize.Tie as tie

@@ -4,7 +4,7 @@ use mathlib.Core.List.{List}
 use Rattle.error.specs.Outcome.{Outcome, accept, andThen}
 use Rattle.boxes.specs.declared.Span.{Span}
 use Rattle.access_unit.specs.Inside.{listSum}
-use Rattle.access_unit.proofs.ListWalks.{start-fits, start-units, start-refused}
+use Rattle.unit_list.proofs.Turns.{start-fits, start-units, start-refused}
 use borrow.Author.Needs.{needs}
 use Rattle.access_unit.proofs.sizes.list_sum.Statement.{statement}
 use Rattle.access_unit.proofs.sizes.list_sum.Tie as tie

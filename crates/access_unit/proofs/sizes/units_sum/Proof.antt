@@ -3,8 +3,9 @@ use Prim.Native.Nat.{_-_}
 use mathlib.Core.Bool.{false}
 use lib.ListN.{length}
 use Rattle.unit_list.specs.Walk.{Fits}
-use Rattle.access_unit.specs.Inside.{unitsLeft, listSum}
-use Rattle.access_unit.proofs.ListWalks.{ListTurn, list-found, list-end, list-malformed}
+use Rattle.unit_list.specs.Find.{unitsLeft}
+use Rattle.access_unit.specs.Inside.{listSum}
+use Rattle.unit_list.proofs.Turns.{ListTurn, list-found, list-end, list-malformed}
 use Rattle.access_unit.proofs.Sums.{Summing, summing-start, summing-small, summing-more, summing-end, summing-refused, list-sum-none, list-sum-more}
 use borrow.Author.Needs.{needs}
 use native.Mathlib.Omega.{arith}

@@ -1,6 +1,6 @@
 -- `stream::put_stream` stores the stream of an access unit: what leads, the list's units, the rest.
 use Rattle.access_unit.specs.Answers.{tolsOf}
-use Rattle.access_unit.proofs.ListWalks.{start-fits, start-units, start-refused}
+use Rattle.unit_list.proofs.Turns.{start-fits, start-units, start-refused}
 use Rattle.access_unit.proofs.Answering.{puts-listable, lead-le, puts-leading, puts-listed, puts-following, put-whole}
 use borrow.Author.Needs.{needs}
 use native.Mathlib.Omega.{arith}

@@ -3,8 +3,9 @@ use Prim.Native.Nat.{_+_, _-_}
 use lib.ListN.{length}
 use lib.Seq.{sets}
 use Rattle.unit_list.specs.Walk.{Fits}
-use Rattle.access_unit.specs.Inside.{unitsLeft, foundBytes}
-use Rattle.access_unit.proofs.ListWalks.{ListTurn, list-found, list-none}
+use Rattle.unit_list.specs.Find.{unitsLeft}
+use Rattle.access_unit.specs.Inside.{foundBytes}
+use Rattle.unit_list.proofs.Turns.{ListTurn, list-found, list-none}
 use Rattle.access_unit.proofs.Streams.{Remaining, remaining-start, remaining-room, remaining-more, remaining-end}
 use borrow.Author.Needs.{needs}
 use native.Mathlib.Omega.{arith}

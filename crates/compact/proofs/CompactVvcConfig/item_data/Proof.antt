@@ -4,7 +4,7 @@ use mathlib.Core.Path.{sym, ap, _∙_}
 use mathlib.Core.List.{List}
 use borrow.Author.Needs.{needs}
 use Rattle.error.specs.Outcome.{Outcome, lentOutput, counted}
-use Rattle.compact.proofs.Output.{written-refused}
+use Rattle.boxes.proofs.Output.{written-refused}
 use Rattle.compact.proofs.Stills.{restore-too-long, restore-copy, restore-unit}
 use Rattle.compact.proofs.CompactVvcConfig.item_data.Statement.{statement}
 use Rattle.compact.proofs.CompactVvcConfig.item_data.Tie as tie

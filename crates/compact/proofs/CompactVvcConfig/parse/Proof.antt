@@ -9,7 +9,7 @@ use lib.Seq.{sets}
 use Rattle.boxes.specs.Parts.{held}
 use Rattle.compact.specs.Compact.{oneArray, parseCompact}
 use Rattle.compact.specs.Inside.{recordUnits, roomOf, RoomFits, configOf}
-use Rattle.compact.proofs.Output.{output-refused, output-short, output-fits}
+use Rattle.boxes.proofs.Output.{output-refused, output-short, output-fits}
 use Rattle.compact.proofs.RecordUnits.{Measured, measured-units, measured-copies, measured-room, measured-list, measured-refused, list-long}
 use Rattle.compact.proofs.RecordRead.{parse-too-long, parse-empty, parse-short, parse-over, parse-read}
 use Rattle.compact.proofs.CompactVvcConfig.parse.Statement.{statement}

@@ -5,7 +5,7 @@ use mathlib.Core.List.{List}
 use borrow.Author.Needs.{needs}
 use Rattle.error.specs.Outcome.{Outcome, lentOutput, counted}
 use Rattle.unit_list.specs.Walk.{StartFits}
-use Rattle.compact.proofs.Output.{written-refused}
+use Rattle.boxes.proofs.Output.{written-refused}
 use Rattle.compact.proofs.ListUnits.{serialize-start, serialize-refused}
 use Rattle.compact.proofs.CompactVvcConfig.serialize.Statement.{statement}
 use Rattle.compact.proofs.CompactVvcConfig.serialize.Tie as tie
@@ -31,14 +31,14 @@ returns c =
     let s = c .before .before .before .before .before .before .before .start in
     let g = c .before .before .before .before .before .c .given in
     c .before .before .put-record .ensures
-    ∙ ap (λ (o : Outcome (List ℕ)). lentOutput (counted o) (a .out .now)) (serialize-start (a .self) (a .list .now) (s .result) (s .ensures .0) (g .0 .0) (g .1))
+    ∙ ap (λ (o : Outcome (List ℕ)). lentOutput (counted o) (a .out .now)) (serialize-start (a .self) (a .list .now) (s .result) (s .ensures) (g .0 .0) (g .1))
 
 returns-2 : tie.Need-returns-2
 returns-2 c =
     let a = c .before .before .before .before .before .before .args in
     let s = c .before .before .before .start in
     let g = c .before .e .given in
-    written-refused _ (a .out .now) _ (serialize-refused (a .self) (a .list .now) (s .result) (s .ensures .0) (g .0 .0) (g .1))
+    written-refused _ (a .out .now) _ (serialize-refused (a .self) (a .list .now) (s .result) (s .ensures) (g .0 .0) (g .1))
 
 pub serialize-spec : {M : Type 1} → statement M
 serialize-spec =

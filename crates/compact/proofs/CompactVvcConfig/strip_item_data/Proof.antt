@@ -8,7 +8,7 @@ use Rattle.error.specs.Outcome.{Outcome, accept, lentOutput, counted}
 use Rattle.boxes.specs.Parts.{held}
 use Rattle.compact.specs.ItemData.{strip}
 use Rattle.compact.specs.Inside.{payloadOf, PayloadFits}
-use Rattle.compact.proofs.Output.{written-refused}
+use Rattle.boxes.proofs.Output.{written-refused}
 use Rattle.compact.proofs.Stills.{strip-too-long, strip-copy, strip-unit}
 use Rattle.compact.proofs.CompactVvcConfig.strip_item_data.Statement.{statement}
 use Rattle.compact.proofs.CompactVvcConfig.strip_item_data.Tie as tie

@@ -3,7 +3,7 @@ use mathlib.Core.Path.{refl}
 use native.Mathlib.Omega.{arith}
 use borrow.Author.Needs.{needs}
 use Rattle.error.specs.Outcome.{accept}
-use Rattle.compact.proofs.Output.{written-short, written-fits}
+use Rattle.boxes.proofs.Output.{written-short, written-fits}
 use Rattle.compact.proofs.copied.put_all.Statement.{statement}
 use Rattle.compact.proofs.copied.put_all.Tie as tie
 

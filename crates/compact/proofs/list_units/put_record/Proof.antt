@@ -9,8 +9,9 @@ use borrow.Author.Needs.{needs}
 use borrow.Author.Tests.{ltb-true, ltb-false, not-true, not-false}
 use lib.ListN.{length}
 use Rattle.error.specs.Outcome.{accept}
-use Rattle.compact.specs.Inside.{sumOf, SumFits, foundBytes, unitsLeft, recordOf, firstByte}
-use Rattle.compact.proofs.Output.{written-refused, written-short, written-fits}
+use Rattle.unit_list.specs.Find.{unitsLeft}
+use Rattle.compact.specs.Inside.{sumOf, SumFits, foundBytes, recordOf, firstByte}
+use Rattle.boxes.proofs.Output.{written-refused, written-short, written-fits}
 use Rattle.compact.proofs.ListUnits.{Sum, sum-of, sum-refused, record-room, record-copies, record-size, record-count, record-long, record-given}
 use Rattle.compact.proofs.list_units.put_record.Statement.{statement}
 use Rattle.compact.proofs.list_units.put_record.Tie as tie

@@ -1,13 +1,13 @@
 -- `list_units::put_units` stores the units behind a cursor. The loop's invariant: those stored and those left make the whole.
-use Prim.Native.Nat.{ℕ, _+_, _-_, _≤_, _<_}
+use Prim.Native.Nat.{_+_, _-_, _≤_}
 use mathlib.Core.Logic.{⊎-elim}
 use native.Mathlib.Omega.{arith}
 use borrow.Author.Needs.{needs}
 use lib.ListN.{length}
 use Rattle.unit_list.specs.Walk.{Fits}
-use Rattle.compact.specs.Inside.{unitsLeft}
+use Rattle.unit_list.specs.Find.{unitsLeft}
+use Rattle.unit_list.proofs.Turns.{ListTurn, list-found, list-stops}
 use Rattle.compact.proofs.Copying.{Copying, copying-start, copying-never, copying-end, copying-room, copying-again}
-use Rattle.compact.proofs.ListUnits.{left-next, left-none, next-fits, next-ahead, unit-within}
 use Rattle.compact.proofs.list_units.put_units.Statement.{statement}
 use Rattle.compact.proofs.list_units.put_units.Tie as tie
 
@@ -37,27 +37,20 @@ returns c =
     let l = c .before .before in
     let t = c .before .step in
     ⊎-elim (λ e. copying-end _ _ _ _ _ _ _ _ (l .loop .inv .1) e) (λ e. absurd (copying-never _ _ _ _ _ _ _ _ (l .loop .inv .1) 21 e))
-    (left-none (l .before .before .before .args .list .now) (l .loop .here) (t .result) (t .ensures .0) (c .match .keys2))
+    (list-stops (l .before .before .before .args .list .now) (l .loop .here) (t .result) (t .ensures .0) (c .match .keys2))
 
--- a place ahead leaves less of the list
-less : (n p q e k : ℕ) → p + 4 + k ≤ q → q ≤ e → e ≤ n → n - q < n - p
-less n p q e k h i j = omega arith
+-- the unit that the step found
+turn-at : (c : tie.After-known-told Inv-loop μ-loop)
+    → ListTurn (c .before .before .before .before .before .before .before .args .list .now) (c .before .before .before .before .loop .here) (c .before .a .given .0 .0) (c .before .a .given .0 .1 .0)
+turn-at c = list-found _ _ _ (c .before .before .before .step .ensures) _ _ (c .before .a .given .1)
 
 room-at : (c : tie.After-known-told Inv-loop μ-loop) → c .before .before .before .before .loop .at + 1 + c .before .a .given .0 .0 .len ≤ length (c .before .before .before .before .loop .out)
 room-at c =
-    let l = c .before .before .before .before in
-    let t = c .before .before .before .step in
-    let g = c .before .a .given in
-    let s = l .before .before .before .args .list .now in
-    copying-room _ _ _ _ _ _ _ _ (l .loop .inv .1) _ (unit-within s (l .loop .here) (t .result) (t .ensures) (g .0 .0) (g .0 .1 .0) (g .1)) (unitsLeft s (g .0 .1 .0))
-    (left-next s (l .loop .here) (t .result) (t .ensures) (g .0 .0) (g .0 .1 .0) (g .1))
+    let t = turn-at c in
+    copying-room _ _ _ _ _ _ _ _ (c .before .before .before .before .loop .inv .1) _ (t .inside) (unitsLeft _ (c .before .a .given .0 .1 .0)) (t .rest)
 
 put-unit-requires : tie.Need-put-unit-requires Inv-loop μ-loop
-put-unit-requires c κs =
-    let l = c .before .before .before .before .before in
-    let t = c .before .before .before .before .step in
-    let g = c .before .before .a .given in
-    (unit-within (l .before .before .before .args .list .now) (l .loop .here) (t .result) (t .ensures) (g .0 .0) (g .0 .1 .0) (g .1), omega arith, room-at (c .before))
+put-unit-requires c κs = (turn-at (c .before) .inside, omega arith, room-at (c .before))
 
 add-at : tie.Need-add-at Inv-loop μ-loop
 add-at c = let h = room-at (c .before .before .before .before) in omega arith
@@ -66,24 +59,14 @@ add-at-2 : tie.Need-add-at-2 Inv-loop μ-loop
 add-at-2 c = let h = room-at (c .before .before .before .before .before) in omega arith
 
 loop-less : tie.Need-loop-less Inv-loop μ-loop
-loop-less c =
-    let l = c .before .before .before .before .before .before .before .before .before in
-    let t = c .before .before .before .before .before .before .before .before .step in
-    let g = c .before .before .before .before .before .before .a .given in
-    let s = l .before .before .before .args .list .now in
-    let n = next-fits s (l .loop .here) (t .result) (t .ensures) (g .0 .0) (g .0 .1 .0) (g .1) in
-    let h = next-ahead s (l .loop .here) (t .result) (t .ensures) (g .0 .0) (g .0 .1 .0) (g .1) in
-    less (length s) (l .loop .here .at) (g .0 .1 .0 .at) (g .0 .1 .0 .end) (g .0 .0 .len) h (n .before) (n .within)
+loop-less c = let t = turn-at (c .before .before .before .before .before) in omega (arith, t .ahead, t .within)
 
 loop-again : tie.Need-loop-again Inv-loop μ-loop
 loop-again c =
-    let l = c .before .before .before .before .before .before .before .before .before in
-    let t = c .before .before .before .before .before .before .before .before .step in
-    let g = c .before .before .before .before .before .before .a .given in
-    let s = l .before .before .before .args .list .now in (
-      next-fits s (l .loop .here) (t .result) (t .ensures) (g .0 .0) (g .0 .1 .0) (g .1),
-      copying-again _ _ _ _ _ _ _ _ (l .loop .inv .1) _ (unit-within s (l .loop .here) (t .result) (t .ensures) (g .0 .0) (g .0 .1 .0) (g .1)) (unitsLeft s (g .0 .1 .0))
-          (left-next s (l .loop .here) (t .result) (t .ensures) (g .0 .0) (g .0 .1 .0) (g .1)) _ (c .before .before .before .put-unit .ensures),
+    let u = c .before .before .before .before .before in
+    let t = turn-at u in (
+      t .passed .fits,
+      copying-again _ _ _ _ _ _ _ _ (u .before .before .before .before .loop .inv .1) _ (t .inside) (unitsLeft _ (u .before .a .given .0 .1 .0)) (t .rest) _ (c .before .before .before .put-unit .ensures),
     )
 
 pub put-units-spec : {M : Type 1} → statement M

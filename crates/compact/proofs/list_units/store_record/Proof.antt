@@ -1,6 +1,7 @@
 -- `list_units::store_record` leaves the first byte and the units from the front on.
 use borrow.Author.Needs.{needs}
-use Rattle.compact.specs.Inside.{foundBytes, unitsLeft}
+use Rattle.unit_list.specs.Find.{unitsLeft}
+use Rattle.compact.specs.Inside.{foundBytes}
 use Rattle.compact.proofs.Copying.{copies-on}
 use Rattle.compact.proofs.ListUnits.{record-stored}
 use Rattle.compact.proofs.list_units.store_record.Statement.{statement}

@@ -11,7 +11,7 @@ use Rattle.error.specs.Outcome.{accept}
 use Rattle.boxes.specs.Bytes.{toChunk}
 use Rattle.unit_list.proofs.Encode.{length-toChunk}
 use Rattle.compact.specs.ItemData.{stillUnit, prefixed}
-use Rattle.compact.proofs.Output.{written-refused, written-short, written-fits}
+use Rattle.boxes.proofs.Output.{written-refused, written-short, written-fits}
 use Rattle.compact.proofs.Stills.{prefixed-size, prefixed-long, prefixed-given}
 use Rattle.compact.proofs.still.put_still.Statement.{statement}
 use Rattle.compact.proofs.still.put_still.Tie as tie

@@ -41,7 +41,7 @@ unit-type-requires c κs = turn-here c .inside
 put-unit-requires : tie.Need-put-unit-requires Inv-loop μ-loop
 put-unit-requires c κs =
     let u = turn-here (c .before .before .before) in
-    (u .inside, stored-room _ _ _ _ _ _ _ _ (c .before .before .before .before .before .before .before .loop .inv) _ _ u (c .before .before .before .before .before .before .before .before .before .before .pre .1) (sym (c .before .before .unit-type .ensures .0) ∙ c .before .if1 .taken))
+    (u .inside, omega arith, stored-room _ _ _ _ _ _ _ _ (c .before .before .before .before .before .before .before .loop .inv) _ _ u (c .before .before .before .before .before .before .before .before .before .before .pre .1) (sym (c .before .before .unit-type .ensures .0) ∙ c .before .if1 .taken))
 
 add-to : tie.Need-add-to Inv-loop μ-loop
 add-to c =

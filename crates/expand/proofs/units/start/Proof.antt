@@ -3,7 +3,7 @@ use mathlib.Core.Path.{ap, _∙_, subst}
 use borrow.Author.Needs.{needs}
 use Rattle.unit_list.specs.Walk.{StartFits}
 use Rattle.expand.specs.Inside.{heldUnits}
-use Rattle.expand.proofs.Opening.{start-units, start-refusal}
+use Rattle.unit_list.proofs.Turns.{start-units, start-refused}
 use Rattle.expand.proofs.units.start.Statement.{statement}
 use Rattle.expand.proofs.units.start.Tie as tie
 
@@ -23,12 +23,12 @@ returns : tie.Need-returns
 returns c =
     let s = c .before .before .before .before .before .before .args .list .now in
     let y = c .before .before .before .before .start in
-    (c .start-at .ensures .0 ∙ ap (heldUnits s) (start-units s (y .result) (y .ensures .0) _ (c .before .before .c .given .1)), c .start-at .ensures .1)
+    (c .start-at .ensures .0 ∙ ap (heldUnits s) (start-units s (y .result) (y .ensures) _ (c .before .before .c .given .1)), c .start-at .ensures .1)
 
 returns-2 : tie.Need-returns-2
 returns-2 c =
     let y = c .before .before .before .start in
-    (start-refusal (c .before .before .before .before .before .args .list .now) (y .result) (y .ensures .0) _ (c .before .e .given .1), tt)
+    (ap (heldUnits (c .before .before .before .before .before .args .list .now)) (start-refused _ (y .result) (y .ensures) _ (c .before .e .given .1)), tt)
 
 pub start-spec : {M : Type 1} → statement M
 start-spec =

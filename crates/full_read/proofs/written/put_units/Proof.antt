@@ -58,7 +58,7 @@ put-unit-requires c κs =
     let t = found (c .before) in
     let l = c .before .before .before .before .before .before .loop in
     let h = storing-room (chunk 2) unitBytes unitsBytes units-none units-more _ _ _ _ (l .left) (l .at) (l .out) (l .next) (l .inv .1) (c .before .before .before .before .before .loop-test .taken) _ _ (t .read) in
-    (t .inside, omega arith)
+    (t .inside, omega arith, omega arith)
 
 -- and the room for it
 room : (c : tie.After-put-unit-arg Inv-loop μ-loop) → c .before .before .before .before .before .before .loop .next + (4 + c .before .before .a .given .0 .0 .len) ≤ length (c .before .before .before .before .before .before .loop .out)

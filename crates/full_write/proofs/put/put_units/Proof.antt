@@ -38,7 +38,8 @@ put-unit-requires c κs =
     let l = c .before .before .before .before .before .loop in
     let a = c .before .before .before .before .before .before .before .before .args in
     let g = c .before .before .a .given in
-    unit-room (a .list .now) (a .c) (a .out .now) (a .to) (l .here) (l .out) (l .at) (l .inv) (t .result) (t .ensures) (g .0 .0) (g .0 .1 .0) (g .1)
+    let h = unit-room (a .list .now) (a .c) (a .out .now) (a .to) (l .here) (l .out) (l .at) (l .inv) (t .result) (t .ensures) (g .0 .0) (g .0 .1 .0) (g .1) in
+    (h .0, omega arith, h .1)
 
 add-at : tie.Need-add-at Inv-loop μ-loop
 add-at c =

@@ -118,6 +118,15 @@ module _ (size : ℕ) (target : Option ℕ) (item : List ℕ) where
   over-none p I.End k e = rw (← e)
   over-none p (I.Refused x) k e = rw (← e)
 
+  -- where nothing is left, or a refusal, so it is of the kept units
+  pub over-end : (p : ℕ) → leftOf size item p ≡ accept [] → keptLeft size target item p ≡ accept []
+  unfolding keptLeft kept
+  over-end p e = rw e
+
+  pub over-refused : (p n : ℕ) → leftOf size item p ≡ refuse n → keptLeft size target item p ≡ refuse n
+  unfolding keptLeft kept
+  over-refused p n e = rw e
+
   -- a turn of the walk: the kept unit found from place p on, in front of those behind it
   pub record KeptTurn (p : ℕ) (a : Span) (next : ℕ) : Type 0 where
     pub here : UnitAhead item p a next

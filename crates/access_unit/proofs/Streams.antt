@@ -165,6 +165,10 @@ module _ (s : List ℕ) (n E : ℕ) (B : List ℕ) (then : Outcome (List Span)) 
           storing = storing-more s n E B a (take l (f .tail)) out end (rw (f .is) at (i .storing)) inside after behind p q;
         })
 
+  -- a unit that is not stored
+  pub first-on : (o' : Outcome (List Span)) → o ≡ o' → (left : ℕ) (out : List ℕ) (end : ℕ) → FirstLeft s n E B then o left out end → FirstLeft s n E B then o' left out end
+  first-on o' e left out end i = record { rest = i .rest; found = sym e ∙ i .found; enough = i .enough; next = i .next; storing = i .storing }
+
   -- a unit is left, so one is found
   pub first-some : (left : ℕ) (out : List ℕ) (end : ℕ) → FirstLeft s n E B then o left out end → 0 < left → total o ≡ 0 → ⊥
   first-some left out end i h z = let t = ap total (i .found) in omega (arith, t, i .enough)

@@ -3,6 +3,7 @@ use Prim.Native.Nat.{ℕ, suc, _+_, _^_, _≤_, _<_}
 use mathlib.Core.Path.{_≡_, refl, sym, ap, _∙_}
 use mathlib.Core.Bool.{Bool, true, false, _&&_}
 use mathlib.Core.List.{List, [], _∷_, _++_, map, map-append}
+use mathlib.Core.Option.{Option}
 use native.Mathlib.Omega.{arith}
 use native.Mathlib.Decide.{decLe}
 use lib.Dec.{eqb}
@@ -15,8 +16,10 @@ use Rattle.boxes.specs.Walk.{more}
 use Rattle.boxes.specs.declared.Span.{Span}
 use Rattle.boxes.proofs.Walk.{after, after-nil, done-more, done-end, done-refused}
 use Rattle.unit_list.proofs.Accepted.{held-long}
-use Rattle.access_unit.specs.AccessUnit.{mayLead, leading}
-use Rattle.access_unit.specs.Inside.{lengths, adding, itemSum, listSum}
+use Rattle.hvcc.proofs.Items.{Turn}
+use Rattle.access_unit.specs.AccessUnit.{keeps, mayLead, leading}
+use Rattle.access_unit.specs.Inside.{keptLeft, lengths, adding, addingKept, itemSum, listSum}
+use Rattle.access_unit.proofs.KeptUnits.{over-kept, over-dropped}
 use Rattle.access_unit.specs.declared.sizes.UnitSum.{UnitSum}
 
 -- ### one unit more
@@ -134,12 +137,35 @@ module _ (f : List Span → UnitSum) (whole : Outcome (List Span)) where
           few = omega (arith, i .few);
         }
 
+    -- a unit that does not count
+    pub summing-on : (rest : Outcome (List Span)) → left ≡ rest → (next : ℕ) → at ≤ next → Summing f whole rest sum next
+    summing-on rest e next further =
+        record { done = i .done; joined = ap (after (i .done)) (sym e) ∙ i .joined; summed = i .summed; few = omega (arith, i .few) }
+
     pub summing-end : left ≡ accept [] → accept sum ≡ andThen whole (λ us. accept (f us))
     summing-end e =
         ap accept (i .summed) ∙ ap (λ (o : Outcome (List Span)). andThen o (λ us. accept (f us))) (done-end (i .done) left whole (i .joined) e)
 
     pub summing-refused : (n : ℕ) → left ≡ refuse n → refuse n ≡ andThen whole (λ us. accept (f us))
     summing-refused n e = ap (λ (o : Outcome (List Span)). andThen o (λ us. accept (f us))) (done-refused (i .done) left whole (i .joined) n e)
+
+-- one unit of the item more, kept or dropped
+module _ (size : ℕ) (target : Option ℕ) (item : List ℕ) (whole : Outcome (List Span)) (p : ℕ) (a : Span) (next : ℕ) (t : Turn size item p a next) where
+  pub summing-kept : (sum : UnitSum) → Summing (itemSum item) whole (keptLeft size target item p) sum p
+      → Summing (itemSum item) whole (keptLeft size target item next) (addingKept target item a sum) next
+  summing-kept sum i = go (keeps target (held item a)) refl
+    where
+      inside : a .start + a .len ≤ length item
+      inside = omega (arith, t .here .behind, t .here .inside)
+
+      go : (b : Bool) → keeps target (held item a) ≡ b
+          → Summing (itemSum item) whole (keptLeft size target item next) (if b then adding (mayLead (held item a)) (a .len) sum else sum) next
+      go true e =
+          summing-more (itemSum item) whole (keptLeft size target item p) sum p i (mayLead (held item a)) a (λ done. item-sum-more item done a inside)
+          (keptLeft size target item next) (over-kept size target item p a next (t .rest) e) next (omega (arith, t .here .ahead, t .here .behind))
+      go false e =
+          summing-on (itemSum item) whole (keptLeft size target item p) sum p i (keptLeft size target item next)
+          (over-dropped size target item p a next (t .rest) e) next (omega (arith, t .here .ahead, t .here .behind))
 
 pub item-sum-none : (item : List ℕ) → noUnits ≡ itemSum item []
 unfolding leading lengths

@@ -1,7 +1,7 @@
 -- Laws of the target, of the units that it drops, and of those that may lead, by cases as the code tests them.
 use Prim.Native.Nat.{ℕ, _^_, _≤_}
 use mathlib.Core.Path.{_≡_, refl, sym, ap, _∙_}
-use mathlib.Core.Bool.{true, false}
+use mathlib.Core.Bool.{Bool, true, false, _||_}
 use mathlib.Core.List.{List}
 use mathlib.Core.Option.{Option, none, some}
 use native.Mathlib.Omega.{arith}
@@ -36,24 +36,28 @@ module _ (h : VvcConfig) (x : Target) where
 
 -- whether a unit may lead
 module _ (u : List ℕ) (t : ℕ) (type : t ≡ typeOr31 u) where
-  pub leads-aud : t ≡ 20 → true ≡ mayLead u
+  pub leads-opi : t ≡ 12 → mayLead u ≡ true
   unfolding mayLead
-  leads-aud e = rw (← type, e)
+  leads-opi e = rw (← type, e)
 
-  pub leads-opi : (t ≡ 20 → ⊥) → eqb t 12 ≡ mayLead u
+  pub leads-other : (t ≡ 12 → ⊥) → mayLead u ≡ eqb t 20
   unfolding mayLead
-  leads-opi e = rw (← type, ne-eqb t 20 e)
+  leads-other e = rw (← type, ne-eqb t 12 e) (or-false (eqb t 20))
+    where
+      or-false : (b : Bool) → (b || false) ≡ b
+      or-false true = refl
+      or-false false = refl
 
 -- whether a unit is kept
-module _ (target : Option ℕ) (u : List ℕ) (t : ℕ) (type : t ≡ typeOr31 u) where
-  pub keeps-other : (t ≡ 12 → ⊥) → true ≡ keeps target u
-  unfolding keeps
-  keeps-other e = rw (← type, ne-eqb t 12 e)
+pub keeps-other : (target : Option ℕ) (u : List ℕ) (t : ℕ) → t ≡ typeOr31 u → (t ≡ 12 → ⊥) → keeps target u ≡ true
+unfolding keeps
+keeps-other target u t type e = rw (← type, ne-eqb t 12 e)
 
-  module _ (opi : t ≡ 12) (lent : length u ≤ 2 ^ 30) (r : OlsIdx) (said : olsIdxOf r ≡ olsIdxGiven u) where
+module _ (target : Option ℕ) (u : List ℕ) (opi : typeOr31 u ≡ 12) where
+  module _ (lent : length u ≤ 2 ^ 30) (r : OlsIdx) (said : olsIdxOf r ≡ olsIdxGiven u) where
     keeps-opi : agrees target (opiOlsIdx u) ≡ keeps target u
     unfolding keeps
-    keeps-opi = rw (← type, opi)
+    keeps-opi = rw opi
 
     given : olsIdxOf r ≡ accept (opiOlsIdx u)
     given = said ∙ lent-within u (accept (opiOlsIdx u)) lent

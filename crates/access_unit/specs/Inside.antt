@@ -20,7 +20,7 @@ use Rattle.hvcc.specs.Item.{splitItem}
 use Rattle.hvcc.specs.Stream.{annexB}
 use Rattle.hvcc.specs.declared.ItemStep.{ItemStep}
 use Rattle.hvcc.specs.declared.ItemStep.the-variants as I
-use Rattle.access_unit.specs.AccessUnit.{leading, following, kept, Source, ofList, ofItem, heldIn, startCode}
+use Rattle.access_unit.specs.AccessUnit.{mayLead, keeps, leading, following, kept, Source, ofList, ofItem, heldIn, startCode}
 use Rattle.access_unit.specs.declared.sizes.UnitSum.{UnitSum}
 use Rattle.access_unit.specs.declared.sizes.Summed.{Summed}
 use Rattle.access_unit.specs.declared.sizes.Summed.the-variants as S
@@ -59,6 +59,10 @@ lengths (u ∷ us) = length u + lengths us
 abbrev pub adding : Bool → ℕ → UnitSum → UnitSum
 adding leads len v =
     record { count = v .count + 1; lead = if leads && eqb (v .lead) (v .count) then v .count + 1 else v .lead; lengths = v .lengths + len }
+
+-- one unit of the item more, if it is kept
+abbrev pub addingKept : Option ℕ → List ℕ → Span → UnitSum → UnitSum
+addingKept target item a v = if keeps target (held item a) then adding (mayLead (held item a)) (a .len) v else v
 
 -- the kept units of an item
 abbrev pub itemSum : List ℕ → List Span → UnitSum

@@ -1,19 +1,21 @@
 // For this crate's calls: the units of an item that are kept, one after another.
 use super::Target;
+use boxes::Span;
 use boxes::place;
 use full::VvcConfig;
 use hvcc::ItemStep;
 use hvcc::walk;
-use nal::NAL_AUD;
 use nal::NAL_OPI;
 use nal::header;
 use params::OlsIdx;
 ghost use mathlib.Core.Path.{_≡_};
 ghost use mathlib.Core.Option.{some};
-ghost use Prim.Native.Nat.{_≤_, _^_};
+ghost use Prim.Native.Nat.{_+_, _≤_, _^_};
 ghost use lib.ListN.{length};
+ghost use Rattle.boxes.specs.Parts.{held};
+ghost use Rattle.nal.specs.Header.{typeOr31};
 ghost use Rattle.hvcc.specs.Answers.{Onward};
-ghost use Rattle.access_unit.specs.AccessUnit.{targetOf, agrees, keeps, mayLead};
+ghost use Rattle.access_unit.specs.AccessUnit.{targetOf, agrees, keeps};
 ghost use Rattle.access_unit.specs.Answers.{tolsOf};
 ghost use Rattle.access_unit.specs.Inside.{Walks, keptLeft, keptStepped};
 
@@ -42,14 +44,11 @@ fn agrees_with(target: Target, idx: u32) -> bool
     }
 }
 
-// Whether a unit of the item is kept: an OPI is dropped only if a target exists and its operating point reads and differs.
-pub fn is_kept(unit: &[u8], target: Target) -> bool
-    requires { ⌜ length (now unit) ≤ 2 ^ 30 ⌝ }
+// Whether an OPI unit of the item is kept: it is dropped only if a target exists and its operating point reads and differs.
+pub fn opi_kept(unit: &[u8], target: Target) -> bool
+    requires { ⌜ (typeOr31 (now unit) ≡ 12) × (length (now unit) ≤ 2 ^ 30) ⌝ }
     ensures { λ r. ⌜ r ≡ keeps (tolsOf target) (now (unit .entry)) ⌝ }
 {
-    if header::type_or_31(unit) != NAL_OPI {
-        return true;
-    }
     match params::opi_ols_idx(unit) {
         OlsIdx::Present(idx) => agrees_with(target, idx),
         OlsIdx::Absent => true,
@@ -57,15 +56,16 @@ pub fn is_kept(unit: &[u8], target: Target) -> bool
     }
 }
 
-// Whether a unit stands before the list's units as long as no other unit came: an AUD or OPI unit does.
-pub fn may_lead(unit: &[u8]) -> bool
-    ensures { λ r. ⌜ r ≡ mayLead (now (unit .entry)) ⌝ }
+// Whether the unit at a span of the item is kept: all are but OPI units of another operating point.
+pub fn kept_at(item: &[u8], a: Span, target: Target) -> bool
+    requires { ⌜ (a .start + a .len ≤ length (now item)) × (length (now item) ≤ 2 ^ 30) ⌝ }
+    ensures { λ r. ⌜ r ≡ keeps (tolsOf target) (held (now (item .entry)) a) ⌝ }
 {
-    let unit_type = header::type_or_31(unit);
-    if unit_type == NAL_AUD {
-        return true;
+    let unit = place::part(item, a);
+    if header::type_or_31(unit) == NAL_OPI {
+        return opi_kept(unit, target);
     }
-    unit_type == NAL_OPI
+    true
 }
 
 // The next unit from a place of an item on that is kept, past those that are dropped.
@@ -79,7 +79,7 @@ pub fn next_kept(item: &[u8], size: usize, target: Target, from: usize) -> ItemS
         let ItemStep::Unit(a, next) = step else {
             return step;
         };
-        if is_kept(place::part(item, a), target) {
+        if kept_at(item, a, target) {
             return step;
         }
         at = next;

@@ -1,9 +1,14 @@
 // For this crate's calls: how many units an access unit has from list and item, and how many bytes they hold.
 use super::Target;
 use super::kept;
+use boxes::Span;
 use boxes::place;
 use error::Refusal;
 use hvcc::ItemStep;
+use hvcc::walk as items;
+use nal::NAL_AUD;
+use nal::NAL_OPI;
+use nal::header;
 use unit_list::ListCursor;
 use unit_list::ListStart;
 use unit_list::ListStep;
@@ -16,7 +21,7 @@ ghost use Rattle.unit_list.specs.Walk.{Fits};
 ghost use Rattle.unit_list.specs.Find.{unitsLeft};
 ghost use Rattle.unit_list.specs.Answers.{listUnits};
 ghost use Rattle.access_unit.specs.Answers.{tolsOf};
-ghost use Rattle.access_unit.specs.Inside.{Walks, keptLeft, adding, summedOf, itemSum, listSum, gather, sizesOf, sizesWith, measuredOf};
+ghost use Rattle.access_unit.specs.Inside.{Walks, keptLeft, addingKept, adding, summedOf, itemSum, listSum, gather, sizesOf, sizesWith, measuredOf};
 
 // Units one after another: how many, how many of them may lead in front of all others, and the bytes that they hold.
 pub struct UnitSum {
@@ -67,6 +72,22 @@ fn add(sum: UnitSum, len: usize, leads: bool) -> UnitSum
     }
 }
 
+// One unit of the item more, if it is kept; AUD and OPI units may lead.
+fn add_kept(item: &[u8], a: Span, target: Target, sum: UnitSum) -> UnitSum
+    requires { ⌜ (a .start + a .len ≤ length (now item)) × (length (now item) ≤ 2 ^ 30) × (sum .lead ≤ sum .count) × (sum .count + sum .lengths + a .len < 2 ^ 32) ⌝ }
+    ensures { λ r. ⌜ r ≡ addingKept (tolsOf target) (now (item .entry)) a sum ⌝ }
+{
+    let unit = place::part(item, a);
+    let unit_type = header::type_or_31(unit);
+    if unit_type == NAL_OPI {
+        if kept::opi_kept(unit, target) {
+            return add(sum, a.len, true);
+        }
+        return sum;
+    }
+    add(sum, a.len, unit_type == NAL_AUD)
+}
+
 // The kept units of an item. Refusals: in byte order 1 and 5.
 fn item_sum(item: &[u8], size: usize, target: Target) -> Summed
     requires { ⌜ Walks size (now item) 0 ⌝ }
@@ -79,10 +100,9 @@ fn item_sum(item: &[u8], size: usize, target: Target) -> Summed
         lengths: 0,
     };
     loop {
-        match kept::next_kept(item, size, target, at) {
+        match items::item_step(item, size, at) {
             ItemStep::Unit(a, next) => {
-                let leads = kept::may_lead(place::part(item, a));
-                sum = add(sum, a.len, leads);
+                sum = add_kept(item, a, target, sum);
                 at = next;
             }
             ItemStep::End => return Summed::Sum(sum),

@@ -5,6 +5,7 @@ use super::sizes::Sizes;
 use boxes::Span;
 use boxes::place;
 use hvcc::ItemStep;
+use hvcc::walk as items;
 use unit_list::ListCursor;
 use unit_list::ListStart;
 use unit_list::ListStep;
@@ -67,13 +68,15 @@ fn put_kept(
     let mut end = to;
     let mut left = n;
     while 0 < left {
-        let step = kept::next_kept(item, size, target, at);
+        let step = items::item_step(item, size, at);
         let ItemStep::Unit(a, next) = step else {
             return Places { item: at, out: end };
         };
-        end = put_unit(item, a, out, end);
+        if kept::kept_at(item, a, target) {
+            end = put_unit(item, a, out, end);
+            left -= 1;
+        }
         at = next;
-        left -= 1;
     }
     Places { item: at, out: end }
 }

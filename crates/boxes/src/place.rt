@@ -69,10 +69,35 @@ pub fn put_number(out: &mut [u8], at: usize, width: usize, v: usize)
     }
 }
 
+// How many bytes are copied at a time.
+pub const BLOCK: usize = 16384;
+
+// Of so many bytes those that are copied next.
+fn block_len(left: usize) -> usize
+    ensures { λ r. ⌜ (r ≤ left) × (r ≤ 16384) × (0 < left → 0 < r) ⌝ }
+{
+    if BLOCK < left { BLOCK } else { left }
+}
+
+// Copies a block by way of an array of its own: that overlaps neither slice, so the compiler moves the block in one go, past the array.
+fn copy_block(src: &[u8], out: &mut [u8], at: usize)
+    requires { ⌜ (length (now src) ≤ 16384) × (at + length (now src) ≤ length (now out)) ⌝ }
+    ensures { λ _. ⌜ now (out .exit) ≡ sets (now (out .entry)) at (now (src .entry)) ⌝ }
+{
+    let mut block = [0u8; BLOCK];
+    let n = bytes::copy(src, &mut block);
+    bytes::copy(&block[0..n], &mut out[at..]);
+}
+
 // Copies all of a slice to a place of lent memory.
 pub fn copy(src: &[u8], out: &mut [u8], at: usize)
     requires { ⌜ at + length (now src) ≤ length (now out) ⌝ }
     ensures { λ _. ⌜ now (out .exit) ≡ sets (now (out .entry)) at (now (src .entry)) ⌝ }
 {
-    bytes::copy(src, &mut out[at..]);
+    let mut done: usize = 0;
+    while done < src.len() {
+        let n = block_len(src.len() - done);
+        copy_block(&src[done..done + n], out, at + done);
+        done += n;
+    }
 }

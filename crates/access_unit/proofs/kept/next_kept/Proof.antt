@@ -1,11 +1,9 @@
 -- `kept::next_kept` walks to the next unit that is kept. The loop's invariant: the kept units from `at` on are those from `from` on.
 use Prim.Native.Nat.{_-_, _≤_}
-use mathlib.Core.Path.{_≡_, refl, sym, ap, _∙_}
+use mathlib.Core.Path.{_≡_, refl, sym, _∙_}
 use lib.ListN.{length}
 use Rattle.access_unit.specs.Answers.{tolsOf}
 use Rattle.access_unit.specs.Inside.{keptLeft}
-use Rattle.unit_list.proofs.Accepted.{held-long}
-use Rattle.access_unit.specs.AccessUnit.{keeps}
 use Rattle.hvcc.specs.declared.ItemStep.the-variants.{Unit}
 use Rattle.hvcc.proofs.Items.{Turn, found-unit}
 use Rattle.access_unit.proofs.KeptUnits.{onward-earlier, over-kept, over-dropped, over-none}
@@ -36,42 +34,34 @@ returns c =
     let a = t .before .before .before .args in
     (over-none (a .size) (tolsOf (a .target)) (a .item .now) (l .at) (t .item-step .result) (c .match .keys2) (t .item-step .ensures .0) ∙ l .inv .2, onward-earlier (a .item .now) (a .from) (l .at) (l .inv .0) (t .item-step .result) (t .item-step .ensures .1))
 
--- the unit that the step found, and how long its part is
+-- the unit that the step found
 unit-at : (c : tie.After-known-told Inv-loop μ-loop)
     → Turn (c .before .before .before .before .before .before .args .size) (c .before .before .before .before .before .before .args .item .now)
     (c .before .before .before .before .loop .at) (c .before .step .given .0 .0) (c .before .step .given .0 .1 .0)
 unit-at c = found-unit _ _ _ _ (c .before .before .before .item-step .ensures) _ _ (c .before .step .given .1)
 
-long-at : (c : tie.After-part Inv-loop μ-loop) → length (c .part .result .now) ≡ c .before .before .step .given .0 .0 .len
-long-at c = let f = unit-at (c .before) in ap length (c .part .ensures .holds) ∙ held-long (c .before .before .before .before .before .before .before .args .item .now) (c .before .before .step .given .0 .0) (omega arith)
-
-part-requires : tie.Need-part-requires Inv-loop μ-loop
-part-requires c κs = let f = unit-at c in omega arith
-
-is-kept-requires : tie.Need-is-kept-requires Inv-loop μ-loop
-is-kept-requires c κs = let f = unit-at (c .before) in let l = long-at c in omega arith
+kept-at-requires : tie.Need-kept-at-requires Inv-loop μ-loop
+kept-at-requires c κs = let f = unit-at c in (omega (arith, f .here), c .before .before .before .before .before .before .pre .lent)
 
 returns-2 : tie.Need-returns-2 Inv-loop μ-loop
 returns-2 c =
-    let u = c .before .before .before in
+    let u = c .before .before in
     let f = unit-at u in
     let l = u .before .before .before .before .loop in
     let a = u .before .before .before .before .before .before .args in (
-      sym (over-kept _ _ _ _ _ _ (f .rest) (ap (keeps _) (sym (c .before .before .part .ensures .holds)) ∙ sym (c .before .is-kept .ensures) ∙ c .if1 .taken)) ∙ l .inv .2,
+      sym (over-kept _ _ _ _ _ _ (f .rest) (sym (c .before .kept-at .ensures) ∙ c .if1 .taken)) ∙ l .inv .2,
       onward-earlier (a .item .now) (a .from) (l .at) (l .inv .0) (Unit (u .before .step .given .0 .0) (u .before .step .given .0 .1 .0)) (f .here),
     )
 
 loop-less : tie.Need-loop-less Inv-loop μ-loop
-loop-less c = let f = unit-at (c .before .before .before) in omega arith
+loop-less c = let f = unit-at (c .before .before) in omega (arith, f .here)
 
 loop-again : tie.Need-loop-again Inv-loop μ-loop
 loop-again c =
-    let u = c .before .before .before in
-    let f = unit-at u in (
-      omega arith,
-      omega arith,
-      sym (over-dropped _ _ _ _ _ _ (f .rest) (ap (keeps _) (sym (c .before .before .part .ensures .holds)) ∙ sym (c .before .is-kept .ensures) ∙ c .if1 .left)) ∙ u .before .before .before .before .loop .inv .2,
-    )
+    let u = c .before .before in
+    let f = unit-at u in
+    let l = u .before .before .before .before .loop in
+    (omega (arith, f .here, l .inv .0), omega (arith, f .here), sym (over-dropped _ _ _ _ _ _ (f .rest) (sym (c .before .kept-at .ensures) ∙ c .if1 .left)) ∙ l .inv .2)
 
 pub next-kept-spec : {M : Type 1} → statement M
 next-kept-spec =
@@ -83,8 +73,7 @@ next-kept-spec =
     item-step-requires
     enum-known-step
     returns
-    part-requires
-    is-kept-requires
+    kept-at-requires
     returns-2
     loop-less
     loop-again)

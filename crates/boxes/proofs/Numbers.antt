@@ -18,6 +18,13 @@ unfolding toBe
 length-toBe zero n = refl
 length-toBe (suc w) n = length-append (toBe w (n / 256)) (n % 256 ∷ []) ∙ (let l = length-toBe w (n / 256) in omega arith)
 
+-- four bytes, two and two
+pub be-four : (s : List ℕ) (p : ℕ)
+    → be s p 4 ≡ (getD s p 0 * 256 + getD s (p + 1) 0) * 65536 + (getD s (p + 2) 0 * 256 + getD s (p + 3) 0)
+unfolding be
+be-four s p = let e : p + 0 ≡ p = omega arith in rw e (omega arith)
+
+
 -- equal bytes, equal numbers
 pub be-same : (s t : List ℕ) (p q w : ℕ) → ((i : ℕ) → i < w → getD s (p + i) 0 ≡ getD t (q + i) 0) → be s p w ≡ be t q w
 unfolding be

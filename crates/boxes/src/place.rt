@@ -21,11 +21,24 @@ pub fn byte(s: &[u8], at: usize) -> u8
     if at < s.len() { s[at] } else { 0 }
 }
 
+// The number of the four bytes from a place on, which the compiler reads at once.
+fn number_of_four(s: &[u8], at: usize) -> usize
+    requires { ⌜ at + 4 ≤ length (now s) ⌝ }
+    ensures { λ r. ⌜ (r ≡ be (now (s .entry)) at 4) × (r < 256 ^ 4) ⌝ }
+{
+    let high = wide(s[at]) * 256 + wide(s[at + 1]);
+    let low = wide(s[at + 2]) * 256 + wide(s[at + 3]);
+    high * 65536 + low
+}
+
 // The number of the `width` bytes from a place on.
 pub fn number(s: &[u8], at: usize, width: usize) -> usize
     requires { ⌜ (width ≤ 4) × (at + width ≤ length (now s)) ⌝ }
     ensures { λ r. ⌜ (r ≡ be (now (s .entry)) at width) × (r < 256 ^ width) ⌝ }
 {
+    if width == 4 {
+        return number_of_four(s, at);
+    }
     let mut n: usize = 0;
     let mut k: usize = 0;
     while k < width {

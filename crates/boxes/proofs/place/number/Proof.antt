@@ -14,6 +14,12 @@ Inv-loop s at width n₀ k₀ n k = (k ≤ width) × (n ≡ be s at k) × (n < 2
 abbrev μ-loop : tie.MeasureT-loop
 μ-loop s at width n₀ k₀ n k = width - k
 
+number-of-four-requires : tie.Need-number-of-four-requires Inv-loop μ-loop
+number-of-four-requires c κs = search needs
+
+returns : tie.Need-returns Inv-loop μ-loop
+returns c = let e = c .before .if1 .taken in rw e (c .number-of-four .ensures)
+
 loop-holds : tie.Need-loop-holds Inv-loop μ-loop
 unfolding be
 loop-holds c = search needs
@@ -44,13 +50,13 @@ loop-less c = search needs
 loop-again : tie.Need-loop-again Inv-loop μ-loop
 loop-again c =
     let l = c .before .before .before .loop in
-    let st = c .before .before .before .before .before in
+    let st = c .before .before .before .before .before .before in
     (omega arith, omega (arith, be-more (st .args .s .now) (st .args .at) (l .k)), below-more (l .n) (l .k) (c .wide .result) (l .inv .2) (c .wide .ensures .1))
 
-returns : tie.Need-returns Inv-loop μ-loop
-returns c =
+returns-2 : tie.Need-returns-2 Inv-loop μ-loop
+returns-2 c =
     let l = c .before .loop in
-    let e : l .k ≡ c .before .before .before .args .width = omega arith in
+    let e : l .k ≡ c .before .before .before .before .args .width = omega arith in
     rw (← e) (l .inv .1, l .inv .2)
 
 pub number-spec : {M : Type 1} → statement M
@@ -59,6 +65,8 @@ number-spec =
     (tie.spec
     Inv-loop
     μ-loop
+    number-of-four-requires
+    returns
     loop-holds
     mul-n
     add-wide
@@ -68,4 +76,4 @@ number-spec =
     add-k
     loop-less
     loop-again
-    returns)
+    returns-2)

@@ -1,57 +1,40 @@
 -- Units that were read and expanded, and picture bytes, carried through writing, reading back, restoring, assembling and splitting.
-use Prim.Native.Nat.{ℕ, zero, suc, _+_, _-_, _*_, _^_, _≤_, _<_, min}
+use Prim.Native.Nat.{ℕ, _+_, _-_, _*_, _^_, _≤_, _<_}
 use native.Mathlib.Omega.{arith}
-use mathlib.Core.Path.{_≡_, refl, sym, ap, _∙_, subst}
-use mathlib.Core.Bool.{Bool, true, false, _&&_, _||_}
+use mathlib.Core.Path.{_≡_, sym, ap, _∙_}
+use mathlib.Core.Bool.{true, false}
 use mathlib.Core.Option.{Option}
 use mathlib.Core.List.{List, [], _∷_, _++_, map}
-use lib.Dec.{leb, ltb, eqb}
 use lib.ListN.{length, getD, length-append, length-map, List·getD-append, List·getD-map}
 use lib.Seq.{getD-at}
 use borrow.Author.Tests.{le-leb, lt-leb, ne-eqb, le-ltb}
-use Rattle.error.specs.Logic.{if_then_else_}
-use Rattle.error.specs.Outcome.{Outcome, accept, refuse, andThen}
-use Rattle.boxes.specs.Bytes.{toBe, toChunk}
-use Rattle.boxes.proofs.Numbers.{length-toBe}
+use Rattle.error.specs.Outcome.{accept}
+use Rattle.boxes.specs.Bytes.{toChunk}
 use Rattle.boxes.specs.Parts.{held, nowhere}
 use Rattle.boxes.specs.declared.Span.{Span}
-use Rattle.nal.specs.Header.{typeOr31}
 use Rattle.nal.proofs.Checks.{Splittable}
-use Rattle.unit_list.specs.UnitList.{Array, unitsOf, decode, encode, encodeUnits, heldArrays}
-use Rattle.unit_list.specs.Answers.{listUnits}
-use Rattle.unit_list.proofs.Encode.{UnitsRead, placedArrays, held-encode, decode-encode, units-encode, length-toChunk}
-use Rattle.hvcc.specs.Item.{outside, itemUnits, splitItem}
+use Rattle.unit_list.specs.UnitList.{unitsOf, encode}
+use Rattle.unit_list.proofs.Encode.{held-encode, decode-encode, units-encode, length-toChunk}
+use Rattle.hvcc.specs.Item.{outside, splitItem}
 use Rattle.hvcc.specs.Stream.{annexB, unitsFrom, splitStream}
 use Rattle.hvcc.proofs.RoundTrip.{four, split-assembled, split-one, held-one}
 use Rattle.ptl.specs.declared.VvcPtlRecord.{VvcPtlRecord}
-use Rattle.ptl_record.specs.Write.{constraintInfo, levelPart, ptlBytes, ptlFits}
 use Rattle.ptl_record.specs.AsWritten.{asWritten}
-use Rattle.ptl_record.proofs.Writing.{fitting, info-long, length-front, length-ptl}
 use Rattle.ptl_record.proofs.RoundTrip as P
 use Rattle.compact.specs.ItemData.{restore}
 use Rattle.compact.specs.declared.CompactVvcConfig.{CompactVvcConfig}
-use Rattle.full.specs.Read.{FullParsed, holdsOne, parseFull}
-use Rattle.full.specs.Write.{arrayBytes, arraysBytes, headBytes, ptlPart, fullBytes, ptlPartFits, headFits, arraysFit, recordFits, writeFull, serializeFull}
+use Rattle.full.specs.Read.{parseFull}
+use Rattle.full.specs.Write.{arraysBytes, headBytes, fullBytes, ptlPartFits, headFits, recordFits, writeFull, serializeFull}
 use Rattle.full.specs.declared.VvcConfig.{VvcConfig}
-use Rattle.full.proofs.HeadRoundTrip.{Writable, readBack, withPtl}
+use Rattle.full.proofs.HeadRoundTrip.{Writable, withPtl}
 use Rattle.full.proofs.RecordRoundTrip.{read-written}
 use Rattle.expand.specs.Expand.{Picture, grouped, expandedHead}
 use Rattle.expand.proofs.GroupedFits.{Every, Groupable, grouped-fit, grouped-sound, grouped-few, grouped-count, every-grouped, grouped-long}
 use Rattle.access_unit.specs.AccessUnit.{startCode, assemble}
 use Rattle.access_unit.proofs.OneUnit.{one-assembled}
 use Rattle.vvcc.specs.Still.{Clean}
-use Rattle.vvcc.proofs.Units.{still-splits, all-split, every-at}
-
-every-parts : (P : List ℕ → Type 0) (us vs : List (List ℕ)) → Every P (us ++ vs) → Every P us × Every P vs
-every-parts P [] vs e = (tt, e)
-every-parts P (u ∷ us) vs e = let r = every-parts P us vs (e .1) in ((e .0, r .0), r .1)
-
-units-long : (us : List (List ℕ)) → Every (λ u. length u ≤ 255) us → length (encodeUnits 2 us) ≤ 257 * length us
-unfolding encodeUnits
-units-long [] e = omega arith
-units-long (u ∷ us) e =
-    let h = e .0 in
-    omega (arith, length-append (toChunk 2 u) (encodeUnits 2 us), length-toChunk 2 u, units-long us (e .1))
+use Rattle.vvcc.proofs.Lengths.{head-long, arrays-long}
+use Rattle.vvcc.proofs.Units.{still-splits, all-split}
 
 annexB-long : (gs : List (List ℕ)) (u : List ℕ) → Every (λ x. length x ≤ 255) gs → length (annexB startCode (gs ++ (u ∷ []))) ≤ 259 * length gs + 4 + length u
 unfolding annexB
@@ -111,34 +94,6 @@ module _ (c : CompactVvcConfig) (pic : Picture) (ptl : VvcPtlRecord) (us : List 
     reads = λ _ pre post. P.round-trip ptl (k .ptl-ok) 1 (omega arith) pre post;
   }
 
-  ptl-long : length (ptlBytes ptl 1) ≤ 2000
-  ptl-long =
-      let f = fitting ptl (k .ptl-ok .fits) in
-      let a = f .info in
-      let b = f .subs in
-      omega (arith, length-ptl ptl 1 (omega (arith, k .ptl-ok .subs-are)), length-front ptl, info-long ptl (k .ptl-ok .info-is) a)
-
-  part-long : length (ptlPart head) ≤ 2100
-  unfolding ptlPart
-  part-long = simp (length-append, length-toBe) (omega (arith, ptl-long))
-
-  head-long : length (headBytes head) ≤ 2101
-  unfolding headBytes
-  head-long = omega (arith, part-long)
-
-  arrays-long : (xs : List (Array (List ℕ))) → Every (λ u. length u ≤ 255) (unitsOf xs) → length (arraysBytes xs) ≤ 3 * length xs + 257 * length (unitsOf xs)
-  unfolding arraysBytes arrayBytes unitsOf
-  arrays-long [] e = omega arith
-  arrays-long (a ∷ xs) e =
-      let r = every-parts (λ u. length u ≤ 255) (a .units) (unitsOf xs) e in
-      let n = count-long (holdsOne (a .unitType)) (length (a .units)) in
-      let m = arrays-long xs (r .1) in
-      simp (length-append) (omega (arith, n, m, units-long (a .units) (r .0)))
-    where
-      count-long : (b : Bool) (n : ℕ) → length (if b then [] else toBe 2 n) ≤ 2
-      count-long true n = omega arith
-      count-long false n = omega (arith, length-toBe 2 n)
-
   record-long : length (fullBytes head (grouped us)) ≤ 2 ^ 20
   unfolding fullBytes
   record-long =
@@ -147,7 +102,7 @@ module _ (c : CompactVvcConfig) (pic : Picture) (ptl : VvcPtlRecord) (us : List 
         arith,
         length-append (headBytes head ++ (length (grouped us) ∷ [])) (arraysBytes (grouped us)),
         length-append (headBytes head) (length (grouped us) ∷ []),
-        head-long,
+        head-long c pic ptl (k .ptl-ok),
         arrays-long (grouped us) (every-grouped us (k .units) (λ u. length u ≤ 255) (k .units .short)),
         grouped-few us (k .units),
         grouped-count us (k .units),

@@ -54,18 +54,27 @@ module _ (us : List (List ℕ)) (bytes : Every Bytes us) where
           let r = then-accept (orRefuse 18 (first (havingType 14 us))) vpsFirstPtl p y in
           vps-ptl (r .0) p (first-is Bytes 14 us bytes 18 (r .0) (r .1)) (r .2)
 
+  -- the steps accepted, expansion is
+  expands-as : (c : CompactVvcConfig) (pic : Picture) (x : Unit {0}) (u : List ℕ) (h : SpsHead) (p : VvcPtlRecord) → multiLayerVps (c .«multi_layer_flag») us ≡ accept x
+      → orRefuse 17 (first (havingType 15 us)) ≡ accept u → parseSps u ≡ accept h → ptlOfSets h us ≡ accept p
+      → expandUnits c pic us ≡ accept (withList (expandedHead c pic p) (encode (grouped us)))
+  unfolding expandUnits
+  expands-as c pic x u h p d e f g = rw (d, e, f, g)
+
   pub record Expansion (c : CompactVvcConfig) (pic : Picture) (full : FullHead) (list : List ℕ) : Type 0 where
     pub ptl : VvcPtlRecord
     pub writable : P.Writable ptl
     pub head : full .head ≡ expandedHead c pic ptl
     pub is-list : list ≡ encode (grouped us)
+    -- what is known of the picture changes the head alone
+    pub of-any : (any : Picture) → expandUnits c any us ≡ accept (withList (expandedHead c any ptl) (encode (grouped us)))
 
-  pub expansion : (c : CompactVvcConfig) (pic : Picture) (full : FullHead) (list : List ℕ) → c .«multi_layer_flag» ≡ false
-      → expandUnits c pic us ≡ accept (full, list) → Expansion c pic full list
-  unfolding expandUnits multiLayerVps
-  expansion c pic full list plain e =
-      let e₀ = subst (λ (b : Bool). andThen (multiLayerVps b us) (λ _. behind) ≡ accept (full, list)) plain e in
-      let r = then-accept (orRefuse 17 (first (havingType 15 us))) (λ u. andThen (parseSps u) (λ h. andThen (ptlOfSets h us) (λ p. accept (made p)))) (full, list) e₀ in
+  pub expansion : (c : CompactVvcConfig) (pic : Picture) (full : FullHead) (list : List ℕ) → expandUnits c pic us ≡ accept (full, list)
+      → Expansion c pic full list
+  unfolding expandUnits
+  expansion c pic full list e =
+      let q = then-accept (multiLayerVps (c .«multi_layer_flag») us) (λ _. behind) (full, list) e in
+      let r = then-accept (orRefuse 17 (first (havingType 15 us))) (λ u. andThen (parseSps u) (λ h. andThen (ptlOfSets h us) (λ p. accept (made p)))) (full, list) (q .2) in
       let s = then-accept (parseSps (r .0)) (λ h. andThen (ptlOfSets h us) (λ p. accept (made p))) (full, list) (r .2) in
       let t = then-accept (ptlOfSets (s .0) us) (λ p. accept (made p)) (full, list) (s .2) in
       let m : made (t .0) ≡ (full, list) = cc in
@@ -74,6 +83,7 @@ module _ (us : List (List ℕ)) (bytes : Every Bytes us) where
         writable = ptl-of (s .0) (r .0) (t .0) (first-is Bytes 15 us bytes 17 (r .0) (r .1)) (s .1) (t .1);
         head = ap (λ (x : FullHead × List ℕ). x .0 .head) (sym m);
         is-list = ap (λ (x : FullHead × List ℕ). x .1) (sym m);
+        of-any = λ any. expands-as c any (q .0) (r .0) (s .0) (t .0) (q .1) (r .1) (s .1) (t .1);
       }
     where
       made : VvcPtlRecord → FullHead × List ℕ

@@ -1,5 +1,6 @@
 pub mod Worked
 pub mod Units
+pub mod Lengths
 pub mod Carried
 pub mod Ptls
 pub mod Expansion

@@ -22,10 +22,11 @@ use Rattle.expand.specs.Expand.{Picture, FullHead, toFull}
 use Rattle.access_unit.specs.AccessUnit.{assemble}
 use Rattle.nal.specs.Header.{typeOr31}
 use Rattle.nal.proofs.Checks.{Splittable}
-use Rattle.unit_list.specs.UnitList.{unitsOf}
+use Rattle.unit_list.specs.UnitList.{unitsOf, encode}
 use Rattle.hvcc.specs.Stream.{annexB, unitsFrom}
 use Rattle.full.specs.Write.{fullBytes}
 use Rattle.expand.specs.Expand.{grouped, expandedHead, expandUnits}
+use Rattle.expand.proofs.Expansion.{list-expanded}
 use Rattle.expand.proofs.Grouping.{grouped-as}
 use Rattle.expand.proofs.GroupedFits.{Every, Groupable}
 use Rattle.access_unit.specs.AccessUnit.{startCode}
@@ -37,17 +38,17 @@ use Rattle.vvcc.proofs.Expansion.{Expansion, expansion, of-units}
 use Rattle.vvcc.proofs.Carried.{Expanded, back, item, written, read-back, restored, assembles, splits, split-count, unit-below, unit-last}
 
 -- what is accepted is written to any output that is long enough
-writes-of : {A : Type 0} (o : Outcome (A × List ℕ)) (a : A) (b : List ℕ) → o ≡ accept (a, b) → Writes o a b
+pub writes-of : {A : Type 0} (o : Outcome (A × List ℕ)) (a : A) (b : List ℕ) → o ≡ accept (a, b) → Writes o a b
 writes-of o a b e out h = rw e (rw (le-leb (length b) (length out) h))
 
-counts-of : (o : Outcome (List ℕ)) (b : List ℕ) → o ≡ accept b → Writes (counted o) (length b) b
+pub counts-of : (o : Outcome (List ℕ)) (b : List ℕ) → o ≡ accept b → Writes (counted o) (length b) b
 counts-of o b e out h = rw e (rw (le-leb (length b) (length out) h))
 
 module _ (C S : List ℕ) (pic : Picture) (still : Still C S pic) where
   abbrev us : List (List ℕ)
   us = unitsIn C
 
-  known : Facts us (still .read) (still .list)
+  pub known : Facts us (still .read) (still .list)
   known = facts C (still .bytes) (still .read) (still .list) (still .reads)
 
   groupable : Groupable us
@@ -62,13 +63,13 @@ module _ (C S : List ℕ) (pic : Picture) (still : Still C S pic) where
   splittable : Every Splittable us
   splittable = every-of Splittable us (λ k h. clean-splits (getD us k []) (still .some k h) (still .clean k h))
 
-  expanded : Expansion us (known .all-bytes) (still .read .config) pic (still .full) (still .full-list)
+  pub expanded : Expansion us (known .all-bytes) (still .read .config) pic (still .full) (still .full-list)
   expanded =
-      expansion us (known .all-bytes) (still .read .config) pic (still .full) (still .full-list) (still .plain)
+      expansion us (known .all-bytes) (still .read .config) pic (still .full) (still .full-list)
       (subst (λ (vs : List (List ℕ)). expandUnits (still .read .config) pic vs ≡ accept (still .full, still .full-list)) (known .units .bytes)
       (of-units (still .read .config) pic (still .list) (known .units .spans) (still .full, still .full-list) (known .units .read) (still .expands)))
 
-  carries : Expanded (still .read .config) pic (expanded .ptl) us S
+  pub carries : Expanded (still .read .config) pic (expanded .ptl) us S
   carries = record {
     plain = still .plain;
     size-low = known .size-low;
@@ -86,38 +87,65 @@ module _ (C S : List ℕ) (pic : Picture) (still : Still C S pic) where
   }
 
   -- the stream, which depends on neither the picture's numbers nor the target
-  abbrev streamOf : List ℕ
+  abbrev pub streamOf : List ℕ
   streamOf = annexB startCode (unitsOf (grouped us) ++ ((0 ∷ 65 ∷ S) ∷ []))
 
   abbrev c : CompactVvcConfig
   c = still .read .config
 
-  abbrev recordOf : List ℕ
+  abbrev pub recordOf : List ℕ
   recordOf = fullBytes (expandedHead c pic (expanded .ptl)) (grouped us)
 
-  abbrev headBack : VvcConfig
+  abbrev pub headBack : VvcConfig
   headBack = back c pic (expanded .ptl) us S carries
 
-  abbrev itemOf : List ℕ
+  abbrev pub itemOf : List ℕ
   itemOf = item c pic (expanded .ptl) us S carries
 
-  is-written : serializeFull (still .full .head) (still .full-list) ≡ accept recordOf
+  pub is-written : serializeFull (still .full .head) (still .full-list) ≡ accept recordOf
   is-written =
       subst (λ (h : VvcConfig). serializeFull h (still .full-list) ≡ accept recordOf) (sym (expanded .head))
       (subst (λ (l : List ℕ). serializeFull (expandedHead c pic (expanded .ptl)) l ≡ accept recordOf) (sym (expanded .is-list))
       (written c pic (expanded .ptl) us S carries))
 
-  is-read-back : parseFull recordOf ≡ accept (record { head = headBack; consumed = length recordOf; listLength = length (still .full-list) }, still .full-list)
+  pub is-read-back : parseFull recordOf ≡ accept (record { head = headBack; consumed = length recordOf; listLength = length (still .full-list) }, still .full-list)
   is-read-back =
       subst (λ (l : List ℕ). parseFull recordOf ≡ accept (record { head = headBack; consumed = length recordOf; listLength = length l }, l)) (sym (expanded .is-list))
       (read-back c pic (expanded .ptl) us S carries)
 
-  is-assembled : (tols : Option ℕ) → assemble headBack (still .full-list) itemOf tols ≡ accept streamOf
+  pub is-restored : restore c S ≡ accept itemOf
+  is-restored = restored c pic (expanded .ptl) us S carries
+
+  pub is-assembled : (tols : Option ℕ) → assemble headBack (still .full-list) itemOf tols ≡ accept streamOf
   is-assembled tols =
       subst (λ (l : List ℕ). assemble headBack l itemOf tols ≡ accept streamOf) (sym (expanded .is-list)) (assembles c pic (expanded .ptl) us S carries tols)
 
+  -- what is known of the picture is no matter: the premises hold for any that can be written
+  pub of-picture : (any : Picture) → any .chroma ≤ 3 → any .depth ≤ 15 → Still C S any
+  of-picture any chroma depth = record {
+    bytes = still .bytes;
+    picture-bytes = still .picture-bytes;
+    read = still .read;
+    list = still .list;
+    reads = still .reads;
+    full = record { head = expandedHead c any (expanded .ptl); listLength = length (encode (grouped us)) };
+    full-list = encode (grouped us);
+    expands = list-expanded c any (still .list) us (sym (rw (known .units .read, known .units .bytes))) ∙ expanded .of-any any;
+    plain = still .plain;
+    size = still .size;
+    chroma = chroma;
+    depth = depth;
+    one-opi = still .one-opi;
+    one-dci = still .one-dci;
+    some = still .some;
+    clean = still .clean;
+    picture-clean = still .picture-clean;
+    short = still .short;
+    fits = still .fits;
+  }
+
   -- the claim's first half
-  pub path : (tols : Option ℕ) → Path C S pic tols
+  unfoldable pub path : (tols : Option ℕ) → Path C S pic tols
   path tols = record {
     read = still .read;
     list = still .list;
@@ -130,7 +158,7 @@ module _ (C S : List ℕ) (pic : Picture) (still : Still C S pic) where
     head = headBack;
     reads-back = writes-of (parseFull recordOf) (record { head = headBack; consumed = length recordOf; listLength = length (still .full-list) }) (still .full-list) is-read-back;
     item = itemOf;
-    restores = counts-of (restore c S) itemOf (restored c pic (expanded .ptl) us S carries);
+    restores = counts-of (restore c S) itemOf is-restored;
     stream = streamOf;
     assembles = counts-of (assemble headBack (still .full-list) itemOf tols) streamOf (is-assembled tols);
     spans = unitsFrom streamOf 0;

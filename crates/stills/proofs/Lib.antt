@@ -1,0 +1,6 @@
+pub mod Grouped
+pub mod Lists
+pub mod Steps
+pub mod Streams
+pub mod Local
+pub mod Calls

@@ -1,0 +1,68 @@
+-- `put_expanded` gives the refusal of full write or restore, and otherwise the stream: of the stored item, or of its one unit.
+use mathlib.Core.Path.{sym, ap, _∙_}
+use Rattle.access_unit.specs.Answers.{tolsOf}
+use Rattle.boxes.proofs.Output.{written-refused}
+use Rattle.stills.specs.Inside.{triedOf, streamExpanded}
+use Rattle.stills.proofs.Lists.{ready}
+use Rattle.stills.proofs.Local.{given-as}
+use Rattle.stills.proofs.Steps.{stream-refused, stream-layers, stream-plain}
+use borrow.Author.Needs.{needs}
+use Rattle.stills.proofs.stream.put_expanded.Statement.{statement}
+use Rattle.stills.proofs.stream.put_expanded.Tie as tie
+
+steps-tried-requires : tie.Need-steps-tried-requires
+steps-tried-requires c κs = search needs
+
+enum-told : tie.Need-enum-told
+enum-told c = search needs
+
+access-unit-annex-b-requires : tie.Need-access-unit-annex-b-requires
+access-unit-annex-b-requires c κs = search needs
+
+same-length : tie.Need-same-length
+same-length c = search needs
+
+returns : tie.Need-returns
+returns c =
+    let b = c .before .before .before .before .before .before .before .before .before .before .before in
+    given-as _ _ _ _
+    (stream-layers _ _ _ _ _ (ready _ _ _ (b .pre .0)) (sym (ap triedOf (c .before .before .before .before .before .enum-told .given .1)) ∙ c .before .before .before .before .before .before .before .steps-tried .ensures) (b .pre .1) (c .before .before .before .before .if1 .taken))
+    (c .before .before .access-unit-annex-b .ensures)
+
+put-plain-requires : tie.Need-put-plain-requires
+put-plain-requires c κs = let p = c .before .before .before .before .before .before .before .before .pre in (ready _ _ _ (p .0) .plain, p .1)
+
+enum-known-e : tie.Need-enum-known-e
+enum-known-e c = search needs
+
+same-length-2 : tie.Need-same-length-2
+same-length-2 c = search needs
+
+returns-2 : tie.Need-returns-2
+returns-2 c =
+    let b = c .before .before .before .before .before .before .before .before .before .before .before in
+    given-as _ _ _ _
+    (stream-plain _ _ _ _ _ (ready _ _ _ (b .pre .0)) (sym (ap triedOf (c .before .before .before .before .before .enum-told .given .1)) ∙ c .before .before .before .before .before .before .before .steps-tried .ensures) (b .pre .1) (c .before .before .before .before .if1 .left))
+    (c .before .before .put-plain .ensures)
+
+returns-3 : tie.Need-returns-3
+returns-3 c =
+    let b = c .before .before .before .before .before .before .before in
+    let a = b .args in
+    written-refused (streamExpanded (a .config) (a .head) (a .list .now) (a .stored .now) (tolsOf (a .tols))) (a .out .now) _
+    (stream-refused _ _ _ _ _ (ready _ _ _ (b .pre .0)) _ (sym (ap triedOf (c .before .e .given .1)) ∙ c .before .before .before .steps-tried .ensures))
+
+pub put-expanded-spec : {M : Type 1} → statement M
+put-expanded-spec =
+    tie.close
+    (tie.spec
+    steps-tried-requires
+    enum-told
+    access-unit-annex-b-requires
+    same-length
+    returns
+    put-plain-requires
+    enum-known-e
+    same-length-2
+    returns-2
+    returns-3)

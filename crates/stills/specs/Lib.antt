@@ -1,0 +1,3 @@
+pub mod Stills
+pub mod Inside
+pub mod Calls

@@ -1,0 +1,211 @@
+//! VVC stills: from compact records (ISO/IEC 23008-12 Amd 2, Annex L) and stored bytes to full records (ISO/IEC 14496-15) and Annex B streams
+//! (H.266). The work is done by a static library, `vvcc_c`, whose functions are proved to give what their definitions say on any input.
+//! This crate hands slices to it, and its answers back as `Result`s.
+//!
+//! ```
+//! // a still: a compact record of an SPS and a PPS, prefix size 4, and the stored bytes of its picture
+//! let compact = b"\x60\x0B\x00\x79\x00\x0D\x02\x33\x80\x00\x02\x22\x4C\x03\x00\x81\x80";
+//! let stream = vvcc::still_stream(compact, &[0x9A], None)?;
+//! let units: Vec<&[u8]> = vvcc::stream_units(&stream).collect::<Result<_, _>>()?;
+//! assert_eq!(units.len(), 3);
+//! assert_eq!(units[2], [0x00, 0x41, 0x9A]);
+//!
+//! // one byte short: the refusal names its ground
+//! assert_eq!(vvcc::still_stream(&compact[..16], &[0x9A], None), Err(vvcc::Refusal::Truncated));
+//! # Ok::<(), vvcc::Refusal>(())
+//! ```
+
+mod calls;
+mod refusal;
+mod units;
+
+pub use refusal::Refusal;
+pub use units::{item_units, stream_units, ItemUnits, StreamUnits};
+
+use calls::Written;
+
+/// The longest input that a call takes; a longer one is [`Refusal::InputTooLong`].
+pub const LONGEST_INPUT: usize = 1 << 30;
+
+/// The longest compact record: 33 units of 255 bytes.
+const LONGEST_COMPACT: usize = 1 + 33 * 256;
+
+/// What a file states of a still beside its compact record.
+#[derive(Clone, Copy, Debug, PartialEq, Eq)]
+pub struct Picture {
+    pub chroma_format_idc: u8,
+    pub bit_depth: u8,
+    pub width: u32,
+    pub height: u32,
+}
+
+/// A target as the library takes it: whether there is one, and which.
+fn target_numbers(target: Option<u16>) -> (u8, u16) {
+    target.map_or((0, 0), |t| (1, t))
+}
+
+fn written(w: Written) -> Result<usize, Refusal> {
+    match w.refusal {
+        0 => Ok(w.len),
+        n => Err(Refusal::of_number(n)),
+    }
+}
+
+/// The length of an input, to measure buffers by: 0 where the call will refuse it as too long.
+fn lent(input: &[u8]) -> usize {
+    if input.len() > LONGEST_INPUT {
+        return 0;
+    }
+    input.len()
+}
+
+/// What `call` writes, given a place and how many bytes there are: `first`, and where those are too few `most`, which always suffice.
+fn into_vec(
+    first: usize,
+    most: usize,
+    call: impl Fn(*mut u8, usize) -> Written,
+) -> Result<Vec<u8>, Refusal> {
+    let mut out = Vec::with_capacity(first);
+    let mut n = written(call(out.as_mut_ptr(), first));
+    if n == Err(Refusal::BufferTooShort) && first < most {
+        out = Vec::with_capacity(most);
+        n = written(call(out.as_mut_ptr(), most));
+    }
+    // SAFETY: an accepted call has written the first n bytes of those that it was given, and they do not depend on what stood there.
+    unsafe { out.set_len(n?) };
+    Ok(out)
+}
+
+/// SAFETY: `out` may be written for `out_len` bytes and does not overlap `compact`.
+unsafe fn raw_still_record(compact: &[u8], p: Picture, out: *mut u8, out_len: usize) -> Written {
+    let (c, n) = (compact.as_ptr(), compact.len());
+    calls::vvcc_still_record(
+        c,
+        n,
+        p.chroma_format_idc,
+        p.bit_depth,
+        p.width,
+        p.height,
+        out,
+        out_len,
+    )
+}
+
+/// The full record of a still, at the front of `out`: how many bytes it has. Bytes behind it, and all of them on a refusal, are as before.
+pub fn still_record_into(
+    compact: &[u8],
+    picture: Picture,
+    out: &mut [u8],
+) -> Result<usize, Refusal> {
+    // SAFETY: `out` is lent mutably.
+    written(unsafe { raw_still_record(compact, picture, out.as_mut_ptr(), out.len()) })
+}
+
+/// The full record of a still.
+pub fn still_record(compact: &[u8], picture: Picture) -> Result<Vec<u8>, Refusal> {
+    let most = 1100 + 5 * compact.len().min(LONGEST_COMPACT);
+    // SAFETY: the place is that of a new `Vec`.
+    into_vec(most, most, |out, n| unsafe {
+        raw_still_record(compact, picture, out, n)
+    })
+}
+
+/// SAFETY: `out` may be written for `out_len` bytes and overlaps neither input.
+unsafe fn raw_still_stream(
+    compact: &[u8],
+    stored: &[u8],
+    target: Option<u16>,
+    out: *mut u8,
+    out_len: usize,
+) -> Written {
+    let (has, t) = target_numbers(target);
+    calls::vvcc_still_stream(
+        compact.as_ptr(),
+        compact.len(),
+        stored.as_ptr(),
+        stored.len(),
+        has,
+        t,
+        out,
+        out_len,
+    )
+}
+
+/// The Annex B stream of a still, at the front of `out`: how many bytes it has. Bytes behind it, and all of them on a refusal, are as before.
+pub fn still_stream_into(
+    compact: &[u8],
+    stored: &[u8],
+    target: Option<u16>,
+    out: &mut [u8],
+) -> Result<usize, Refusal> {
+    // SAFETY: `out` is lent mutably.
+    written(unsafe { raw_still_stream(compact, stored, target, out.as_mut_ptr(), out.len()) })
+}
+
+/// The Annex B stream of a still. `target` is the operating point that the caller asks for, if any.
+pub fn still_stream(
+    compact: &[u8],
+    stored: &[u8],
+    target: Option<u16>,
+) -> Result<Vec<u8>, Refusal> {
+    let (c, s) = (compact.len().min(LONGEST_COMPACT), lent(stored));
+    // SAFETY: the place is that of a new `Vec`.
+    into_vec(4 * c + s + 6, 4 * c + 5 * s / 2 + 6, |out, n| unsafe {
+        raw_still_stream(compact, stored, target, out, n)
+    })
+}
+
+/// How many bytes of scratch always suffice for [`access_unit_into`] with this record.
+pub fn scratch_len(record: &[u8]) -> usize {
+    record.len().saturating_mul(4)
+}
+
+/// SAFETY: `scratch` and `out` may be written for as many bytes as are said, and overlap neither each other nor an input.
+unsafe fn raw_access_unit(
+    record: &[u8],
+    item: &[u8],
+    target: Option<u16>,
+    scratch: (*mut u8, usize),
+    out: (*mut u8, usize),
+) -> Written {
+    let (has, t) = target_numbers(target);
+    let (r, i) = ((record.as_ptr(), record.len()), (item.as_ptr(), item.len()));
+    calls::vvcc_access_unit(
+        r.0, r.1, i.0, i.1, has, t, scratch.0, scratch.1, out.0, out.1,
+    )
+}
+
+/// The Annex B stream of a full record and an item of length-prefixed units, at the front of `out`: how many bytes it has. Bytes behind it,
+/// and all of them on a refusal, are as before. `scratch` takes the record's unit list.
+pub fn access_unit_into(
+    record: &[u8],
+    item: &[u8],
+    target: Option<u16>,
+    scratch: &mut [u8],
+    out: &mut [u8],
+) -> Result<usize, Refusal> {
+    let (s, o) = (
+        (scratch.as_mut_ptr(), scratch.len()),
+        (out.as_mut_ptr(), out.len()),
+    );
+    // SAFETY: `scratch` and `out` are lent mutably.
+    written(unsafe { raw_access_unit(record, item, target, s, o) })
+}
+
+/// The Annex B stream of a full record and an item of length-prefixed units.
+pub fn access_unit(record: &[u8], item: &[u8], target: Option<u16>) -> Result<Vec<u8>, Refusal> {
+    let (r, i) = (lent(record), lent(item));
+    into_vec(2 * r + i, 2 * r + 5 * i / 2, |out, n| {
+        let mut scratch = Vec::<u8>::with_capacity(4 * r);
+        // SAFETY: the places are those of two new `Vec`s.
+        unsafe {
+            raw_access_unit(
+                record,
+                item,
+                target,
+                (scratch.as_mut_ptr(), 4 * r),
+                (out, n),
+            )
+        }
+    })
+}

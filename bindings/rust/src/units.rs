@@ -1,0 +1,79 @@
+//! The units of a stream and of an item, one after another.
+use crate::calls::{vvcc_next_item_unit, vvcc_next_unit, Unit};
+use crate::Refusal;
+use std::iter::FusedIterator;
+
+/// The units of an Annex B stream: those between start codes, trailing zeros cut, empty ones left out.
+#[derive(Clone, Debug)]
+pub struct StreamUnits<'a> {
+    stream: &'a [u8],
+    from: Option<usize>,
+}
+
+/// The units of an item of length-prefixed units. The first refusal is the last that is handed out.
+#[derive(Clone, Debug)]
+pub struct ItemUnits<'a> {
+    item: &'a [u8],
+    length_size: u8,
+    from: Option<usize>,
+}
+
+/// The units of a stream. The only refusal is [`Refusal::InputTooLong`].
+pub fn stream_units(stream: &[u8]) -> StreamUnits<'_> {
+    StreamUnits {
+        stream,
+        from: Some(0),
+    }
+}
+
+/// The units of an item with prefixes of `length_size` bytes. Refusals: 23, 4, then in byte order 1 and 5.
+pub fn item_units(item: &[u8], length_size: u8) -> ItemUnits<'_> {
+    ItemUnits {
+        item,
+        length_size,
+        from: Some(0),
+    }
+}
+
+/// What one step says: the unit and where the walk goes on, the end, or the refusal, which ends it too.
+fn step<'a>(s: &'a [u8], from: &mut Option<usize>, u: Unit) -> Option<Result<&'a [u8], Refusal>> {
+    *from = None;
+    if u.refusal != 0 {
+        return Some(Err(Refusal::of_number(u.refusal)));
+    }
+    if u.found == 0 {
+        return None;
+    }
+    *from = Some(u.behind);
+    Some(Ok(&s[u.start..][..u.len]))
+}
+
+impl<'a> Iterator for StreamUnits<'a> {
+    type Item = Result<&'a [u8], Refusal>;
+
+    fn next(&mut self) -> Option<Self::Item> {
+        // SAFETY: the pointer and the length are those of a slice.
+        let u = unsafe { vvcc_next_unit(self.stream.as_ptr(), self.stream.len(), self.from?) };
+        step(self.stream, &mut self.from, u)
+    }
+}
+
+impl<'a> Iterator for ItemUnits<'a> {
+    type Item = Result<&'a [u8], Refusal>;
+
+    fn next(&mut self) -> Option<Self::Item> {
+        // SAFETY: the pointer and the length are those of a slice.
+        let u = unsafe {
+            vvcc_next_item_unit(
+                self.item.as_ptr(),
+                self.item.len(),
+                self.length_size,
+                self.from?,
+            )
+        };
+        step(self.item, &mut self.from, u)
+    }
+}
+
+impl FusedIterator for StreamUnits<'_> {}
+impl FusedIterator for ItemUnits<'_> {}

@@ -1,0 +1,234 @@
+//! The library held against the original on the same bytes: made and damaged stills, records, items and streams.
+//! The original's sources are found by the environment variable VVCC_ORIGINAL, the folder with vvcc.rs, hvcc.rs, boxes.rs and error.rs.
+#![cfg_attr(not(original), allow(unused))]
+use ::vvcc::{access_unit, item_units, still_record, still_stream, stream_units, Picture, Refusal};
+
+#[cfg(original)]
+include!(concat!(env!("OUT_DIR"), "/original.rs"));
+
+/// Numbers that are the same in every run.
+struct Numbers(u64);
+
+impl Numbers {
+    fn below(&mut self, n: usize) -> usize {
+        self.0 = self
+            .0
+            .wrapping_mul(6364136223846793005)
+            .wrapping_add(1442695040888963407);
+        ((self.0 >> 33) % n as u64) as usize
+    }
+
+    fn bytes(&mut self, n: usize) -> Vec<u8> {
+        (0..n)
+            .map(|_| {
+                if self.below(3) == 0 {
+                    self.below(4) as u8
+                } else {
+                    self.below(256) as u8
+                }
+            })
+            .collect()
+    }
+
+    /// A unit of a type, often one of those that a record holds.
+    fn unit(&mut self, longest: usize) -> Vec<u8> {
+        let kinds = [12, 13, 14, 15, 15, 16, 17, 20, 23, 8, 0];
+        let n = self.below(longest + 1);
+        let mut u = self.bytes(n);
+        if n >= 2 && self.below(4) != 0 {
+            u[0] = 0;
+            u[1] = (kinds[self.below(kinds.len())] << 3) as u8 | 1;
+        }
+        if n > 6 && self.below(2) == 0 {
+            // an SPS as a camera writes it
+            u = b"\x00\x79\x00\x0D\x02\x33\x80\x00\x02\x22\x4C".to_vec();
+        }
+        u
+    }
+
+    /// Some bytes of a good input changed, cut off or added.
+    fn damaged(&mut self, good: &[u8]) -> Vec<u8> {
+        let mut b = good.to_vec();
+        match self.below(4) {
+            0 => {}
+            1 => b.truncate(self.below(b.len() + 1)),
+            2 => b.push(self.below(256) as u8),
+            _ => {
+                for _ in 0..1 + self.below(3) {
+                    if !b.is_empty() {
+                        let i = self.below(b.len());
+                        b[i] = self.below(256) as u8;
+                    }
+                }
+            }
+        }
+        b
+    }
+
+    fn compact(&mut self) -> Vec<u8> {
+        let n = 2 + self.below(4);
+        let mut r =
+            vec![(self.below(8) as u8 / 7) << 7 | (self.below(4) as u8) << 5 | (n - 2) as u8];
+        for _ in 0..n {
+            let u = self.unit(20);
+            r.push(u.len() as u8);
+            r.extend_from_slice(&u);
+        }
+        r
+    }
+
+    fn record(&mut self) -> Vec<u8> {
+        let mut r = vec![0xF8 | (self.below(4) as u8) << 1];
+        if self.below(2) == 0 {
+            r[0] |= 1;
+            r.extend_from_slice(b"\x00\x15\x1F\x01\x02\x33\x80\x00\x00\x10\x00\x08\x00\x00");
+        }
+        let arrays = self.below(4);
+        r.push(arrays as u8);
+        for _ in 0..arrays {
+            let kind = self.below(32) as u8;
+            r.push(0x80 | kind);
+            let n = if kind == 12 || kind == 13 {
+                1
+            } else {
+                self.below(3)
+            };
+            if kind != 12 && kind != 13 {
+                r.extend_from_slice(&(n as u16).to_be_bytes());
+            }
+            for _ in 0..n {
+                let u = self.unit(12);
+                r.extend_from_slice(&(u.len() as u16).to_be_bytes());
+                r.extend_from_slice(&u);
+            }
+        }
+        r
+    }
+
+    fn item(&mut self, size: usize) -> Vec<u8> {
+        let mut item = Vec::new();
+        for _ in 0..self.below(5) {
+            let u = self.unit(12);
+            item.extend_from_slice(&(u.len() as u32).to_be_bytes()[4 - size..]);
+            item.extend_from_slice(&u);
+        }
+        item
+    }
+}
+
+/// How a comparison went: whether both accepted. A refusal that this library adds is not compared: 20, 22, 23, and 3 of the writer.
+#[cfg(original)]
+fn same(
+    ours: Result<Vec<u8>, Refusal>,
+    theirs: error::Result<Vec<u8>>,
+    added: &[u32],
+    input: &dyn std::fmt::Debug,
+) -> bool {
+    match (&ours, &theirs) {
+        (Ok(a), Ok(b)) => assert_eq!(a, b, "{input:02X?}"),
+        (Err(e), _) if added.contains(&e.number()) => {}
+        (Err(e), Err(f)) => {
+            let unsupported = matches!(f, error::HeifError::Unsupported(_));
+            assert_eq!(
+                matches!(e.number(), 13 | 15),
+                unsupported,
+                "{e} but {f} for {input:02X?}"
+            );
+        }
+        _ => panic!("{ours:02X?} but {theirs:02X?} for {input:02X?}"),
+    }
+    ours.is_ok()
+}
+
+#[cfg(original)]
+fn original_record(c: &[u8], p: Picture) -> error::Result<Vec<u8>> {
+    let full = crate::vvcc::CompactVvcConfig::parse(c)?.to_full(
+        p.chroma_format_idc,
+        p.bit_depth,
+        p.width,
+        p.height,
+    )?;
+    Ok(full.serialize())
+}
+
+#[cfg(original)]
+fn original_stream(c: &[u8], stored: &[u8], target: Option<u16>) -> error::Result<Vec<u8>> {
+    let compact = crate::vvcc::CompactVvcConfig::parse(c)?;
+    let full = crate::vvcc::VvcConfig::parse(&compact.to_full(1, 8, 0, 0)?.serialize())?;
+    crate::vvcc::access_unit_annex_b(&full, &compact.item_data(stored)?, target)
+}
+
+/// Runs `rounds` comparisons and asks that both outcomes came up often.
+fn compare(rounds: usize, mut one: impl FnMut(&mut Numbers) -> bool) {
+    let mut n = Numbers(rounds as u64);
+    let accepted = (0..rounds).filter(|_| one(&mut n)).count();
+    assert!(
+        accepted > rounds / 50 && accepted < rounds - rounds / 50,
+        "{accepted} of {rounds} accepted"
+    );
+}
+
+macro_rules! beside_original {
+    ($(fn $name:ident($n:ident, $rounds:literal) $body:block)*) => {
+        $(#[test]
+        #[cfg_attr(not(original), ignore = "VVCC_ORIGINAL does not name the folder with the original's sources")]
+        fn $name() {
+            #[cfg(original)]
+            compare($rounds, |$n| $body);
+        })*
+    };
+}
+
+beside_original! {
+    fn records(n, 20000) {
+        let good = n.compact();
+        let c = n.damaged(&good);
+        let p = Picture {
+            chroma_format_idc: n.below(4) as u8,
+            bit_depth: n.below(16) as u8,
+            width: n.below(70000) as u32,
+            height: n.below(70000) as u32,
+        };
+        same(still_record(&c, p), original_record(&c, p), &[3, 22], &c)
+    }
+
+    fn streams(n, 20000) {
+        let good = n.compact();
+        let c = n.damaged(&good);
+        let k = n.below(40);
+        let stored = if n.below(2) == 0 { n.item(1 + (c.first().unwrap_or(&0) >> 5 & 3) as usize) } else { n.bytes(k) };
+        let target = [None, Some(0), Some(3)][n.below(3)];
+        same(still_stream(&c, &stored, target), original_stream(&c, &stored, target), &[22], &(c, stored))
+    }
+
+    fn access_units(n, 20000) {
+        let good = n.record();
+        let r = n.damaged(&good);
+        let good = n.item(1 + (r.first().unwrap_or(&0) >> 1 & 3) as usize);
+        let item = n.damaged(&good);
+        let target = [None, Some(0), Some(3)][n.below(3)];
+        let theirs = crate::vvcc::VvcConfig::parse(&r).and_then(|f| crate::vvcc::access_unit_annex_b(&f, &item, target));
+        same(access_unit(&r, &item, target), theirs, &[], &(r, item))
+    }
+
+    fn items(n, 20000) {
+        let size = 1 + n.below(4);
+        let good = n.item(size);
+        let (item, size) = (n.damaged(&good), if n.below(20) == 0 { 5 } else { size as u8 });
+        let ours: Result<Vec<_>, _> = item_units(&item, size).collect();
+        match (&ours, crate::hvcc::split_length_prefixed(&item, size)) {
+            (Ok(a), Ok(b)) => assert_eq!(*a, b, "{item:02X?}"),
+            (Err(_), Err(_)) => {}
+            (_, b) => panic!("{ours:02X?} but {b:02X?} for {item:02X?}"),
+        }
+        ours.is_ok()
+    }
+
+    fn stream_splits(n, 20000) {
+        let k = n.below(60);
+        let stream: Vec<u8> = (0..k).map(|_| [0, 0, 0, 1, 1, 2, 0x80][n.below(7)]).collect();
+        let ours: Vec<_> = stream_units(&stream).map(Result::unwrap).collect();
+        assert_eq!(ours, crate::hvcc::split_annex_b(&stream), "{stream:02X?}");
+        !ours.is_empty()
+    }
+}

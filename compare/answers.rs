@@ -1,0 +1,498 @@
+//! The expected answer line of a case: the original's answer, and document 01's (`reading`) where the original has none.
+
+use crate::case::{hex_onto, Case};
+use crate::reading::{self, Refusal};
+use original::boxes::Reader;
+use original::error::HeifError;
+use original::hvcc::{split_annex_b, split_length_prefixed};
+use original::vvcc::{self, CompactVvcConfig, SpsHead, VvcConfig, VvcNalArray, VvcPtlRecord};
+use std::fmt::Write;
+
+/// What a case is expected to give: the refusal's number (0 for none), what stands behind it, the output's final bytes, and how
+/// long the result is where one was made.
+pub struct Answer {
+    pub refusal: Refusal,
+    pub fields: String,
+    pub out: Vec<u8>,
+    pub result: Option<usize>,
+}
+
+/// The number that document 01 gives to an error of the original.
+fn number(e: &HeifError) -> Refusal {
+    let HeifError::InvalidData(m) = e else {
+        let HeifError::Unsupported(m) = e else {
+            panic!("{e}")
+        };
+        return if m.contains("subpicture") {
+            13
+        } else if m.contains("multi-layer V") {
+            15
+        } else {
+            panic!("{m}")
+        };
+    };
+    let table: [(&str, Refusal); 21] = [
+        ("truncated ", 1),
+        ("num_bytes_constraint_info 0", 2),
+        ("LengthSizeMinusOne 2", 3),
+        ("NAL length prefix size", 4),
+        ("zero-length NAL unit", 5),
+        ("does not fit a", 6),
+        ("trailing bytes", 7),
+        ("holds 2..=33", 8),
+        ("longer than 255", 9),
+        ("not a VVC SPS", 10),
+        ("not a VVC VPS", 10),
+        ("VVC parameter set truncated", 11),
+        ("Exp-Golomb code too long", 12),
+        ("sps_bitdepth_minus8", 14),
+        ("but no VPS", 16),
+        ("record without an SPS", 17),
+        ("carries no SPS", 17),
+        ("carries no PTL and there is no VPS", 18),
+        ("carries no NAL units", 19),
+        ("item carries no", 19),
+        ("unsupported field width", 4),
+    ];
+    // 'VVC parameter set truncated' and 'truncated FIELD: need ..' are told apart by the words in front.
+    let found = if m.starts_with("VVC parameter set truncated") {
+        Some(&("", 11))
+    } else {
+        table.iter().find(|(words, _)| m.contains(words))
+    };
+    found.unwrap_or_else(|| panic!("no number for: {m}")).1
+}
+
+fn put(s: &mut String, n: u64) {
+    write!(s, " {n}").unwrap();
+}
+
+fn put_bytes(s: &mut String, b: &[u8]) {
+    s.push_str(" =");
+    hex_onto(s, b);
+}
+
+/// A PTL as text; none is all zeros.
+fn put_ptl(s: &mut String, p: Option<&VvcPtlRecord>) {
+    let none = VvcPtlRecord::default();
+    let p = p.unwrap_or(&none);
+    put(s, p.general_profile_idc.into());
+    put(s, p.general_tier_flag.into());
+    put(s, p.general_level_idc.into());
+    put(s, p.ptl_frame_only_constraint_flag.into());
+    put(s, p.ptl_multilayer_enabled_flag.into());
+    put(s, p.general_constraint_info.len() as u64);
+    put_bytes(s, &p.general_constraint_info);
+    put(s, p.sublayer_level_idc.len() as u64);
+    let levels: Vec<u8> = p
+        .sublayer_level_idc
+        .iter()
+        .flat_map(|l| [l.is_some() as u8, l.unwrap_or(0)])
+        .collect();
+    put_bytes(s, &levels);
+    put(s, p.general_sub_profile_idc.len() as u64);
+    let subs: Vec<u8> = p
+        .general_sub_profile_idc
+        .iter()
+        .flat_map(|v| v.to_be_bytes())
+        .collect();
+    put_bytes(s, &subs);
+}
+
+/// A full record's head as text; none is all zeros.
+fn put_head(s: &mut String, h: Option<&VvcConfig>) {
+    let Some(h) = h else {
+        for _ in 0..7 {
+            put(s, 0);
+        }
+        put_ptl(s, None);
+        for _ in 0..3 {
+            put(s, 0);
+        }
+        return;
+    };
+    put(s, h.length_size.into());
+    put(s, h.ptl_present_flag.into());
+    put(s, h.ols_idx.into());
+    put(s, h.num_sublayers.into());
+    put(s, h.constant_frame_rate.into());
+    put(s, h.chroma_format_idc.into());
+    put(s, h.bit_depth_minus8.into());
+    put_ptl(s, h.native_ptl.as_ref());
+    put(s, h.max_picture_width.into());
+    put(s, h.max_picture_height.into());
+    put(s, h.avg_frame_rate.into());
+}
+
+/// An SPS head as text; none is all zeros.
+fn put_sps(s: &mut String, h: Option<&SpsHead>) {
+    let (numbers, ptl, size, window, depth) = match h {
+        None => ([0; 5], None, (0, 0), None, 0),
+        Some(h) => (
+            [
+                h.sps_id,
+                h.vps_id,
+                h.max_sublayers_minus1,
+                h.chroma_format_idc,
+                h.log2_ctu_size,
+            ],
+            h.ptl.as_ref(),
+            (h.pic_width, h.pic_height),
+            h.conformance_window,
+            h.bit_depth,
+        ),
+    };
+    for n in numbers {
+        put(s, n.into());
+    }
+    put(s, ptl.is_some().into());
+    put_ptl(s, ptl);
+    put(s, size.0.into());
+    put(s, size.1.into());
+    put(s, window.is_some().into());
+    let w = window.unwrap_or((0, 0, 0, 0));
+    for n in [w.0, w.1, w.2, w.3] {
+        put(s, n.into());
+    }
+    put(s, depth.into());
+}
+
+/// The head of a case, in the original's form, and its three counts.
+pub fn head_of(c: &Case, at: usize) -> (VvcConfig, [usize; 3]) {
+    let b = |i: usize| c.byte(at + i);
+    let two = |i: usize| c.number(at + i, 2) as u16;
+    let counts = [two(19) as usize, two(21) as usize, two(23) as usize];
+    let (n, m, k) = (counts[0].min(63), counts[1].min(7), counts[2].min(255));
+    let info = (0..n).map(|i| b(25 + i)).collect();
+    let levels = (0..m)
+        .map(|i| (b(25 + n + 2 * i) != 0).then(|| b(25 + n + 2 * i + 1)))
+        .collect();
+    let subs = (0..k)
+        .map(|i| c.number(at + 25 + n + 2 * m + 4 * i, 4) as u32)
+        .collect();
+    let ptl = VvcPtlRecord::new(
+        b(14),
+        b(15) != 0,
+        b(16),
+        b(17) != 0,
+        b(18) != 0,
+        info,
+        levels,
+        subs,
+    );
+    let head = VvcConfig::new(
+        0,
+        b(0),
+        b(1) != 0,
+        two(2),
+        b(4),
+        b(5),
+        b(6),
+        b(7),
+        Some(ptl),
+        two(8),
+        two(10),
+        two(12),
+        Vec::new(),
+        Vec::new(),
+    );
+    (head, counts)
+}
+
+fn with_list(c: &Case, at: usize) -> Result<(VvcConfig, [usize; 3]), Refusal> {
+    let arrays = reading::list(&c.first)?;
+    let (mut head, counts) = head_of(c, at);
+    head.arrays = arrays;
+    Ok((head, counts))
+}
+
+/// A field of `boxes`: its number and the place behind it.
+fn field(c: &Case, width: u64) -> Result<String, Refusal> {
+    if !(1..=4).contains(&width) {
+        return Err(4);
+    }
+    let at = c.number(0, 8) as usize;
+    let mut r = Reader::new(&c.first);
+    r.skip(at, "place").map_err(|e| number(&e))?;
+    let v = match (c.op, width) {
+        (3, _) => r.u8("field").map(u64::from),
+        (4, _) => r.u16("field").map(u64::from),
+        (5, _) => r.u32("field").map(u64::from),
+        _ => r.uint(width as usize, "field"),
+    };
+    Ok(format!(" {} {}", v.map_err(|e| number(&e))?, r.position()))
+}
+
+/// How many bytes a full record takes: the length of its shortest front that reads.
+fn consumed(s: &[u8]) -> usize {
+    let (mut low, mut high) = (0, s.len());
+    while low < high {
+        let mid = (low + high) / 2;
+        if VvcConfig::parse(&s[..mid]).is_ok() {
+            high = mid;
+        } else {
+            low = mid + 1;
+        }
+    }
+    low
+}
+
+/// The next unit of a stream from a place on, by the original's splitting of what lies from there on.
+fn next_unit(s: &[u8], from: usize) -> String {
+    let units = if from < s.len() {
+        split_annex_b(&s[from..])
+    } else {
+        Vec::new()
+    };
+    match units.first() {
+        None => " 0".into(),
+        Some(u) => {
+            let start = u.as_ptr() as usize - s.as_ptr() as usize;
+            format!(" 1 {start} {} {}", u.len(), start + u.len())
+        }
+    }
+}
+
+fn cropped(c: &Case) -> String {
+    let four = |at| c.number(at, 4) as u32;
+    let window = (c.byte(9) != 0).then(|| (four(10), four(14), four(18), four(22)));
+    let head = SpsHead::new(0, 0, 0, c.byte(0), 5, None, four(1), four(5), window, 8);
+    let (w, h) = head.cropped_size();
+    format!(" {w} {h}")
+}
+
+fn part(units: &[&[u8]], k: u64) -> String {
+    let mut s = String::new();
+    put_bytes(&mut s, units.get(k as usize).copied().unwrap_or(&[]));
+    s
+}
+
+fn flag(yes: bool) -> String {
+    format!(" {}", yes as u8)
+}
+
+fn header_part(v: Option<u8>) -> String {
+    v.map_or(" 0".into(), |v| format!(" 1 {v}"))
+}
+
+/// The calls that write nothing to lent memory.
+fn plain(c: &Case) -> Result<String, Refusal> {
+    let s = &c.first[..];
+    let t = c.byte(0);
+    let k = c.number(1, 8);
+    let units = |arrays: Vec<VvcNalArray>| {
+        let (mut h, _) = head_of(&Case::default(), 0);
+        h.arrays = arrays;
+        h
+    };
+    Ok(match c.op {
+        1 => return Err(u32::from(t)),
+        2 => field(c, c.number(8, 8))?,
+        3 => field(c, 1)?,
+        4 => field(c, 2)?,
+        5 => field(c, 4)?,
+        6 => header_part(vvcc::nal_unit_type(s)),
+        7 => header_part(vvcc::nal_layer_id(s)),
+        8 => header_part(vvcc::nal_temporal_id_plus1(s)),
+        9 => flag(reading::check_unit(s)),
+        10 => part(&[&vvcc::nal_header(t, c.byte(1), c.byte(2))], 0),
+        11 => format!(" {}", reading::unit_kind(t)),
+        12 => flag(vvcc::is_vcl(t)),
+        13 => flag(vvcc::is_record_nal_type(t)),
+        14 => format!(" {}", units(reading::list(s)?).nal_count()),
+        15 => {
+            let h = units(reading::list(s).unwrap_or_default());
+            let all: Vec<&[u8]> = h.nal_units().collect();
+            part(&all, k)
+        }
+        16 => format!(" {}", units(reading::list(s)?).nal_units_of_type(t).len()),
+        17 => {
+            let h = units(reading::list(s).unwrap_or_default());
+            let all = h.nal_units_of_type(t);
+            part(&all, k)
+        }
+        21 => vvcc::read_opi_ols_idx(s).map_or(" 0".into(), |v| format!(" 1 {v}")),
+        22 => cropped(c),
+        23 => format!(
+            " {}",
+            split_length_prefixed(s, t).map_err(|e| number(&e))?.len()
+        ),
+        24 => part(&split_length_prefixed(s, t).unwrap_or_default(), k),
+        25 => format!(" {}", split_annex_b(s).len()),
+        26 => part(&split_annex_b(s), k),
+        27 => next_unit(s, k as usize),
+        34 => {
+            let (h, _) = with_list(c, 0)?;
+            if h.ptl_present_flag && h.bit_depth_minus8 > 247 {
+                return Err(22);
+            }
+            let (chroma, depth) = h.sample_format().map_err(|e| number(&e))?;
+            format!(" {chroma} {depth}")
+        }
+        37 | 38 => {
+            let (h, _) = match with_list(c, 11) {
+                Err(_) if c.op == 38 => return Ok(" =".into()),
+                given => given?,
+            };
+            let tols = (t != 0).then(|| c.number(1, 2) as u16);
+            let made = vvcc::access_unit_annex_b(&h, &c.second, tols).map_err(|e| number(&e));
+            let Ok(stream) = made else {
+                return if c.op == 37 {
+                    Err(made.unwrap_err())
+                } else {
+                    Ok(" =".into())
+                };
+            };
+            let units = reading::access_unit(&h, &c.second, tols);
+            let joined: Vec<u8> = units
+                .iter()
+                .flat_map(|u| [&[0, 0, 0, 1], &u[..]].concat())
+                .collect();
+            assert_eq!(
+                stream, joined,
+                "the units of the access unit are not those of the original's stream"
+            );
+            let all: Vec<&[u8]> = units.iter().map(Vec::as_slice).collect();
+            if c.op == 37 {
+                format!(" {}", all.len())
+            } else {
+                part(&all, c.number(3, 8))
+            }
+        }
+        _ => unreachable!("{}", c.op),
+    })
+}
+
+/// The calls that write to lent memory: what stands behind the refusal's number, and the bytes.
+fn writing(c: &Case) -> Result<(String, Vec<u8>), Refusal> {
+    let s = &c.first[..];
+    let said = |e: HeifError| number(&e);
+    let compact = |units| CompactVvcConfig::new(c.byte(0) != 0, c.byte(1), units);
+    let plain = |b: Vec<u8>| (format!(" {}", b.len()), b);
+    let units_of =
+        |arrays: Vec<VvcNalArray>| arrays.into_iter().flat_map(|a| a.nal_units).collect();
+    Ok(match c.op {
+        18 => plain(vvcc::extract_rbsp(s)),
+        28 => {
+            let r = CompactVvcConfig::parse(s).map_err(said)?;
+            let (flag, size, n) = (r.multi_layer_flag, r.length_size, r.nal_units.len());
+            let list = reading::list_bytes(&[VvcNalArray::new(false, 0, r.nal_units)]);
+            (format!(" {} {size} {n} {}", flag as u8, list.len()), list)
+        }
+        29 => {
+            let units = units_of(reading::list(s)?);
+            if !(1..=4).contains(&c.byte(1)) {
+                return Err(4);
+            }
+            plain(compact(units).serialize().map_err(said)?)
+        }
+        30 => plain(compact(Vec::new()).item_data(s).map_err(said)?),
+        31 => plain(compact(Vec::new()).strip_item_data(s).ok_or(24u32)?),
+        32 => {
+            let h = VvcConfig::parse(s).map_err(said)?;
+            let list = reading::list_bytes(&h.arrays);
+            let mut text = format!(" {} {}", consumed(s), list.len());
+            put_head(&mut text, Some(&h));
+            (text, list)
+        }
+        33 => {
+            let (h, counts) = with_list(c, 0)?;
+            reading::full_writer(&h, counts)?;
+            plain(h.serialize())
+        }
+        35 => {
+            let units = units_of(reading::list(s)?);
+            let (width, height) = (c.number(4, 4) as u32, c.number(8, 4) as u32);
+            let h = compact(units)
+                .to_full(c.byte(2), c.byte(3), width, height)
+                .map_err(said)?;
+            let list = reading::list_bytes(&h.arrays);
+            let mut text = format!(" {}", list.len());
+            put_head(&mut text, Some(&h));
+            (text, list)
+        }
+        36 => {
+            let (h, _) = with_list(c, 11)?;
+            let tols = (c.byte(0) != 0).then(|| c.number(1, 2) as u16);
+            plain(vvcc::access_unit_annex_b(&h, &c.second, tols).map_err(said)?)
+        }
+        _ => unreachable!("{}", c.op),
+    })
+}
+
+/// What stands behind a refusal's number: nothing, or a head of zeros.
+fn zeros(op: u8) -> String {
+    let mut s = String::new();
+    match op {
+        19 => put_sps(&mut s, None),
+        20 => put_ptl(&mut s, None),
+        32 | 35 => put_head(&mut s, None),
+        _ => {}
+    }
+    s
+}
+
+/// The expected answer.
+pub fn answer(c: &Case) -> Answer {
+    assert!(c.first.len() <= reading::LARGEST && c.second.len() <= reading::LARGEST);
+    let out = vec![c.fill; c.room];
+    let refused = |refusal, out| Answer {
+        refusal,
+        fields: zeros(c.op),
+        out,
+        result: None,
+    };
+    match c.op {
+        19 | 20 => {
+            let mut fields = String::new();
+            let r = if c.op == 19 {
+                SpsHead::parse_nal(&c.first).map(|h| put_sps(&mut fields, Some(&h)))
+            } else {
+                vvcc::vps_first_ptl(&c.first).map(|p| put_ptl(&mut fields, Some(&p)))
+            };
+            match r {
+                Ok(()) => Answer {
+                    refusal: 0,
+                    fields,
+                    out,
+                    result: None,
+                },
+                Err(e) => refused(number(&e), out),
+            }
+        }
+        18 | 28..=33 | 35 | 36 => match writing(c) {
+            Err(e) => refused(e, out),
+            Ok((_, result)) if result.len() > c.room => Answer {
+                result: Some(result.len()),
+                ..refused(20, out)
+            },
+            Ok((fields, result)) => {
+                let mut out = out;
+                out[..result.len()].copy_from_slice(&result);
+                Answer {
+                    refusal: 0,
+                    fields,
+                    out,
+                    result: Some(result.len()),
+                }
+            }
+        },
+        _ => match plain(c) {
+            Err(e) => refused(e, out),
+            Ok(fields) => Answer {
+                refusal: 0,
+                fields,
+                out,
+                result: None,
+            },
+        },
+    }
+}
+
+/// The whole answer line.
+pub fn line(c: &Case, a: &Answer) -> String {
+    let mut s = format!("{} {}{}", c.op, a.refusal, a.fields);
+    put_bytes(&mut s, &a.out);
+    s.push('\n');
+    s
+}

@@ -1,0 +1,239 @@
+//! The intended differences, each on its smallest input: what the original does, run here, and the answer line of `replay`.
+
+use crate::answers::{answer, head_of, line};
+use crate::case::{hex_onto, Case};
+use crate::reading::{list, list_bytes};
+use original::boxes::Reader;
+use original::vvcc::{self, CompactVvcConfig, VvcConfig, VvcNalArray};
+use std::io::{BufRead, BufReader, Write};
+use std::process::{Command, Stdio};
+
+fn hex(bytes: &[u8]) -> String {
+    let mut s = String::new();
+    hex_onto(&mut s, &bytes[..bytes.len().min(24)]);
+    if bytes.len() > 24 {
+        s.push_str(&format!(".. ({} bytes)", bytes.len()));
+    }
+    s
+}
+
+/// A head of zeros with prefix size 1, or with the PTL flag, one constraint byte and one changed byte.
+fn head(ptl: bool, changed: &[(usize, u8)]) -> Vec<u8> {
+    let mut h = vec![0; 26];
+    h[0] = 1;
+    h[1] = ptl as u8;
+    h[20] = 1;
+    for &(at, b) in changed {
+        h[at] = b;
+    }
+    h
+}
+
+/// The full writer's case and what the original writes, with what its own reader makes of that.
+fn written(numbers: Vec<u8>, arrays: &[VvcNalArray]) -> (Case, String) {
+    let mut c = Case::new(33, numbers, list_bytes(arrays));
+    c.room = 8;
+    let (mut h, counts) = head_of(&c, 0);
+    if let Some(p) = h.native_ptl.as_mut() {
+        p.general_constraint_info.resize(counts[0], 0);
+        p.sublayer_level_idc.resize(counts[1], None);
+        p.general_sub_profile_idc.resize(counts[2], 0);
+    }
+    h.arrays = list(&c.first).unwrap();
+    let bytes = h.serialize();
+    let back = match VvcConfig::parse(&bytes) {
+        Err(e) => format!("refused by its own reader ({e})"),
+        Ok(mut r) => {
+            r.raw.clear();
+            h.native_ptl = if h.ptl_present_flag {
+                h.native_ptl
+            } else {
+                None
+            };
+            if r == h {
+                "read back the same".into()
+            } else {
+                "read back as another record".into()
+            }
+        }
+    };
+    (c, format!("writes {}, {back}", hex(&bytes)))
+}
+
+fn entries() -> Vec<(&'static str, Case, String)> {
+    let array = |t, units: Vec<Vec<u8>>| VvcNalArray::new(true, t, units);
+    let none: [VvcNalArray; 0] = [];
+    let mut out: Vec<(&'static str, Case, String)> = Vec::new();
+    let mut add = |what, (c, said): (Case, String)| out.push((what, c, said));
+    add(
+        "output shorter than the result",
+        (
+            Case::new(18, vec![], vec![9]),
+            hex(&vvcc::extract_rbsp(&[9])),
+        ),
+    );
+    add(
+        "a list with no version byte",
+        (
+            Case::new(14, vec![], vec![]),
+            "no such input: `arrays` is a vector".into(),
+        ),
+    );
+    let mut r = Reader::new(&[]);
+    let zero = r
+        .uint(0, "field")
+        .map(|v| v.to_string())
+        .unwrap_or_else(|e| e.to_string());
+    add("`uint_at`, width 0", (Case::new(2, vec![], vec![]), zero));
+    let mut r = Reader::new(&[1, 2, 3, 4, 5]);
+    let five = r
+        .uint(5, "field")
+        .map(|v| v.to_string())
+        .unwrap_or_else(|e| e.to_string());
+    let wide = [vec![0; 15], vec![5]].concat();
+    add(
+        "`uint_at`, width 5",
+        (Case::new(2, wide, vec![1, 2, 3, 4, 5]), five),
+    );
+    for (what, changed) in [
+        ("full writer, operating point 512", vec![(2, 2)]),
+        ("full writer, 8 sublayers", vec![(4, 8)]),
+        ("full writer, constant rate 4", vec![(5, 4)]),
+        ("full writer, chroma 4", vec![(6, 4)]),
+        ("full writer, depth minus 8 of 8", vec![(7, 8)]),
+        ("full writer, profile 128", vec![(14, 128)]),
+        ("full writer, 64 constraint bytes", vec![(20, 64)]),
+        ("full writer, 8 levels", vec![(22, 8)]),
+        ("full writer, 256 sub-profiles", vec![(23, 1)]),
+    ] {
+        add(what, written(head(true, &changed), &none));
+    }
+    add(
+        "full writer, size 0",
+        written(head(false, &[(0, 0)]), &none),
+    );
+    add(
+        "full writer, size 3",
+        written(head(false, &[(0, 3)]), &none),
+    );
+    add(
+        "full writer, size 5",
+        written(head(false, &[(0, 5)]), &none),
+    );
+    add(
+        "full writer, 256 arrays",
+        written(head(false, &[]), &vec![array(0, vec![]); 256]),
+    );
+    add(
+        "full writer, 65,536 units",
+        written(head(false, &[]), &[array(0, vec![vec![]; 65536])]),
+    );
+    add(
+        "full writer, a unit of 65,536 bytes",
+        written(head(false, &[]), &[array(0, vec![vec![7; 65536]])]),
+    );
+    add(
+        "full writer, type 12 without a unit",
+        written(head(false, &[]), &[array(12, vec![])]),
+    );
+    add(
+        "full writer, type 13 with two units",
+        written(head(false, &[]), &[array(13, vec![vec![], vec![]])]),
+    );
+    for (what, size) in [("compact writer, size 0", 0), ("compact writer, size 5", 5)] {
+        let units = vec![Vec::new(), Vec::new()];
+        let mut c = Case::new(29, vec![0, size], list_bytes(&[array(0, units.clone())]));
+        c.room = 8;
+        let made = CompactVvcConfig::new(false, size, units).serialize();
+        add(what, (c, format!("writes {}", hex(&made.unwrap()))));
+    }
+    let c = Case::new(34, head(true, &[(7, 248)]), vec![1]);
+    let (h, _) = head_of(&c, 0);
+    let format = std::panic::catch_unwind(|| h.sample_format().map_err(|e| e.to_string()));
+    let said = format.map_or("panics: the sum overflows".into(), |f| format!("{f:?}"));
+    add("`sample_format`, depth minus 8 of 248", (c, said));
+    let said = format!(
+        "{:?}",
+        CompactVvcConfig::new(false, 1, vec![]).strip_item_data(&[])
+    );
+    add(
+        "`strip_item_data`, the empty item",
+        (Case::new(31, vec![0, 1], vec![]), said),
+    );
+    out
+}
+
+/// Inputs on which the original differs from the standards, and this build with it.
+fn of_the_standards() -> Vec<(&'static str, Case, String)> {
+    let bytes = |op, numbers: &[u8], first: &[u8]| {
+        let mut c = Case::new(op, numbers.to_vec(), first.to_vec());
+        c.room = answer(&c).result.unwrap_or(0);
+        c
+    };
+    let opi = vec![0, 0x61, 0x90];
+    let record = list_bytes(&[VvcNalArray::new(true, 12, vec![opi.clone()])]);
+    let mut au = Case::new(
+        36,
+        [vec![1], vec![0; 10], head(false, &[])].concat(),
+        record,
+    );
+    au.second = [&[3][..], &opi, &[2, 0, 0x61, 2, 0, 0x41]].concat();
+    au.room = 30;
+    let list = vec![
+        ("reserved bits of a full record", bytes(32, &[], &[0, 0])),
+        ("bytes behind a full record", bytes(32, &[], &[0xf8, 0, 0x55])),
+        ("an array type outside 12 to 17 and 23", bytes(32, &[], &[0xf8, 1, 0x80, 0, 0])),
+        ("a unit of length 0 in a full record", bytes(32, &[], &[0xf8, 1, 0x8f, 0, 1, 0, 0])),
+        ("a unit of length 0 and prefix size 3 in a compact record", bytes(28, &[], &[0x40, 0, 0])),
+        ("forbidden_zero_bit and nuh_reserved_zero_bit, stripped", bytes(31, &[0, 1], &[3, 0xc0, 0x41, 0x9a])),
+        ("the same, restored", bytes(30, &[0, 1], &[0x9a])),
+        ("sps_max_sublayers_minus1 of 7", bytes(19, &[], &[0, 0x79, 0, 0xe0, 0x32])),
+        ("sps_log2_ctu_size_minus5 of 3", bytes(19, &[], &[0, 0x79, 0, 0x06, 0x32])),
+        ("alignment bits of a VPS and its PTL", bytes(20, &[], &[0, 0x71, 0, 0, 0x1f, 2, 0x33, 0x1f, 0])),
+        ("an SPS with subpictures", bytes(19, &[], &[0, 0x79, 0, 0, 0x34])),
+        ("a VPS with two layers", bytes(20, &[], &[0, 0x71, 0, 0x40])),
+        ("00 00 00 inside a stream's unit", bytes(26, &[], &[0, 0, 1, 9, 0, 0, 0, 5])),
+        ("OPI units of operating point 1, target 0, in the record and in the item, and one that does not read", au),
+    ];
+    list.into_iter()
+        .map(|(what, c)| (what, c.clone(), line(&c, &answer(&c))))
+        .collect()
+}
+
+/// Prints both tables.
+pub fn print(replay: &str) -> bool {
+    std::panic::set_hook(Box::new(|_| {}));
+    let first = table(replay, entries());
+    println!();
+    let second = table(replay, of_the_standards());
+    first && second
+}
+
+fn table(replay: &str, entries: Vec<(&'static str, Case, String)>) -> bool {
+    let mut child = Command::new(replay)
+        .stdin(Stdio::piped())
+        .stdout(Stdio::piped())
+        .spawn()
+        .expect("replay starts");
+    let mut input = child.stdin.take().unwrap();
+    let text: String = entries.iter().map(|e| e.1.line()).collect();
+    let writer = std::thread::spawn(move || {
+        input
+            .write_all(text.as_bytes())
+            .expect("replay takes its cases")
+    });
+    println!("| what | the original | `replay` |\n|---|---|---|");
+    for ((what, _, said), line) in entries
+        .iter()
+        .zip(BufReader::new(child.stdout.take().unwrap()).lines())
+    {
+        println!(
+            "| {what} | {} | `{}` |",
+            said.trim_end(),
+            line.expect("replay's answers are read")
+        );
+    }
+    writer.join().unwrap();
+    child.wait().unwrap();
+    true
+}

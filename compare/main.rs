@@ -1,0 +1,191 @@
+//! Holds `replay` against the original: `compare REPLAY SEED CASES [WRONG]`, where the expected answer of case number WRONG is made wrong.
+//! Answers cases from standard input as is expected of `replay`: `compare answers`. Prints the intended differences: `compare differences REPLAY`. Writes the recorded list: `compare record FOLDER SEED`.
+
+mod answers;
+mod case;
+mod differences;
+mod generator;
+mod limits;
+mod reading;
+mod recorded;
+mod rng;
+mod shapes;
+
+use case::{Case, NAMES};
+use std::collections::BTreeMap;
+use std::io::{BufRead, BufReader, BufWriter, Write};
+use std::process::{Command, Stdio};
+use std::sync::mpsc::{sync_channel, Receiver};
+
+/// The bytes that `replay` has for a case, and for an output.
+const LONGEST: usize = 524_288;
+
+/// A case's line, its expected answer, its call and its refusal.
+type Expected = (String, String, u8, u32);
+
+/// How often a call gave a refusal's number, by both.
+type Table = BTreeMap<(u8, u32), u64>;
+
+/// Every case of a run: the whole lists first, then as many of any shape as are asked for.
+fn all_cases(seed: u64, count: usize, emit: generator::Emit) {
+    generator::worked(emit);
+    generator::numbers(emit);
+    limits::limits(emit);
+    generator::large(emit);
+    generator::short_strings(2, emit);
+    generator::zero_strings(8, emit);
+    let mut r = rng::Rng(seed);
+    generator::fronts(&mut r, count / 5000, emit);
+    for _ in 0..count {
+        emit(generator::any(&mut r));
+    }
+}
+
+fn expected(c: &Case) -> Expected {
+    let a = answers::answer(c);
+    (
+        c.line(),
+        answers::line(c, &a),
+        c.op,
+        if c.op == 1 { 0 } else { a.refusal },
+    )
+}
+
+/// Reads the answers of `replay` and compares each with the expected one; how many there were and how many differ.
+fn compare(answers: impl BufRead, cases: Receiver<Vec<Expected>>, table: &mut Table) -> (u64, u64) {
+    let (mut n, mut differ) = (0, 0);
+    let mut lines = answers;
+    let mut got = String::new();
+    for (line, want, op, refusal) in cases.into_iter().flatten() {
+        got.clear();
+        lines
+            .read_line(&mut got)
+            .expect("replay's answers are read");
+        n += 1;
+        if got == want {
+            *table.entry((op, refusal)).or_default() += 1;
+            continue;
+        }
+        differ += 1;
+        if differ <= 10 {
+            println!(
+                "differs: {}\n  case     {line}  expected {want}  replay   {}",
+                NAMES[op as usize - 1],
+                got
+            );
+        }
+    }
+    got.clear();
+    if lines
+        .read_line(&mut got)
+        .expect("replay's answers are read")
+        > 0
+    {
+        differ += 1;
+        println!("replay says more than it was asked");
+    }
+    (n, differ)
+}
+
+fn print(table: &Table) {
+    println!("\n| call | accepted | refused, by number |\n|---|---:|---|");
+    for (i, name) in NAMES.iter().enumerate() {
+        let of = |e| table.get(&(i as u8 + 1, e)).copied().unwrap_or(0);
+        let refused: Vec<String> = (1..=24)
+            .filter(|&e| of(e) > 0)
+            .map(|e| format!("{e}: {}", of(e)))
+            .collect();
+        println!("| `{name}` | {} | {} |", of(0), refused.join(", "));
+    }
+}
+
+fn run(replay: &str, seed: u64, count: usize, wrong: Option<usize>) -> bool {
+    let mut child = Command::new(replay)
+        .stdin(Stdio::piped())
+        .stdout(Stdio::piped())
+        .spawn()
+        .expect("replay starts");
+    let mut input = BufWriter::with_capacity(1 << 16, child.stdin.take().unwrap());
+    let output = BufReader::with_capacity(1 << 16, child.stdout.take().unwrap());
+    let (to_replay, lines) = sync_channel::<Vec<u8>>(8);
+    let (to_compare, cases) = sync_channel::<Vec<Expected>>(64);
+    let writer = std::thread::spawn(move || {
+        for text in lines {
+            input.write_all(&text).expect("replay takes its cases");
+        }
+    });
+    let reader = std::thread::spawn(move || {
+        let mut table = Table::new();
+        let counts = compare(output, cases, &mut table);
+        (counts, table)
+    });
+    let mut batch = Vec::new();
+    let mut n = 0;
+    let send = |batch: &mut Vec<Expected>| {
+        let text: Vec<u8> = batch.iter().flat_map(|e| e.0.bytes()).collect();
+        to_compare.send(std::mem::take(batch)).unwrap();
+        to_replay.send(text).unwrap();
+    };
+    all_cases(seed, count, &mut |c| {
+        let mut e = expected(&c);
+        if Some(n) == wrong {
+            e.1.insert(0, '9');
+        }
+        n += 1;
+        batch.push(e);
+        if batch.len() == 256 {
+            send(&mut batch);
+        }
+    });
+    send(&mut batch);
+    drop(to_replay);
+    drop(to_compare);
+    writer.join().unwrap();
+    let ((n, differ), table) = reader.join().unwrap();
+    child.wait().unwrap();
+    print(&table);
+    println!("\nseed {seed}\n{n} cases, {differ} differ");
+    differ == 0
+}
+
+/// The expected answer to the case of a line, the program's own answers included.
+fn answer_to(line: &str) -> String {
+    match Case::of_line(line) {
+        None => "malformed case\n".into(),
+        Some(c) if c.size() > LONGEST || c.room > LONGEST => "case too long\n".into(),
+        Some(c) if c.op == 0 || c.op as usize > NAMES.len() => {
+            let mut s = format!("{} no such call =", c.op);
+            case::hex_onto(&mut s, &vec![c.fill; c.room]);
+            s + "\n"
+        }
+        Some(c) => answers::line(&c, &answers::answer(&c)),
+    }
+}
+
+/// Answers every case of standard input.
+fn answer_all() -> bool {
+    let mut out = BufWriter::new(std::io::stdout().lock());
+    for line in std::io::stdin().lock().lines() {
+        out.write_all(answer_to(&line.expect("a line")).as_bytes())
+            .expect("a line is written");
+    }
+    true
+}
+
+fn main() {
+    let words: Vec<String> = std::env::args().skip(1).collect();
+    let number = |i: usize| words.get(i).map(|w| w.parse::<u64>().expect("a number"));
+    let good = match words.first().map(String::as_str) {
+        Some("answers") => answer_all(),
+        Some("differences") => differences::print(&words[1]),
+        Some("record") => recorded::write(&words[1], number(2).unwrap_or(1)),
+        Some(replay) => run(
+            replay,
+            number(1).unwrap_or(1),
+            number(2).unwrap_or(1) as usize,
+            number(3).map(|n| n as usize),
+        ),
+        None => panic!("words are missing"),
+    };
+    std::process::exit(!good as i32);
+}

@@ -1,0 +1,139 @@
+//! What the original does not have, read off document 01: the unit list, the unit check, the kinds of units, the full writer's
+//! limits, the units of an access unit one by one.
+
+use original::hvcc::split_length_prefixed;
+use original::vvcc::{self, VvcConfig, VvcNalArray};
+
+/// A refusal's number.
+pub type Refusal = u32;
+
+/// The largest input that a call takes (refusal 23).
+pub const LARGEST: usize = 1 << 30;
+
+fn chunk(s: &[u8]) -> Option<(&[u8], &[u8])> {
+    let n = u32::from_be_bytes(s.get(..4)?.try_into().ok()?) as usize;
+    let rest = &s[4..];
+    (n <= rest.len()).then(|| rest.split_at(n))
+}
+
+fn array(s: &[u8]) -> Option<VvcNalArray> {
+    let (&complete, s) = s.split_first()?;
+    let (&kind, mut s) = s.split_first()?;
+    if complete > 1 || kind > 31 {
+        return None;
+    }
+    let mut units = Vec::new();
+    while !s.is_empty() {
+        let (unit, rest) = chunk(s)?;
+        units.push(unit.to_vec());
+        s = rest;
+    }
+    Some(VvcNalArray::new(complete == 1, kind, units))
+}
+
+/// A unit list taken apart; 21 where it is malformed.
+pub fn list(s: &[u8]) -> Result<Vec<VvcNalArray>, Refusal> {
+    let Some((1, mut s)) = s.split_first() else {
+        return Err(21);
+    };
+    let mut arrays = Vec::new();
+    while !s.is_empty() {
+        let (one, rest) = chunk(s).ok_or(21u32)?;
+        arrays.push(array(one).ok_or(21u32)?);
+        s = rest;
+    }
+    Ok(arrays)
+}
+
+/// A unit list of arrays.
+pub fn list_bytes(arrays: &[VvcNalArray]) -> Vec<u8> {
+    let mut out = vec![1];
+    for a in arrays {
+        let mut one = vec![a.complete as u8, a.nal_unit_type];
+        for u in &a.nal_units {
+            one.extend_from_slice(&(u.len() as u32).to_be_bytes());
+            one.extend_from_slice(u);
+        }
+        out.extend_from_slice(&(one.len() as u32).to_be_bytes());
+        out.extend_from_slice(&one);
+    }
+    out
+}
+
+/// The unit check: not empty, no 00 00 01, no 00 at the end.
+pub fn check_unit(u: &[u8]) -> bool {
+    !u.is_empty() && !u.windows(3).any(|w| w == [0, 0, 1]) && u[u.len() - 1] != 0
+}
+
+/// The kinds of units, numbered as `replay` does.
+pub fn unit_kind(t: u8) -> u64 {
+    match t {
+        0..=11 => 0,
+        12 => 1,
+        13 => 2,
+        14 => 3,
+        15 => 4,
+        16 => 5,
+        17 => 6,
+        23 => 7,
+        20 => 8,
+        _ => 9,
+    }
+}
+
+/// The full writer's own refusals, 3 and 22, of a head and arrays; `counts` are the head's counts of constraint bytes, levels
+/// and sub-profiles.
+pub fn full_writer(h: &VvcConfig, counts: [usize; 3]) -> Result<(), Refusal> {
+    if h.length_size == 3 {
+        return Err(3);
+    }
+    let profile = h.native_ptl.as_ref().map_or(0, |p| p.general_profile_idc);
+    let head = h.ols_idx > 511
+        || h.num_sublayers > 7
+        || h.constant_frame_rate > 3
+        || h.chroma_format_idc > 3
+        || h.bit_depth_minus8 > 7
+        || profile > 127
+        || counts[0] > 63
+        || counts[1] > 7
+        || counts[2] > 255;
+    let size = !(1..=4).contains(&h.length_size);
+    let arrays = h.arrays.len() > 255
+        || h.arrays.iter().any(|a| {
+            a.nal_units.len() > 65535
+                || a.nal_units.iter().any(|u| u.len() > 65535)
+                || ((a.nal_unit_type == 12 || a.nal_unit_type == 13) && a.nal_units.len() != 1)
+        });
+    if size || (h.ptl_present_flag && head) || arrays {
+        return Err(22);
+    }
+    Ok(())
+}
+
+/// The units of an access unit that is accepted: leading AUD and OPI units of the item, the list's, the rest of the item's; an OPI
+/// of the item is dropped where a target exists and its operating point reads and differs.
+pub fn access_unit(h: &VvcConfig, item: &[u8], tols: Option<u16>) -> Vec<Vec<u8>> {
+    let target = match tols {
+        Some(t) => Some(u32::from(t)),
+        None if h.ptl_present_flag => Some(u32::from(h.ols_idx)),
+        None => None,
+    };
+    let units = split_length_prefixed(item, h.length_size).expect("the item was split before");
+    let kind = |u: &[u8]| u.get(1).map(|b| b / 8);
+    let leading = units
+        .iter()
+        .take_while(|u| matches!(kind(u), Some(12) | Some(20)))
+        .count();
+    let kept = |u: &&&[u8]| {
+        kind(u) != Some(12)
+            || match (target, vvcc::read_opi_ols_idx(u)) {
+                (Some(t), Some(o)) => t == o,
+                _ => true,
+            }
+    };
+    let mut out: Vec<Vec<u8>> = Vec::new();
+    out.extend(units[..leading].iter().filter(kept).map(|u| u.to_vec()));
+    out.extend(h.arrays.iter().flat_map(|a| a.nal_units.iter().cloned()));
+    out.extend(units[leading..].iter().filter(kept).map(|u| u.to_vec()));
+    out
+}

@@ -1,0 +1,175 @@
+//! The recorded list of the gate: some thousands of short cases with the expected answers. A case is taken where it reaches a region of
+//! the original that no earlier case reached, or is one of the first of its kind: its call, refusal and room.
+
+use crate::answers;
+use crate::case::Case;
+use crate::generator;
+use crate::limits;
+use crate::rng::Rng;
+use crate::shapes;
+use std::collections::BTreeMap;
+use std::fs;
+use std::path::Path;
+
+/// The counters that the compiler puts into the original with `-C instrument-coverage`, one for each region of its code.
+#[cfg(counted)]
+mod counters {
+    extern "C" {
+        #[link_name = "__start___llvm_prf_cnts"]
+        static START: u64;
+        #[link_name = "__stop___llvm_prf_cnts"]
+        static STOP: u64;
+    }
+
+    pub fn all() -> Vec<u64> {
+        let (start, stop) = (&raw const START, &raw const STOP);
+        let n = (stop as usize - start as usize) / 8;
+        (0..n)
+            .map(|i| unsafe { start.add(i).read_volatile() })
+            .collect()
+    }
+}
+
+#[cfg(not(counted))]
+mod counters {
+    pub fn all() -> Vec<u64> {
+        Vec::new()
+    }
+}
+
+/// How many cases of one kind are taken, and how long such a case may be.
+const OF_A_KIND: usize = 14;
+const SHORT: usize = 96;
+
+struct List {
+    input: String,
+    output: String,
+    cases: usize,
+    kinds: BTreeMap<(u8, u32, usize), usize>,
+    reached: Vec<bool>,
+}
+
+/// The room of a case against its result: none, too short, exact, longer.
+fn room(c: &Case, result: Option<usize>) -> usize {
+    match result {
+        None => 0,
+        Some(n) if c.room < n => 1,
+        Some(n) if c.room == n => 2,
+        Some(_) => 3,
+    }
+}
+
+impl List {
+    fn take(&mut self, c: &Case, a: &answers::Answer) {
+        self.input.push_str(&c.line());
+        self.output.push_str(&answers::line(c, a));
+        self.cases += 1;
+    }
+
+    /// Takes a case where it is new in its kind or reaches something.
+    fn offer(&mut self, c: Case, of_a_kind: usize) {
+        let a = answers::answer(&c);
+        let now = counters::all();
+        self.reached.resize(now.len(), false);
+        let new = now.iter().zip(&self.reached).any(|(n, r)| *n > 0 && !r);
+        let kind = self
+            .kinds
+            .entry((c.op, a.refusal, room(&c, a.result)))
+            .or_default();
+        if (new && c.size() < 4000) || (*kind < of_a_kind && c.size() < SHORT) {
+            *kind += 1;
+            for (n, r) in now.iter().zip(&mut self.reached) {
+                *r |= *n > 0;
+            }
+            self.take(&c, &a);
+        }
+    }
+}
+
+/// Writes `stdin` and `stdout` of the recorded list into a folder.
+pub fn write(folder: &str, seed: u64) -> bool {
+    let mut list = List {
+        input: String::new(),
+        output: String::new(),
+        cases: 0,
+        kinds: BTreeMap::new(),
+        reached: Vec::new(),
+    };
+    list.program_lines();
+    generator::worked(&mut |c| list.take(&c, &answers::answer(&c)));
+    limits::limits(&mut |c| list.take(&c, &answers::answer(&c)));
+    for (op, unit) in [(19, shapes::longest_sps()), (20, shapes::longest_vps())] {
+        let c = Case::new(op, vec![], [unit, vec![0xff; 60]].concat());
+        list.take(&c, &answers::answer(&c));
+    }
+    let mut i = 0;
+    generator::numbers(&mut |c| {
+        i += 1;
+        if c.op == 1 || (c.op > 10 && c.byte(0) < 33) || i % 29 == 0 {
+            list.take(&c, &answers::answer(&c));
+        }
+    });
+    generator::zero_strings(4, &mut |c| list.take_some(c, 5));
+    generator::short_strings(1, &mut |c| list.offer(c, 4));
+    let mut r = Rng(seed);
+    for _ in 0..400_000 {
+        let c = generator::any(&mut r);
+        list.offer(c, OF_A_KIND);
+    }
+    for line in include_str!("further_cases").lines() {
+        let c = Case::of_line(line).expect("a case");
+        list.take(&c, &answers::answer(&c));
+    }
+    fs::write(Path::new(folder).join("stdin"), &list.input).expect("stdin is written");
+    fs::write(Path::new(folder).join("stdout"), &list.output).expect("stdout is written");
+    let reached = list.reached.iter().filter(|r| **r).count();
+    println!(
+        "{} cases, {} and {} bytes",
+        list.cases,
+        list.input.len(),
+        list.output.len()
+    );
+    println!(
+        "{reached} of {} regions of the original reached by them",
+        list.reached.len()
+    );
+    true
+}
+
+impl List {
+    /// The program's own answers: lengths that do not add up, an output beyond its memory, a call that there is not.
+    fn program_lines(&mut self) {
+        let long = Case {
+            op: 18,
+            room: 524_289,
+            ..Case::default()
+        };
+        let none = Case {
+            op: 39,
+            fill: 0xab,
+            room: 2,
+            ..Case::default()
+        };
+        self.input.push_str("00000003 120000\n");
+        self.output.push_str("malformed case\n");
+        self.input.push_str(&long.line());
+        self.output.push_str("case too long\n");
+        self.input.push_str(&none.line());
+        self.output.push_str("39 no such call =abab\n");
+        self.cases += 3;
+    }
+
+    /// Takes one case in n.
+    fn take_some(&mut self, c: Case, n: usize) {
+        let sum: usize = c
+            .first
+            .iter()
+            .enumerate()
+            .map(|(i, b)| (i + 1) * *b as usize)
+            .sum();
+        if (sum + c.op as usize) % n == 0 {
+            let a = answers::answer(&c);
+            self.take(&c, &a);
+        }
+    }
+}

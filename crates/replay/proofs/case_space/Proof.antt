@@ -1,0 +1,12 @@
+-- The length of `case_space`, by a law: counting that many zeros would take the checker long.
+use mathlib.Core.Path.{sym}
+use Prim.Native.Nat.{ℕ}
+use lib.ListN.{length-replicate}
+use Rattle.replay.proofs.case_space.Statement.{statement}
+use Rattle.replay.proofs.case_space.Tie as tie
+
+returns : tie.Need-returns
+returns c = sym (length-replicate {A = ℕ} 524288 0)
+
+pub case-space-spec : {M : Type 1} → statement M
+case-space-spec = tie.close (tie.spec returns)

@@ -1,0 +1,12 @@
+-- The length of `line_space`, by a law: counting that many zeros would outgrow the checker.
+use mathlib.Core.Path.{sym}
+use Prim.Native.Nat.{ℕ}
+use lib.ListN.{length-replicate}
+use Rattle.replay.proofs.line_space.Statement.{statement}
+use Rattle.replay.proofs.line_space.Tie as tie
+
+returns : tie.Need-returns
+returns c = sym (length-replicate {A = ℕ} 1060000 0)
+
+pub line-space-spec : {M : Type 1} → statement M
+line-space-spec = tie.close (tie.spec returns)

@@ -1,0 +1,28 @@
+// For this crate's calls: the calls of `hvcc`.
+use boxes::place;
+use hvcc::NextUnit;
+use replay_text::fields;
+use replay_text::shown;
+
+// `next_unit`: 1, where the unit lies and the place behind it, or 0 where there is none.
+fn next(stream: &[u8], from: usize, text: &mut [u8], at: usize) -> usize {
+    let r = hvcc::next_unit(stream, from);
+    match r {
+        NextUnit::Unit(a, behind) => shown::span(text, at, a, behind),
+        NextUnit::End => shown::number(text, at, 0),
+        NextUnit::Refused(e) => shown::refused(text, at, e),
+    }
+}
+
+// The calls by their numbers.
+pub fn answer(op: u8, numbers: &[u8], s: &[u8], text: &mut [u8], at: usize) -> usize {
+    let size = place::byte(numbers, 0);
+    let k = fields::eight(numbers, 1);
+    match op {
+        23 => shown::counted(text, at, hvcc::split_length_prefixed_count(s, size)),
+        24 => shown::part(text, at, hvcc::split_length_prefixed(s, size, k)),
+        25 => shown::counted(text, at, hvcc::split_annex_b_count(s)),
+        26 => shown::part(text, at, hvcc::split_annex_b(s, k)),
+        _ => next(s, k, text, at),
+    }
+}

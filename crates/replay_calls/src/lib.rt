@@ -1,0 +1,80 @@
+// A case taken apart, the call that it asks for, and the whole answer line.
+mod boxes_calls;
+mod hvcc_calls;
+mod list_calls;
+mod nal_calls;
+mod params_calls;
+
+use boxes::place;
+use replay_records::access_calls;
+use replay_records::compact_calls;
+use replay_records::full_calls;
+use replay_text::fields;
+use replay_text::text;
+
+// The bytes of a case from a place on, empty where they are not all there.
+fn part(s: &[u8], start: usize, len: usize) -> &[u8] {
+    if s.len() < start {
+        return &s[..0];
+    }
+    if s.len() - start < len {
+        return &s[..0];
+    }
+    let end = start + len;
+    &s[start..end]
+}
+
+// The calls by their numbers, which README.md of `replay` lists.
+fn answer<'a>(
+    op: u8,
+    fill: u8,
+    numbers: &[u8],
+    first: &'a [u8],
+    second: &'a [u8],
+    lent: &mut [u8],
+    out: &mut [u8],
+    at: usize,
+) -> usize {
+    match op {
+        1..=5 => boxes_calls::answer(op, numbers, first, out, at),
+        6..=13 => nal_calls::answer(op, numbers, first, out, at),
+        14..=17 => list_calls::answer(op, numbers, first, out, at),
+        18..=22 => params_calls::answer(op, fill, numbers, first, lent, out, at),
+        23..=27 => hvcc_calls::answer(op, numbers, first, out, at),
+        28..=31 | 35 => compact_calls::answer(op, numbers, first, lent, out, at),
+        32..=34 => full_calls::answer(op, fill, numbers, first, lent, out, at),
+        36..=38 => access_calls::answer(op, fill, numbers, first, second, lent, out, at),
+        _ => text::put_all(out, at, b" no such call"),
+    }
+}
+
+// The answer to a case whose three byte strings have these lengths: the call's number, its answer and what it left in the lent memory.
+fn answered(input: &[u8], n: usize, m: usize, k: usize, lent: &mut [u8], out: &mut [u8]) -> usize {
+    let op = place::byte(input, 0);
+    let fill = place::byte(input, 1);
+    let second_at = text::plus(14, n);
+    let third_at = text::plus(second_at, m);
+    let numbers = part(input, 14, n);
+    let first = part(input, second_at, m);
+    let second = part(input, third_at, k);
+    text::fill(lent, fill);
+    let at = text::put_decimal(out, 0, op as u64);
+    let behind = answer(op, fill, numbers, first, second, lent, out, at);
+    let shown = text::put_bytes(out, behind, lent);
+    text::put(out, shown, b'\n')
+}
+
+// The answer line of a case, and its length.
+pub fn line(input: &[u8], lent: &mut [u8], out: &mut [u8]) -> usize {
+    let room = fields::three(input, 2);
+    let n = fields::three(input, 5);
+    let m = fields::three(input, 8);
+    let k = fields::three(input, 11);
+    if input.len() != text::plus(14, text::plus(n, text::plus(m, k))) {
+        return text::put_all(out, 0, b"malformed case\n");
+    }
+    if lent.len() < room {
+        return text::put_all(out, 0, b"case too long\n");
+    }
+    answered(input, n, m, k, &mut lent[0..room], out)
+}

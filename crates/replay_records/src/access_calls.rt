@@ -1,0 +1,72 @@
+// For the crates further down: the calls of `access_unit`.
+use access_unit::Target;
+use full::VvcConfig;
+use replay_heads::heads;
+use replay_text::fields;
+use replay_text::shown;
+
+// The caller's target: whether there is one, and its two bytes.
+fn target_of(numbers: &[u8]) -> Target {
+    if fields::flag(numbers, 0) {
+        return Target::Ols(fields::two(numbers, 1) as u16);
+    }
+    Target::Unset
+}
+
+// `access_unit_count`
+fn count(
+    head: VvcConfig,
+    list: &[u8],
+    item: &[u8],
+    tols: Target,
+    text: &mut [u8],
+    at: usize,
+) -> usize {
+    shown::counted(
+        text,
+        at,
+        access_unit::access_unit_count(head, list, item, tols),
+    )
+}
+
+// `access_unit_nal`
+fn unit<'a>(
+    head: VvcConfig,
+    list: &'a [u8],
+    item: &'a [u8],
+    tols: Target,
+    k: usize,
+    text: &mut [u8],
+    at: usize,
+) -> usize {
+    shown::part(
+        text,
+        at,
+        access_unit::access_unit_nal(head, list, item, tols, k),
+    )
+}
+
+// The calls by their numbers: target, k and head are among the numbers of the case.
+pub fn answer<'a>(
+    op: u8,
+    fill: u8,
+    numbers: &[u8],
+    list: &'a [u8],
+    item: &'a [u8],
+    lent: &mut [u8],
+    text: &mut [u8],
+    at: usize,
+) -> usize {
+    let tols = target_of(numbers);
+    let k = fields::eight(numbers, 3);
+    let head = heads::full_head(numbers, 11, fill);
+    match op {
+        36 => shown::written(
+            text,
+            at,
+            access_unit::access_unit_annex_b(head, list, item, tols, lent),
+        ),
+        37 => count(head, list, item, tols, text, at),
+        _ => unit(head, list, item, tols, k, text, at),
+    }
+}

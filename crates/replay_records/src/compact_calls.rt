@@ -1,0 +1,64 @@
+// For the crates further down: the calls of `compact` and `expand`.
+use boxes::place;
+use compact::CompactRead;
+use compact::CompactVvcConfig;
+use expand::ExpandAnswer;
+use replay_heads::heads;
+use replay_text::fields;
+use replay_text::shown;
+use replay_text::text;
+
+// `CompactVvcConfig::parse`: flag, prefix size, unit count and the length of the list.
+fn parse(s: &[u8], lent: &mut [u8], out: &mut [u8], at: usize) -> usize {
+    let r = CompactVvcConfig::parse(s, lent);
+    match r {
+        CompactRead::Read(config, count, len) => {
+            let next = shown::flag(out, at, config.multi_layer_flag);
+            let size = text::put_small(out, next, config.length_size);
+            let units = text::put_number(out, size, count as u64);
+            text::put_number(out, units, len as u64)
+        }
+        CompactRead::Refused(e) => shown::refused(out, at, e),
+    }
+}
+
+// Whether a compact record was expanded: the length of the list.
+fn put_answer(out: &mut [u8], at: usize, r: ExpandAnswer) -> usize {
+    match r {
+        ExpandAnswer::List(len) => shown::number(out, at, len),
+        ExpandAnswer::Refused(e) => shown::refused(out, at, e),
+    }
+}
+
+// `to_full`: the answer, and the head whatever it is.
+fn to_full(numbers: &[u8], list: &[u8], lent: &mut [u8], out: &mut [u8], at: usize) -> usize {
+    let config = heads::compact_head(numbers);
+    let chroma = place::byte(numbers, 2);
+    let depth = place::byte(numbers, 3);
+    let width = fields::four(numbers, 4) as u32;
+    let height = fields::four(numbers, 8) as u32;
+    let r = expand::to_full(config, list, chroma, depth, width, height, lent);
+    let answer = r.answer;
+    let head = r.head;
+    let next = put_answer(out, at, answer);
+    heads::put_full_head(out, next, head)
+}
+
+// The calls by their numbers.
+pub fn answer(
+    op: u8,
+    numbers: &[u8],
+    s: &[u8],
+    lent: &mut [u8],
+    out: &mut [u8],
+    at: usize,
+) -> usize {
+    let config = heads::compact_head(numbers);
+    match op {
+        28 => parse(s, lent, out, at),
+        29 => shown::written(out, at, config.serialize(s, lent)),
+        30 => shown::written(out, at, config.item_data(s, lent)),
+        31 => shown::written(out, at, config.strip_item_data(s, lent)),
+        _ => to_full(numbers, s, lent, out, at),
+    }
+}

@@ -1,0 +1,73 @@
+// For the crates further down: answers as text. The number of the refusal stands first, 0 where there is none.
+use crate::text;
+use boxes::Field;
+use boxes::Span;
+use error::Counted;
+use error::Refusal;
+use error::Written;
+
+// That a call was accepted.
+pub fn accepted(out: &mut [u8], at: usize) -> usize {
+    text::put_number(out, at, 0)
+}
+
+// A refusal's number.
+pub fn refused(out: &mut [u8], at: usize, e: Refusal) -> usize {
+    let n = error::number(e);
+    text::put_number(out, at, n as u64)
+}
+
+// One number of an accepted call.
+pub fn number(out: &mut [u8], at: usize, n: usize) -> usize {
+    let next = accepted(out, at);
+    text::put_number(out, next, n as u64)
+}
+
+// Two numbers of an accepted call.
+pub fn pair(out: &mut [u8], at: usize, n: usize, m: usize) -> usize {
+    let next = number(out, at, n);
+    text::put_number(out, next, m as u64)
+}
+
+// A yes or no of an accepted call.
+pub fn flag(out: &mut [u8], at: usize, yes: bool) -> usize {
+    let next = accepted(out, at);
+    text::put_flag(out, next, yes)
+}
+
+// A count.
+pub fn counted(out: &mut [u8], at: usize, r: Counted) -> usize {
+    match r {
+        Counted::Count(n) => number(out, at, n),
+        Counted::Refused(e) => refused(out, at, e),
+    }
+}
+
+// How many bytes were written.
+pub fn written(out: &mut [u8], at: usize, r: Written) -> usize {
+    match r {
+        Written::Bytes(n) => number(out, at, n),
+        Written::Refused(e) => refused(out, at, e),
+    }
+}
+
+// A field and the place behind it.
+pub fn field(out: &mut [u8], at: usize, r: Field) -> usize {
+    match r {
+        Field::Value(n, behind) => pair(out, at, n as usize, behind),
+        Field::Refused(e) => refused(out, at, e),
+    }
+}
+
+// A part, which a call with no refusal of its own hands back.
+pub fn part(out: &mut [u8], at: usize, bytes: &[u8]) -> usize {
+    let next = accepted(out, at);
+    text::put_bytes(out, next, bytes)
+}
+
+// Where a unit lies, and the place behind it.
+pub fn span(out: &mut [u8], at: usize, a: Span, behind: usize) -> usize {
+    let next = pair(out, at, 1, a.start);
+    let last = text::put_number(out, next, a.len as u64);
+    text::put_number(out, last, behind as u64)
+}

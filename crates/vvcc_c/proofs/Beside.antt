@@ -1,0 +1,175 @@
+-- Laws of a full record read beside an item: what the scratch holds then, and what the stream is made of.
+use Prim.Native.Nat.{ℕ, _+_, _-_, _^_, _≤_, _<_}
+use mathlib.Core.Path.{_≡_, refl, sym, ap, _∙_}
+use mathlib.Core.List.{List}
+use mathlib.Core.Option.{Option}
+use native.Mathlib.Omega.{arith}
+use native.Mathlib.Decide.{decLe}
+use lib.Dec.{leb}
+use lib.ListN.{length, take, drop, length-append}
+use lib.Seq.{take-at}
+use borrow.Author.Tests.{le-leb, lt-leb}
+use Rattle.error.specs.Logic.{if_then_else_}
+use Rattle.error.specs.Outcome.{Outcome, accept, refuse, andThen, lentOutput, counted, overlay, handsBack}
+use Rattle.error.specs.Parse.{Parsed, value, refused}
+use Rattle.boxes.specs.declared.Span.{Span}
+use Rattle.boxes.proofs.Lent.{lent-too-long, lent-within}
+use Rattle.unit_list.specs.UnitList.{Array, encode, heldArrays}
+use Rattle.full.specs.Read.{FullParsed, fullParsed, vvcRecord, parseFull, zeroHead}
+use Rattle.full.specs.declared.VvcConfig.{VvcConfig}
+use Rattle.full_read.specs.Answers.{answerOf, fullOf, fullGiven}
+use Rattle.full_read.specs.declared.FullAnswer.{FullAnswer}
+use Rattle.full_read.specs.declared.FullAnswer.the-variants as A
+use Rattle.full_read.specs.declared.FullRead.{FullRead}
+use Rattle.access_unit.specs.AccessUnit.{assemble}
+use Rattle.vvcc_c.specs.Exports.{writtenAnswer, writtenGiven, readBeside, scratchFilled, streamBeside}
+use Rattle.vvcc_c.specs.declared.VvccWritten.{VvccWritten}
+use Rattle.vvcc_c.proofs.Given.{given-refused, given-target}
+
+-- ### a result of bytes in lent memory, and a call that goes on from it
+
+-- it was accepted: the bytes fit, and stand in front
+pub record Accepted {A : Type 0} (o : Outcome (A × List ℕ)) (out exit : List ℕ) (a : A) : Type 0 where
+  pub bytes : List ℕ
+  pub given : o ≡ accept (a, bytes)
+  pub fits : length bytes ≤ length out
+  pub holds : exit ≡ overlay bytes out
+
+accepted-bytes : {A : Type 0} (b : A) (bytes out exit : List ℕ) (a : A) → _≡_ {A = Outcome A} (accept a) (lentOutput (accept (b, bytes)) out .0) → exit ≡ lentOutput (accept (b, bytes)) out .1
+    → Accepted (accept (b, bytes)) out exit a
+accepted-bytes {A} b bytes out exit a e f =
+    elim (decLe (length bytes) (length out)) [
+      | yes k ↦ fitting k (e ∙ rw (le-leb (length bytes) (length out) k)) (f ∙ rw (le-leb (length bytes) (length out) k))
+      | no k ↦ absurd (let x : _≡_ {A = Outcome A} (accept a) (refuse 20) = e ∙ rw (lt-leb (length bytes) (length out) (omega arith)) in let z : _≡_ {A = ℕ} 0 1 = cc in omega arith)
+    ]
+  where
+    fitting : length bytes ≤ length out → _≡_ {A = Outcome A} (accept a) (accept b) → exit ≡ overlay bytes out → Accepted (accept (b, bytes)) out exit a
+    fitting k x y = let s : a ≡ b = cc in record { bytes = bytes; given = rw s; fits = k; holds = y }
+
+pub accepted : {A : Type 0} (o : Outcome (A × List ℕ)) (out exit : List ℕ) (a : A) → accept a ≡ lentOutput o out .0 → exit ≡ lentOutput o out .1 → Accepted o out exit a
+accepted (accept (b, bytes)) out exit a e f = accepted-bytes b bytes out exit a e f
+accepted (refuse n) out exit a e f = let z : _≡_ {A = ℕ} 0 1 = cc in absurd (omega arith)
+
+-- what comes behind it where the bytes fit the scratch, else 20
+abbrev onward : {A B : Type 0} → Outcome (A × List ℕ) → List ℕ → (A × List ℕ → Outcome B) → Outcome B
+onward o scratch f = andThen o (λ r. if leb (length (r .1)) (length scratch) then f r else refuse 20)
+
+onward-bytes : {A B : Type 0} (b : A) (bytes scratch : List ℕ) (f : A × List ℕ → Outcome B) (n : ℕ) → _≡_ {A = Outcome A} (refuse n) (lentOutput (accept (b, bytes)) scratch .0)
+    → onward (accept (b, bytes)) scratch f ≡ refuse n
+onward-bytes {A} {B} b bytes scratch f n e =
+    elim (decLe (length bytes) (length scratch)) [
+      | yes k ↦ absurd (let x : _≡_ {A = Outcome A} (refuse n) (accept b) = e ∙ rw (le-leb (length bytes) (length scratch) k) in let z : _≡_ {A = ℕ} 0 1 = cc in omega arith)
+      | no k ↦ short (e ∙ rw (lt-leb (length bytes) (length scratch) (omega arith))) (omega arith)
+    ]
+  where
+    short : _≡_ {A = Outcome A} (refuse n) (refuse 20) → length scratch < length bytes → onward (accept (b, bytes)) scratch f ≡ refuse n
+    short x k = let s : n ≡ 20 = cc in rw (lt-leb (length bytes) (length scratch) k, s)
+
+onward-refused : {A B : Type 0} (o : Outcome (A × List ℕ)) (scratch : List ℕ) (f : A × List ℕ → Outcome B) (n : ℕ) → _≡_ {A = Outcome A} (refuse n) (lentOutput o scratch .0)
+    → onward o scratch f ≡ refuse n
+onward-refused (accept (b, bytes)) scratch f n e = onward-bytes b bytes scratch f n e
+onward-refused (refuse m) scratch f n e = let s : n ≡ m = cc in rw s
+
+-- ### the record read
+
+hands-first : {A B : Type 0} (f : A → B) (z : B) (o : Outcome A) → handsBack f z o .0 ≡ o
+hands-first f z (accept a) = refl
+hands-first f z (refuse e) = refl
+
+-- an accepted record: the arrays that were read, whose list is as long as reading says
+pub record ReadAs (s : List ℕ) (r : FullParsed) (list : List ℕ) : Type 0 where
+  pub what : VvcConfig × List (Array Span)
+  pub behind : ℕ
+  pub reads : vvcRecord s 0 ≡ value what behind
+  pub same : length list ≡ length (encode (heldArrays s (what .1)))
+  pub long : r .listLength ≡ length list
+
+parsed-as : (s : List ℕ) (x : Parsed (VvcConfig × List (Array Span))) → vvcRecord s 0 ≡ x → (r : FullParsed) (list : List ℕ) → fullParsed s x ≡ accept (r, list) → ReadAs s r list
+parsed-as s (refused e) w r list h = let z : _≡_ {A = ℕ} 0 1 = cc in absurd (omega arith)
+parsed-as s (value (head, arrays) p) w r list h =
+    let parsed : FullParsed = record { head = head; consumed = p; listLength = length (encode (heldArrays s arrays)) } in
+    let y : _≡_ {A = FullParsed × List ℕ} (parsed, encode (heldArrays s arrays)) (r, list) = cc in
+    let l = ap (λ (v : FullParsed × List ℕ). length (v .1)) y in
+    record { what = (head, arrays); behind = p; reads = w; same = sym l; long = sym (ap (λ (v : FullParsed × List ℕ). v .0 .listLength) y) ∙ l }
+
+pub read-as : (s : List ℕ) (r : FullParsed) (list : List ℕ) → parseFull s ≡ accept (r, list) → ReadAs s r list
+unfolding parseFull
+read-as s r list h =
+    elim (decLe (length s) (2 ^ 30)) [
+      | yes k ↦ parsed-as s (vvcRecord s 0) refl r list (sym (lent-within s (fullParsed s (vvcRecord s 0)) k) ∙ h)
+      | no k ↦ absurd (let x = sym (lent-too-long s (fullParsed s (vvcRecord s 0)) (omega arith)) ∙ h in let z : _≡_ {A = ℕ} 0 1 = cc in omega arith)
+    ]
+
+module _ (rec item scratch : List ℕ) (tols : Option ℕ) where
+  -- the item is too long
+  stream-too-long : 2 ^ 30 < length item → streamBeside rec item tols scratch ≡ refuse 23
+  unfolding streamBeside readBeside
+  stream-too-long h = rw (lt-leb (length item) (2 ^ 30) h)
+
+  scratch-too-long : 2 ^ 30 < length item → scratch ≡ scratchFilled rec item scratch
+  unfolding readBeside
+  scratch-too-long h = sym (ap (λ (o : Outcome (FullParsed × List ℕ)). lentOutput o scratch .1) (lent-too-long item (parseFull rec) h))
+
+  pub too-long : (out : List ℕ) (r : VvccWritten) → 2 ^ 30 < length item → r ≡ writtenAnswer (refuse 23)
+      → ((r, out) ≡ writtenGiven (streamBeside rec item tols scratch) out) × (scratch ≡ scratchFilled rec item scratch)
+  too-long out r h f = (given-refused (streamBeside rec item tols scratch) out 23 r f (stream-too-long h), scratch-too-long h)
+
+  -- what is known once the record was read into the scratch
+  pub record ReadInto (exit : List ℕ) (r : FullRead) : Type 0 where
+    pub filled : exit ≡ scratchFilled rec item scratch
+    pub refused : (n : ℕ) → answerOf (r .answer) (r .head) ≡ refuse n → streamBeside rec item tols scratch ≡ refuse n
+    pub fits : (q n : ℕ) → r .answer ≡ A.Read q n → n ≤ length exit
+    pub made : (q n : ℕ) → r .answer ≡ A.Read q n → streamBeside rec item tols scratch ≡ assemble (r .head) (take (n - 0) exit) item tols
+
+  module _ (lent : length item ≤ 2 ^ 30) (exit : List ℕ) (r : FullRead) (gave : (fullOf r, exit) ≡ fullGiven rec scratch) where
+    read-here : readBeside rec item ≡ parseFull rec
+    unfolding readBeside
+    read-here = lent-within item (parseFull rec) lent
+
+    answered : answerOf (r .answer) (r .head) ≡ lentOutput (parseFull rec) scratch .0
+    answered = ap (λ (y : (Outcome FullParsed × VvcConfig) × List ℕ). y .0 .0) gave ∙ hands-first (λ f. f .head) zeroHead (lentOutput (parseFull rec) scratch .0)
+
+    left : exit ≡ lentOutput (parseFull rec) scratch .1
+    left = ap (λ (y : (Outcome FullParsed × VvcConfig) × List ℕ). y .1) gave
+
+    scratch-filled : exit ≡ scratchFilled rec item scratch
+    scratch-filled = left ∙ ap (λ (o : Outcome (FullParsed × List ℕ)). lentOutput o scratch .1) (sym read-here)
+
+    stream-here : streamBeside rec item tols scratch ≡ onward (parseFull rec) scratch (λ x. assemble (x .0 .head) (x .1) item tols)
+    unfolding streamBeside
+    stream-here = rw read-here
+
+    stream-refused : (n : ℕ) → answerOf (r .answer) (r .head) ≡ refuse n → streamBeside rec item tols scratch ≡ refuse n
+    stream-refused n e = stream-here ∙ onward-refused (parseFull rec) scratch _ n (sym e ∙ answered)
+
+    -- the list stands in front of the scratch
+    module _ (q n : ℕ) (is : r .answer ≡ A.Read q n) where
+      abbrev parsed : FullParsed
+      parsed = record { head = r .head; consumed = q; listLength = n }
+
+      into : Accepted (parseFull rec) scratch exit parsed
+      into = accepted (parseFull rec) scratch exit parsed (sym (ap (λ (x : FullAnswer). answerOf x (r .head)) is) ∙ answered) left
+
+      long : n ≡ length (into .bytes)
+      long = read-as rec parsed (into .bytes) (into .given) .long
+
+      list-fits : n ≤ length exit
+      list-fits =
+          let l : length exit ≡ length (into .bytes) + length (drop (length (into .bytes)) scratch) =
+          ap length (into .holds) ∙ length-append (into .bytes) (drop (length (into .bytes)) scratch) in
+          omega (arith, long)
+
+      -- the part of the scratch from 0 to n
+      list-front : take (n - 0) exit ≡ into .bytes
+      list-front = ap (take (n - 0)) (into .holds) ∙ take-at (into .bytes) (drop (length (into .bytes)) scratch) (n - 0) (omega (arith, long))
+
+      stream-made : streamBeside rec item tols scratch ≡ assemble (r .head) (take (n - 0) exit) item tols
+      stream-made = stream-here ∙ rw (into .given, le-leb _ _ (into .fits), list-front)
+
+    pub read-into : ReadInto exit r
+    read-into = record { filled = scratch-filled; refused = stream-refused; fits = list-fits; made = stream-made }
+
+-- what assembly of the head and list that were read gave and left
+pub given-assembled : (o : Outcome (List ℕ)) (head : VvcConfig) (list item : List ℕ) (t tols : Option ℕ) (out exit : List ℕ) (w : Outcome ℕ) (r : VvccWritten)
+    → r ≡ writtenAnswer w → (w, exit) ≡ lentOutput (counted (assemble head list item t)) out → t ≡ tols → o ≡ assemble head list item tols → (r, exit) ≡ writtenGiven o out
+given-assembled o head list item t tols out exit w r f g h e = rw e (given-target (assemble head list item) t tols out exit w r f g h)

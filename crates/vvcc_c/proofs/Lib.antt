@@ -1,0 +1,4 @@
+mod Given
+mod ItemUnits
+mod Beside
+mod ScratchBound

@@ -1,0 +1,26 @@
+-- `vvcc_still_stream` gives what `still_stream` gives.
+use borrow.Author.Needs.{needs}
+use Rattle.stills.specs.Stills.{stillStream}
+use Rattle.vvcc_c.proofs.Given.{given-target}
+use Rattle.vvcc_c.proofs.vvcc_still_stream.Statement.{statement}
+use Rattle.vvcc_c.proofs.vvcc_still_stream.Tie as tie
+
+target-from-requires : tie.Need-target-from-requires
+target-from-requires c κs = search needs
+
+still-stream-requires : tie.Need-still-stream-requires
+still-stream-requires c κs = search needs
+
+written-requires : tie.Need-written-requires
+written-requires c κs = search needs
+
+same-length : tie.Need-same-length
+same-length c = search needs
+
+returns : tie.Need-returns
+returns c =
+    let a = c .before .before .before .before .before .before .before .before .before .args in
+    given-target (stillStream (a .«record» .now) (a .stored .now)) _ _ (a .out .now) _ _ _ (c .written .ensures) (c .before .before .before .still-stream .ensures) (c .before .before .before .before .before .target-from .ensures)
+
+pub vvcc-still-stream-spec : {M : Type 1} → statement M
+vvcc-still-stream-spec = tie.close (tie.spec target-from-requires still-stream-requires written-requires same-length returns)

@@ -1,0 +1,63 @@
+-- What the exports hand to C: structs of numbers, read off the outcomes of the calls beneath. A refusal is its number and zeros; 0 is no refusal.
+use Prim.Native.Nat.{ℕ}
+use mathlib.Core.List.{List}
+use mathlib.Core.Option.{Option, none, some}
+use lib.Dec.{eqb, leb}
+use lib.ListN.{length}
+use Rattle.error.specs.Logic.{if_then_else_}
+use Rattle.error.specs.Outcome.{Outcome, accept, refuse, lentInput, lentOutput, counted}
+use Rattle.error.specs.Steps.{_>>=_}
+use Rattle.error.specs.Parse.{Parsed, value, refused}
+use Rattle.boxes.specs.declared.Span.{Span}
+use Rattle.hvcc.specs.Item.{outside, itemUnit}
+use Rattle.hvcc.specs.Answers.{Next}
+use Rattle.full.specs.Read.{FullParsed, parseFull}
+use Rattle.access_unit.specs.AccessUnit.{assemble}
+use Rattle.vvcc_c.specs.declared.VvccWritten.{VvccWritten}
+use Rattle.vvcc_c.specs.declared.VvccUnit.{VvccUnit}
+
+-- how many bytes were written
+abbrev pub writtenAnswer : Outcome ℕ → VvccWritten
+writtenAnswer (accept n) = record { refusal = 0; len = n }
+writtenAnswer (refuse e) = record { refusal = e; len = 0 }
+
+-- a call with a result of bytes: its answer, and what its output then holds
+abbrev pub writtenGiven : Outcome (List ℕ) → List ℕ → VvccWritten × List ℕ
+writtenGiven o out = (writtenAnswer (lentOutput (counted o) out .0), lentOutput (counted o) out .1)
+
+-- where a unit lies and the place behind it
+abbrev pub unitAnswer : Outcome (Option Next) → VvccUnit
+unitAnswer (accept (some n)) = record { refusal = 0; found = 1; start = n .unit .start; len = n .unit .len; behind = n .behind }
+unitAnswer (accept none) = record { refusal = 0; found = 0; start = 0; len = 0; behind = 0 }
+unitAnswer (refuse e) = record { refusal = e; found = 0; start = 0; len = 0; behind = 0 }
+
+-- the operating point that a caller asks for: none where the first number is 0
+abbrev pub targetFrom : ℕ → ℕ → Option ℕ
+targetFrom has t = if eqb has 0 then none else some t
+
+-- a full record read beside an item: 23 for either, then the reader's refusals
+unfoldable pub readBeside : List ℕ → List ℕ → Outcome (FullParsed × List ℕ)
+readBeside rec item = lentInput item (parseFull rec)
+
+-- what the scratch holds then: the unit list in front once the record reads and the list fits, else what it held
+abbrev pub scratchFilled : List ℕ → List ℕ → List ℕ → List ℕ
+scratchFilled rec item scratch = lentOutput (readBeside rec item) scratch .1
+
+-- the stream of a full record and an item: those refusals, 20 where the scratch is shorter than the unit list, and assembly's
+unfoldable pub streamBeside : List ℕ → List ℕ → Option ℕ → List ℕ → Outcome (List ℕ)
+streamBeside rec item tols scratch = do
+  r ← readBeside rec item
+  if leb (length (r .1)) (length scratch) then assemble (r .0 .head) (r .1) item tols else refuse 20
+
+-- the unit at a place of an item and the place behind it
+abbrev pub unitRead : Parsed Span → Outcome (Option Next)
+unitRead (value a p) = accept (some (record { unit = a; behind = p }))
+unitRead (refused e) = refuse e
+
+-- one step of `split_length_prefixed`: 23, 4, then in byte order 1 and 5; at the end and behind it there is no unit
+unfoldable pub nextItemUnit : ℕ → List ℕ → ℕ → Outcome (Option Next)
+nextItemUnit size item p =
+    lentInput item
+    (if outside size then refuse 4
+    else if leb (length item) p then accept none
+    else unitRead (itemUnit size item p))

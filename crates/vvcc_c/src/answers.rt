@@ -1,0 +1,97 @@
+// For this crate's calls: the answers of the calls beneath as structs of numbers.
+use super::VvccUnit;
+use super::VvccWritten;
+use access_unit::Target;
+use error::Refusal;
+use error::Written;
+use error::number;
+use hvcc::NextUnit;
+ghost use mathlib.Core.Path.{_≡_};
+ghost use mathlib.Core.Option.{none, some};
+ghost use Prim.Native.Nat.{_+_, _<_, _^_};
+ghost use Rattle.error.specs.Outcome.{accept, refuse};
+ghost use Rattle.error.specs.Refusals.{numberOf};
+ghost use Rattle.error.specs.Answers.{writtenOf};
+ghost use Rattle.hvcc.specs.Answers.{nextOf};
+ghost use Rattle.access_unit.specs.Answers.{tolsOf};
+ghost use Rattle.vvcc_c.specs.Exports.{writtenAnswer, unitAnswer, targetFrom};
+
+// A refusal of a call that writes.
+pub fn refused(e: Refusal) -> VvccWritten
+    ensures { λ r. ⌜ r ≡ writtenAnswer (refuse (numberOf e)) ⌝ }
+{
+    VvccWritten {
+        refusal: number(e),
+        len: 0,
+    }
+}
+
+// The answer of a call that writes.
+pub fn written(w: Written) -> VvccWritten
+    ensures { λ r. ⌜ r ≡ writtenAnswer (writtenOf w) ⌝ }
+{
+    match w {
+        Written::Bytes(n) => VvccWritten { refusal: 0, len: n },
+        Written::Refused(e) => refused(e),
+    }
+}
+
+// The operating point that a caller asks for: none where the first number is 0.
+pub fn target_from(has_target: u8, target: u16) -> Target
+    ensures { λ r. ⌜ tolsOf r ≡ targetFrom «has_target» target ⌝ }
+{
+    if has_target == 0 {
+        return Target::Unset;
+    }
+    Target::Ols(target)
+}
+
+// A refusal of a walk.
+pub fn no_unit(e: Refusal) -> VvccUnit
+    ensures { λ r. ⌜ r ≡ unitAnswer (refuse (numberOf e)) ⌝ }
+{
+    VvccUnit {
+        refusal: number(e),
+        found: 0,
+        start: 0,
+        len: 0,
+        behind: 0,
+    }
+}
+
+// The end of a walk.
+pub fn end() -> VvccUnit
+    ensures { λ r. ⌜ r ≡ unitAnswer (accept none) ⌝ }
+{
+    VvccUnit {
+        refusal: 0,
+        found: 0,
+        start: 0,
+        len: 0,
+        behind: 0,
+    }
+}
+
+// A unit, and the place behind it.
+pub fn unit(start: usize, len: usize, behind: usize) -> VvccUnit
+    ensures { λ r. ⌜ r ≡ unitAnswer (accept (some (record { unit = record { start = start; len = len }; behind = behind }))) ⌝ }
+{
+    VvccUnit {
+        refusal: 0,
+        found: 1,
+        start: start,
+        len: len,
+        behind: behind,
+    }
+}
+
+// The next unit of a stream.
+pub fn next(n: NextUnit) -> VvccUnit
+    ensures { λ r. ⌜ r ≡ unitAnswer (nextOf n) ⌝ }
+{
+    match n {
+        NextUnit::Unit(a, behind) => unit(a.start, a.len, behind),
+        NextUnit::End => end(),
+        NextUnit::Refused(e) => no_unit(e),
+    }
+}

@@ -1,0 +1,126 @@
+// The library for C and Rust: calls of the crates beneath, with answers that are structs of numbers.
+pub mod answers;
+
+use access_unit::access_unit_annex_b;
+use boxes::Field;
+use boxes::place;
+use error::Refusal;
+use full_read::FullAnswer;
+ghost use mathlib.Core.Path.{_≡_};
+ghost use Rattle.hvcc.specs.Answers.{nextGiven};
+ghost use Rattle.stills.specs.Stills.{stillRecord, stillStream};
+ghost use Rattle.vvcc_c.specs.Exports.{writtenGiven, unitAnswer, targetFrom, scratchFilled, streamBeside, nextItemUnit};
+
+// How many bytes now stand at the front of the output, or a refusal's number and 0.
+#[repr(C)]
+pub struct VvccWritten {
+    pub refusal: u32,
+    pub len: usize,
+}
+
+// Where a unit lies and the place behind it, to go on from; zeros at the end; a refusal's number and zeros.
+#[repr(C)]
+pub struct VvccUnit {
+    pub refusal: u32,
+    pub found: u32,
+    pub start: usize,
+    pub len: usize,
+    pub behind: usize,
+}
+
+// The full record of a still. Refusals: those of `still_record`.
+#[no_mangle]
+pub extern "C" fn vvcc_still_record(
+    record: &[u8],
+    chroma_format_idc: u8,
+    bit_depth: u8,
+    width: u32,
+    height: u32,
+    out: &mut [u8],
+) -> VvccWritten
+    ensures { λ r. ⌜ (r, now (out .exit)) ≡ writtenGiven (stillRecord (now («record» .entry)) (record { chroma = «chroma_format_idc»; depth = «bit_depth»; width = width; height = height })) (now (out .entry)) ⌝ }
+{
+    let written = stills::still_record(record, chroma_format_idc, bit_depth, width, height, out);
+    answers::written(written)
+}
+
+// The stream of a still. Refusals: those of `still_stream`.
+#[no_mangle]
+pub extern "C" fn vvcc_still_stream(
+    record: &[u8],
+    stored: &[u8],
+    has_target: u8,
+    target: u16,
+    out: &mut [u8],
+) -> VvccWritten
+    ensures { λ r. ⌜ (r, now (out .exit)) ≡ writtenGiven (stillStream (now («record» .entry)) (now (stored .entry)) (targetFrom «has_target» target)) (now (out .entry)) ⌝ }
+{
+    let tols = answers::target_from(has_target, target);
+    let written = stills::still_stream(record, stored, tols, out);
+    answers::written(written)
+}
+
+// The stream of a full record and an item. The scratch takes the record's unit list. Refusals: 23, the full reader's, 20 for the scratch,
+// assembly's.
+#[no_mangle]
+pub extern "C" fn vvcc_access_unit(
+    record: &[u8],
+    item: &[u8],
+    has_target: u8,
+    target: u16,
+    scratch: &mut [u8],
+    out: &mut [u8],
+) -> VvccWritten
+    ensures { λ r. ⌜ (r, now (out .exit)) ≡ writtenGiven (streamBeside (now («record» .entry)) (now (item .entry)) (targetFrom «has_target» target) (now (scratch .entry))) (now (out .entry)) ⌝ }
+    ensures { λ _. ⌜ now (scratch .exit) ≡ scratchFilled (now («record» .entry)) (now (item .entry)) (now (scratch .entry)) ⌝ }
+{
+    if 0x4000_0000 < item.len() {
+        return answers::refused(Refusal::InputTooLong);
+    }
+    let read = full_read::parse(record, scratch);
+    let answer = read.answer;
+    let head = read.head;
+    match answer {
+        FullAnswer::Read(_, len) => {
+            let tols = answers::target_from(has_target, target);
+            let written = access_unit_annex_b(head, &scratch[0..len], item, tols, out);
+            answers::written(written)
+        }
+        FullAnswer::Refused(e) => answers::refused(e),
+    }
+}
+
+// The first unit of a stream whose start code stands at or after a place. Refusal: 23.
+#[no_mangle]
+pub extern "C" fn vvcc_next_unit(stream: &[u8], from: usize) -> VvccUnit
+    ensures { λ r. ⌜ r ≡ unitAnswer (nextGiven (now (stream .entry)) from) ⌝ }
+{
+    answers::next(hvcc::next_unit(stream, from))
+}
+
+// The unit whose length stands at a place of an item. Refusals: 23, 4, then in byte order 1 and 5.
+#[no_mangle]
+pub extern "C" fn vvcc_next_item_unit(item: &[u8], length_size: u8, from: usize) -> VvccUnit
+    ensures { λ r. ⌜ r ≡ unitAnswer (nextItemUnit «length_size» (now (item .entry)) from) ⌝ }
+{
+    if 0x4000_0000 < item.len() {
+        return answers::no_unit(Refusal::InputTooLong);
+    }
+    if length_size == 0 || 4 < length_size {
+        return answers::no_unit(Refusal::PrefixSize);
+    }
+    if item.len() <= from {
+        return answers::end();
+    }
+    let Field::Value(n, start) = boxes::uint_at(item, from, place::wide(length_size)) else {
+        return answers::no_unit(Refusal::Truncated);
+    };
+    if n == 0 {
+        return answers::no_unit(Refusal::ZeroLengthUnit);
+    }
+    let len = n as usize;
+    if item.len() - start < len {
+        return answers::no_unit(Refusal::Truncated);
+    }
+    answers::unit(start, len, start + len)
+}

@@ -1,0 +1,51 @@
+/* Turns one still into its full record and its stream, walks the stream's units, and shows a refusal. */
+#include <stdio.h>
+#include <string.h>
+
+#include "vvcc.h"
+
+/* a compact record of an SPS and a PPS, prefix size 4 */
+static const uint8_t compact[] = {0x60, 11, 0x00, 0x79, 0x00, 0x0D, 0x02, 0x33, 0x80, 0x00, 0x02, 0x22, 0x4C,
+                                  3, 0x00, 0x81, 0x80};
+/* what the file stores for the picture */
+static const uint8_t stored[] = {0x9A, 0x80};
+
+static void print_bytes(const char *what, const uint8_t *bytes, size_t len) {
+    printf("%s:", what);
+    for (size_t i = 0; i < len; i++)
+        printf(" %02X", bytes[i]);
+    printf("\n");
+}
+
+int main(void) {
+    uint8_t record[256], stream[256], scratch[1024], again[256];
+
+    vvcc_written w = vvcc_still_record(compact, sizeof compact, 1, 8, 16, 8, record, sizeof record);
+    if (w.refusal)
+        return 1;
+    print_bytes("record", record, w.len);
+    size_t record_len = w.len;
+
+    w = vvcc_still_stream(compact, sizeof compact, stored, sizeof stored, 0, 0, stream, sizeof stream);
+    if (w.refusal)
+        return 1;
+    print_bytes("stream", stream, w.len);
+    size_t stream_len = w.len;
+
+    for (vvcc_unit u = vvcc_next_unit(stream, stream_len, 0); u.found; u = vvcc_next_unit(stream, stream_len, u.behind))
+        print_bytes("unit", stream + u.start, u.len);
+
+    /* the same stream from the full record and the item */
+    static const uint8_t item[] = {0, 0, 0, 4, 0x00, 0x41, 0x9A, 0x80};
+    for (vvcc_unit u = vvcc_next_item_unit(item, sizeof item, 4, 0); u.found; u = vvcc_next_item_unit(item, sizeof item, 4, u.behind))
+        print_bytes("item unit", item + u.start, u.len);
+    w = vvcc_access_unit(record, record_len, item, sizeof item, 0, 0, scratch, 4 * record_len, again, sizeof again);
+    printf("assembled from record and item: %s\n", w.len == stream_len && !memcmp(again, stream, stream_len) ? "the same stream" : "another stream");
+
+    /* refusals */
+    w = vvcc_still_stream(compact, sizeof compact - 1, stored, sizeof stored, 0, 0, stream, sizeof stream);
+    printf("one byte short: refusal %u\n", (unsigned)w.refusal);
+    w = vvcc_still_stream(compact, sizeof compact, stored, sizeof stored, 0, 0, stream, stream_len - 1);
+    printf("output one byte short: refusal %u\n", (unsigned)w.refusal);
+    return 0;
+}

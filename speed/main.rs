@@ -1,0 +1,422 @@
+//! The library measured beside the original: every row runs both on the same bytes, in turn, and prints the medians of their times.
+use original::hvcc::{split_annex_b, split_length_prefixed};
+use original::vvcc::{access_unit_annex_b, CompactVvcConfig, VvcConfig};
+use std::hint::black_box;
+use std::time::Instant;
+
+#[repr(C)]
+#[derive(Clone, Copy)]
+struct Written {
+    refusal: u32,
+    len: usize,
+}
+
+#[repr(C)]
+#[derive(Clone, Copy)]
+struct Unit {
+    refusal: u32,
+    found: u32,
+    start: usize,
+    len: usize,
+    behind: usize,
+}
+
+extern "C" {
+    fn vvcc_access_unit(
+        record: *const u8,
+        record_len: usize,
+        item: *const u8,
+        item_len: usize,
+        has_target: u8,
+        target: u16,
+        scratch: *mut u8,
+        scratch_len: usize,
+        out: *mut u8,
+        out_len: usize,
+    ) -> Written;
+    fn vvcc_still_stream(
+        record: *const u8,
+        record_len: usize,
+        stored: *const u8,
+        stored_len: usize,
+        has_target: u8,
+        target: u16,
+        out: *mut u8,
+        out_len: usize,
+    ) -> Written;
+    fn vvcc_next_unit(stream: *const u8, len: usize, from: usize) -> Unit;
+    fn vvcc_next_item_unit(item: *const u8, len: usize, length_size: u8, from: usize) -> Unit;
+}
+
+/// The stream of a record and an item, in the memory that is given.
+fn access_unit(
+    record: &[u8],
+    item: &[u8],
+    scratch: &mut [u8],
+    out: *mut u8,
+    out_len: usize,
+) -> usize {
+    let w = unsafe {
+        vvcc_access_unit(
+            record.as_ptr(),
+            record.len(),
+            item.as_ptr(),
+            item.len(),
+            0,
+            0,
+            scratch.as_mut_ptr(),
+            scratch.len(),
+            out,
+            out_len,
+        )
+    };
+    assert_eq!(w.refusal, 0);
+    w.len
+}
+
+/// The stream of a still, in lent memory.
+fn still_stream(compact: &[u8], stored: &[u8], out: &mut [u8]) -> usize {
+    let w = unsafe {
+        vvcc_still_stream(
+            compact.as_ptr(),
+            compact.len(),
+            stored.as_ptr(),
+            stored.len(),
+            0,
+            0,
+            out.as_mut_ptr(),
+            out.len(),
+        )
+    };
+    assert_eq!(w.refusal, 0);
+    w.len
+}
+
+/// The units of a stream or an item in a `Vec`, as the original hands them out; `next` is one step.
+fn units_of<'a>(s: &'a [u8], next: impl Fn(usize) -> Unit) -> Vec<&'a [u8]> {
+    let mut units = Vec::new();
+    let mut at = 0;
+    loop {
+        let u = next(at);
+        assert_eq!(u.refusal, 0);
+        if u.found == 0 {
+            return units;
+        }
+        units.push(&s[u.start..u.start + u.len]);
+        at = u.behind;
+    }
+}
+
+fn stream_units(stream: &[u8]) -> Vec<&[u8]> {
+    units_of(stream, |at| unsafe {
+        vvcc_next_unit(stream.as_ptr(), stream.len(), at)
+    })
+}
+
+fn item_units(item: &[u8], size: u8) -> Vec<&[u8]> {
+    units_of(item, |at| unsafe {
+        vvcc_next_item_unit(item.as_ptr(), item.len(), size, at)
+    })
+}
+
+/// The original's shortest way from a still to its stream.
+fn original_stream(compact: &[u8], stored: &[u8]) -> Vec<u8> {
+    let c = CompactVvcConfig::parse(compact).unwrap();
+    let full = c.to_full(1, 8, 0, 0).unwrap();
+    access_unit_annex_b(&full, &c.item_data(stored).unwrap(), None).unwrap()
+}
+
+/// Numbers that look like picture data: no start code and no zero at a unit's end, and the same in every run.
+struct Bytes(u64);
+
+impl Bytes {
+    fn unit(&mut self, header: [u8; 2], len: usize) -> Vec<u8> {
+        let mut u = Vec::with_capacity(len);
+        u.extend_from_slice(&header);
+        while u.len() < len {
+            self.0 = self
+                .0
+                .wrapping_mul(6364136223846793005)
+                .wrapping_add(1442695040888963407);
+            let b = (self.0 >> 56) as u8;
+            let n = u.len();
+            let zeros = u[n - 1] == 0 && u[n - 2] == 0;
+            u.push(if (zeros && b < 4) || (n + 1 == len && b == 0) {
+                0x80
+            } else {
+                b
+            });
+        }
+        u
+    }
+}
+
+/// An item of units behind prefixes of `size` bytes.
+fn item_of(units: usize, unit_len: usize, size: usize) -> Vec<u8> {
+    let mut bytes = Bytes(units as u64);
+    let mut item = Vec::new();
+    for k in 0..units {
+        let u = bytes.unit([0x00, if k == 0 { 0x41 } else { 0x01 }], unit_len);
+        item.extend_from_slice(&(u.len() as u32).to_be_bytes()[4 - size..]);
+        item.extend_from_slice(&u);
+    }
+    item
+}
+
+/// A full record without PTL, of three parameter sets: VPS, SPS, PPS.
+fn record_of(size: u8) -> Vec<u8> {
+    let mut bytes = Bytes(7);
+    let mut r = vec![0xF8 | (size - 1) << 1, 3];
+    for (kind, header, len) in [
+        (14u8, [0x00, 0x71], 20usize),
+        (15, [0x00, 0x79], 64),
+        (16, [0x00, 0x81], 12),
+    ] {
+        let u = bytes.unit(header, len);
+        r.extend_from_slice(&[0x80 | kind, 0, 1]);
+        r.extend_from_slice(&(u.len() as u16).to_be_bytes());
+        r.extend_from_slice(&u);
+    }
+    r
+}
+
+/// Nanoseconds of one call, where `times` calls are made between the two readings of the clock. One call before them is not timed, so that
+/// each side finds the memory as its own last call left it.
+fn clock(times: usize, mut call: impl FnMut()) -> f64 {
+    call();
+    let t = Instant::now();
+    for _ in 0..times {
+        call();
+    }
+    t.elapsed().as_nanos() as f64 / times as f64
+}
+
+fn median(mut v: Vec<f64>) -> f64 {
+    v.sort_by(|a, b| a.total_cmp(b));
+    v[v.len() / 2]
+}
+
+/// Nanoseconds printed as microseconds, with three digits where there are fewer than three before the point.
+fn micro(ns: f64) -> String {
+    let digits = if ns < 1e4 {
+        2
+    } else if ns < 1e5 {
+        1
+    } else {
+        0
+    };
+    format!("{:.*}", digits, ns / 1e3)
+}
+
+/// The table's rows, as they are measured.
+struct Table {
+    rounds: usize,
+    word: String,
+}
+
+impl Table {
+    fn wants(&self, name: &str) -> bool {
+        name.contains(&self.word)
+    }
+
+    /// One row: the library, the original and a plain copy of `bytes` bytes, one after another in every round, the first two in turn
+    /// first.
+    fn row(
+        &self,
+        name: &str,
+        bytes: usize,
+        times: usize,
+        mut ours: impl FnMut(),
+        mut original: impl FnMut(),
+    ) {
+        let src = vec![1u8; bytes];
+        let mut dst = vec![2u8; bytes];
+        let (mut a, mut b, mut c) = (vec![], vec![], vec![]);
+        for round in 0..self.rounds {
+            if round % 2 == 0 {
+                a.push(clock(times, &mut ours));
+                b.push(clock(times, &mut original));
+            } else {
+                b.push(clock(times, &mut original));
+                a.push(clock(times, &mut ours));
+            }
+            c.push(clock(times, || {
+                black_box(&mut dst[..]).copy_from_slice(black_box(&src[..]));
+            }));
+        }
+        let (a, b, c) = (median(a), median(b), median(c));
+        println!(
+            "| {name} | {} | {} | {} | {:.2} | {:.2} |",
+            micro(a),
+            micro(b),
+            micro(c),
+            a / b,
+            a / c
+        );
+    }
+}
+
+/// Assembly into lent memory, or into a new `Vec` at each call as the original does it.
+fn assembly(t: &Table, name: &str, size: u8, units: usize, unit_len: usize, new_vec: bool) {
+    let name = format!(
+        "assembly, prefix size {size}, {name}{}",
+        if new_vec { ", new Vec" } else { "" }
+    );
+    if !t.wants(&name) {
+        return;
+    }
+    let record = record_of(size);
+    let item = item_of(units, unit_len, size as usize);
+    let mut scratch = vec![0u8; 4 * record.len()];
+    let right = access_unit_annex_b(&VvcConfig::parse(&record).unwrap(), &item, None).unwrap();
+    let mut lent = vec![0u8; right.len()];
+    let n = access_unit(&record, &item, &mut scratch, lent.as_mut_ptr(), lent.len());
+    assert!(lent[..n] == right[..]);
+    t.row(
+        &name,
+        right.len(),
+        1 + (4 << 20) / right.len(),
+        || {
+            let mut new = Vec::with_capacity(if new_vec { right.len() } else { 0 });
+            let out = if new_vec {
+                new.as_mut_ptr()
+            } else {
+                lent.as_mut_ptr()
+            };
+            black_box(access_unit(
+                black_box(&record),
+                black_box(&item),
+                &mut scratch,
+                out,
+                right.len(),
+            ));
+            black_box::<Vec<u8>>(new);
+        },
+        || {
+            black_box(
+                access_unit_annex_b(
+                    &VvcConfig::parse(black_box(&record)).unwrap(),
+                    black_box(&item),
+                    None,
+                )
+                .unwrap(),
+            );
+        },
+    );
+}
+
+fn item_split(t: &Table, name: &str, size: u8, units: usize, unit_len: usize) {
+    let name = format!("item split, prefix size {size}, {name}");
+    if !t.wants(&name) {
+        return;
+    }
+    let item = item_of(units, unit_len, size as usize);
+    assert!(item_units(&item, size) == split_length_prefixed(&item, size).unwrap());
+    t.row(
+        &name,
+        item.len(),
+        1 + (4 << 20) / item.len(),
+        || {
+            black_box(item_units(black_box(&item), size));
+        },
+        || {
+            black_box(split_length_prefixed(black_box(&item), size).unwrap());
+        },
+    );
+}
+
+fn stream_split(t: &Table, name: &str, size: u8, units: usize, unit_len: usize) {
+    let name = format!("stream split, {name}");
+    if !t.wants(&name) {
+        return;
+    }
+    let cfg = VvcConfig::parse(&record_of(size)).unwrap();
+    let stream = access_unit_annex_b(&cfg, &item_of(units, unit_len, size as usize), None).unwrap();
+    let found = stream_units(&stream);
+    assert!(found == split_annex_b(&stream) && found.len() == units + 3);
+    t.row(
+        &name,
+        stream.len(),
+        1 + (4 << 20) / stream.len(),
+        || {
+            black_box(stream_units(black_box(&stream)));
+        },
+        || {
+            black_box(split_annex_b(black_box(&stream)));
+        },
+    );
+}
+
+/// A still as the cameras write it: the compact record of an SPS and a PPS, and `len` stored bytes.
+fn still_of(seed: u64, len: usize) -> (Vec<u8>, Vec<u8>) {
+    let compact = b"\x60\x0B\x00\x79\x00\x0D\x02\x33\x80\x00\x02\x22\x4C\x03\x00\x81\x80".to_vec();
+    (compact, Bytes(seed).unit([0x80, 0x40], len))
+}
+
+/// Stills converted one after another into one lent output.
+fn stills(t: &Table, name: &str, stills: &[(Vec<u8>, Vec<u8>)]) {
+    if !t.wants(name) {
+        return;
+    }
+    let longest = stills
+        .iter()
+        .map(|(c, s)| 4 * c.len() + s.len() + 6)
+        .max()
+        .unwrap();
+    let mut out = vec![0u8; longest];
+    let mut bytes = 0;
+    for (c, s) in stills {
+        let right = original_stream(c, s);
+        let n = still_stream(c, s, &mut out);
+        assert!(out[..n] == right[..]);
+        bytes += n;
+    }
+    t.row(
+        name,
+        bytes,
+        1 + (4 << 20) / bytes,
+        || {
+            for (c, s) in stills {
+                black_box(still_stream(black_box(c), black_box(s), &mut out));
+            }
+        },
+        || {
+            for (c, s) in stills {
+                black_box(original_stream(black_box(c), black_box(s)));
+            }
+        },
+    );
+}
+
+fn main() {
+    let args: Vec<String> = std::env::args().collect();
+    let rounds = args
+        .get(1)
+        .map_or(201, |n| n.parse().expect("ROUNDS is a number"));
+    let t = Table {
+        rounds,
+        word: args.get(2).cloned().unwrap_or_default(),
+    };
+    println!("| Work | library, µs | original, µs | plain copy, µs | library / original | library / copy |");
+    println!("|---|---|---|---|---|---|");
+    let whole = "8 MiB in 2,000 units";
+    let short = "2,000 units of 255 bytes";
+    let many = "8 MiB in units of 255 bytes";
+    assembly(&t, whole, 4, 2000, 4190, false);
+    assembly(&t, whole, 2, 2000, 4192, false);
+    assembly(&t, short, 1, 2000, 255, false);
+    assembly(&t, many, 1, 32768, 255, false);
+    assembly(&t, whole, 4, 2000, 4190, true);
+    item_split(&t, whole, 4, 2000, 4190);
+    item_split(&t, whole, 2, 2000, 4192);
+    item_split(&t, short, 1, 2000, 255);
+    item_split(&t, many, 1, 32768, 255);
+    stream_split(&t, whole, 4, 2000, 4190);
+    stream_split(&t, many, 1, 32768, 255);
+    stills(&t, "still to stream, 4 KB", &[still_of(1, 4 << 10)]);
+    stills(&t, "still to stream, 40 KB", &[still_of(2, 40 << 10)]);
+    let month: Vec<_> = (0..1200)
+        .map(|k| still_of(k as u64, 4096 + k * 37 * 1024 / 1200))
+        .collect();
+    stills(&t, "a month's 1,200 stills, 4 to 41 KB", &month);
+}

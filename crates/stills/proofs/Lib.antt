@@ -4,3 +4,4 @@ pub mod Steps
 pub mod Streams
 pub mod Local
 pub mod Calls
+pub mod Pictures

@@ -52,10 +52,10 @@ module _ (c : CompactVvcConfig) (list : List ℕ) (from : ReadFrom c list) where
   pub facts : CompactFacts (from .compact) (from .read) list
   facts = compact-facts (from .compact) (from .bytes) (from .read) list (from .reads)
 
-  abbrev us : List (List ℕ)
+  abbrev pub us : List (List ℕ)
   us = facts .units
 
-  all-bytes : Every Bytes us
+  pub all-bytes : Every Bytes us
   all-bytes = every-of Bytes us (λ k h. facts .bytes k)
 
   all-short : Every (λ u. length u ≤ 255) us
@@ -79,7 +79,7 @@ module _ (c : CompactVvcConfig) (list : List ℕ) (from : ReadFrom c list) where
         subst (λ (vs : List (List ℕ)). expandUnits c pic vs ≡ accept (full, expanded-list)) (facts .read .bytes)
         (of-units c pic list (facts .read .spans) (full, expanded-list) (facts .read .read) e)
 
-    expanded : Expansion us all-bytes c pic full expanded-list
+    pub expanded : Expansion us all-bytes c pic full expanded-list
     expanded = expansion us all-bytes c pic full expanded-list expands
 
     pub expanded-count : full .listLength ≡ length expanded-list

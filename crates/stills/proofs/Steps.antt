@@ -42,7 +42,7 @@ NotShort (accept a) = Unit {0}
 NotShort (refuse n) = n ≡ 20 → ⊥
 
 -- goes on, or is refused
-abbrev done : {A : Type 0} → Outcome A → Outcome (Unit {0})
+abbrev pub done : {A : Type 0} → Outcome A → Outcome (Unit {0})
 done o = andThen o (λ _. accept tt)
 
 not-short-lent : {A : Type 0} (s : List ℕ) (o : Outcome A) → NotShort o → NotShort (lentInput s o)

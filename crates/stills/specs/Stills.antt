@@ -19,7 +19,7 @@ stillRecord C pic = do
   full ← toFull (read .0 .config) pic (read .1)
   serializeFull (full .0 .head) (full .1)
 
--- a stream does not depend on chroma, depth and dimensions
+-- a stream does not depend on chroma, depth and dimensions (crates/stills/proofs/Pictures.antt)
 abbrev pub anyPicture : Picture
 anyPicture = record { chroma = 1; depth = 8; width = 0; height = 0 }
 

@@ -15,7 +15,7 @@ slice-aggregate-to-full : tie.Need-slice-aggregate-to-full
 slice-aggregate-to-full c = search needs
 
 to-full-requires : tie.Need-to-full-requires
-to-full-requires c κs = search needs
+to-full-requires c κs = tt
 
 enum-known-answer : tie.Need-enum-known-answer
 enum-known-answer c = search needs
@@ -42,7 +42,7 @@ slice-aggregate-serialize : tie.Need-slice-aggregate-serialize
 slice-aggregate-serialize c = sym (expanded-at (c .before) .long)
 
 serialize-requires : tie.Need-serialize-requires
-serialize-requires c κs = search needs
+serialize-requires c κs = tt
 
 enum-known-answer-2 : tie.Need-enum-known-answer-2
 enum-known-answer-2 c = search needs

@@ -11,7 +11,7 @@ enum-known-answer : tie.Need-enum-known-answer
 enum-known-answer c = search needs
 
 number-requires : tie.Need-number-requires
-number-requires c κs = search needs
+number-requires c κs = tt
 
 returns : tie.Need-returns
 returns c = short-accepted _ _ _ (c .before .before .before .answer .given .1) (c .before .number .ensures) (c .if1 .taken)

@@ -5,7 +5,7 @@ use Rattle.stills.proofs.stream.put_picture.Statement.{statement}
 use Rattle.stills.proofs.stream.put_picture.Tie as tie
 
 nal-header-requires : tie.Need-nal-header-requires
-nal-header-requires c κs = search needs
+nal-header-requires c κs = tt
 
 put-number-requires : tie.Need-put-number-requires
 put-number-requires c κs = search needs
@@ -17,7 +17,7 @@ array-read-put : tie.Need-array-read-put
 array-read-put c = search needs
 
 put-requires : tie.Need-put-requires
-put-requires c κs = search needs
+put-requires c κs = tt
 
 add-put-2 : tie.Need-add-put-2
 add-put-2 c = search needs
@@ -26,7 +26,7 @@ array-read-put-2 : tie.Need-array-read-put-2
 array-read-put-2 c = search needs
 
 put-requires-2 : tie.Need-put-requires-2
-put-requires-2 c κs = search needs
+put-requires-2 c κs = tt
 
 add-copy : tie.Need-add-copy
 add-copy c = search needs

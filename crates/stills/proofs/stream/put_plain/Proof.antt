@@ -11,7 +11,7 @@ use Rattle.stills.proofs.stream.put_plain.Statement.{statement}
 use Rattle.stills.proofs.stream.put_plain.Tie as tie
 
 wide-requires : tie.Need-wide-requires
-wide-requires c κs = search needs
+wide-requires c κs = tt
 
 add-item-len : tie.Need-add-item-len
 add-item-len c = search needs
@@ -29,7 +29,7 @@ slice-aggregate-measure : tie.Need-slice-aggregate-measure
 slice-aggregate-measure c = search needs
 
 measure-requires : tie.Need-measure-requires
-measure-requires c κs = search needs
+measure-requires c κs = tt
 
 enum-known-measured : tie.Need-enum-known-measured
 enum-known-measured c = search needs

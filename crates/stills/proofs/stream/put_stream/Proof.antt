@@ -16,7 +16,7 @@ slice-aggregate-to-full : tie.Need-slice-aggregate-to-full
 slice-aggregate-to-full c = search needs
 
 to-full-requires : tie.Need-to-full-requires
-to-full-requires c κs = search needs
+to-full-requires c κs = tt
 
 enum-known-answer : tie.Need-enum-known-answer
 enum-known-answer c = search needs

@@ -10,10 +10,10 @@ slice-aggregate-serialize : tie.Need-slice-aggregate-serialize
 slice-aggregate-serialize c = search needs
 
 serialize-requires : tie.Need-serialize-requires
-serialize-requires c κs = search needs
+serialize-requires c κs = tt
 
 answer-tried-requires : tie.Need-answer-tried-requires
-answer-tried-requires c κs = search needs
+answer-tried-requires c κs = tt
 
 enum-told : tie.Need-enum-told
 enum-told c = search needs
@@ -22,10 +22,10 @@ slice-aggregate-item-data : tie.Need-slice-aggregate-item-data
 slice-aggregate-item-data c = search needs
 
 item-data-requires : tie.Need-item-data-requires
-item-data-requires c κs = search needs
+item-data-requires c κs = tt
 
 answer-tried-requires-2 : tie.Need-answer-tried-requires-2
-answer-tried-requires-2 c κs = search needs
+answer-tried-requires-2 c κs = tt
 
 enum-known-e : tie.Need-enum-known-e
 enum-known-e c = search needs

@@ -15,7 +15,7 @@ same (value a q) f g h = h a q
 same (refused e) f g h = refl
 
 -- a read that is the first of a section
-into : {A B C : Type 0} (x : Parsed A) (h : A → ℕ → Parsed C) (f : A → ℕ → Parsed B) (g : B → ℕ → Parsed C) → ((a : A) (q : ℕ) → h a q ≡ bind (f a q) g) → bind x h ≡ bind (bind x f) g
+pub into : {A B C : Type 0} (x : Parsed A) (h : A → ℕ → Parsed C) (f : A → ℕ → Parsed B) (g : B → ℕ → Parsed C) → ((a : A) (q : ℕ) → h a q ≡ bind (f a q) g) → bind x h ≡ bind (bind x f) g
 into (value a q) h f g e = e a q
 into (refused r) h f g e = refl
 

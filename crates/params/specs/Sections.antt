@@ -1,12 +1,12 @@
--- The SPS's head in the sections that the code reads one by one; a law says that they make up the whole.
-use mathlib.Core.Bool.{Bool}
+-- The SPS's head, and the VPS up to its first PTL, in the sections that the code reads one by one; laws say that they make up the whole.
+use mathlib.Core.Bool.{Bool, not}
 use Prim.Native.Nat.{ℕ, _+_}
-use lib.Dec.{ltb}
+use lib.Dec.{ltb, eqb}
 use Rattle.error.specs.Logic.{if_then_else_}
-use Rattle.error.specs.Parse.{Parser, _>>=_, _>>_, give, refuseIf}
+use Rattle.error.specs.Parse.{Parsed, value, refused, bind, Parser, _>>=_, _>>_, give, refuseIf}
 use Rattle.error.specs.declared.Refusal.{Refusal}
 use Rattle.error.specs.declared.Refusal.the-variants.{BitsRunOut}
-use Rattle.rbsp.specs.Bits.{u, isSet, ue}
+use Rattle.rbsp.specs.Bits.{u, isSet, align, ue}
 use Rattle.ptl.specs.Ptl.{profileTierLevel, zeroPtl}
 use Rattle.ptl.specs.declared.PtlAnswer.{PtlAnswer}
 use Rattle.ptl.specs.declared.PtlAnswer.the-variants as A
@@ -91,3 +91,18 @@ headOf i p z w d = record {
 abbrev pub partRefusal : PtlAnswer → Refusal
 partRefusal (A.Read q) = BitsRunOut
 partRefusal (A.Refused e) = e
+
+-- the VPS up to vps_ptl_alignment_zero_bit: vps_max_sublayers_minus1, and the position at which the PTL starts
+unfoldable pub vpsFront : Parser ℕ
+vpsFront = do
+  u 4
+  layers ← u 6
+  s ← u 3
+  refuseIf (not (eqb layers 0)) 15
+  u 6
+  align
+  give s
+
+-- the same from the answers of the four reads, each from where the one before it left the reader, and from the PTL's position
+abbrev pub frontOf : Parsed ℕ → Parsed ℕ → Parsed ℕ → Parsed ℕ → ℕ → Parsed ℕ
+frontOf id layers sublayers layer start = bind id (λ _ _. bind layers (λ n _. bind sublayers (λ s _. if eqb n 0 then bind layer (λ _ _. value s start) else refused 15)))

@@ -1,37 +1,49 @@
 // For the crates further down: an OPI's operating point from the first bytes of its RBSP.
 use super::OlsIdx;
-use rbsp::BitPosition;
 use rbsp::BitsRead;
-use rbsp::bits;
+use rbsp::reader::BitReader;
 ghost use mathlib.Core.Path.{_≡_};
 ghost use Prim.Native.Nat.{_≤_};
 ghost use lib.ListN.{length};
 ghost use Rattle.error.specs.Outcome.{accept};
 ghost use Rattle.rbsp.specs.Rbsp.{rbsp};
-ghost use Rattle.params.specs.Heads.{whereRead, opiPoint};
+ghost use Rattle.rbsp.specs.Answers.{parsed};
+ghost use Rattle.params.specs.Heads.{whereRead, opiPoint, pointOf};
 ghost use Rattle.params.specs.Answers.{olsIdxOf};
 
-// The operating point from the first bytes of an OPI's RBSP.
-fn parse_rbsp(rbsp: &[u8]) -> OlsIdx
-    requires { ⌜ length (now rbsp) ≤ 9 ⌝ }
-    ensures { λ r. ⌜ olsIdxOf r ≡ accept (whereRead (opiPoint (now (rbsp .entry)) 0)) ⌝ }
+// What the answers of the two flags and of the code say: absent where one is refused, or where the first flag is not 1.
+fn point_of(ols: BitsRead, htid: BitsRead, idx: BitsRead) -> OlsIdx
+    ensures { λ r. ⌜ olsIdxOf r ≡ accept (whereRead (pointOf (parsed ols) (parsed htid) (parsed idx))) ⌝ }
 {
-    let r1 = bits::read_bits(rbsp, BitPosition(0), 1);
-    let BitsRead::Value(present, p1) = r1 else {
+    let BitsRead::Value(present, _) = ols else {
         return OlsIdx::Absent;
     };
-    let r2 = bits::read_bits(rbsp, p1, 1);
-    let BitsRead::Value(_, p2) = r2 else {
+    let BitsRead::Value(_, _) = htid else {
         return OlsIdx::Absent;
     };
     if present != 1 {
         return OlsIdx::Absent;
     }
-    let r3 = bits::exp_golomb(rbsp, p2);
-    let BitsRead::Value(idx, _) = r3 else {
+    let BitsRead::Value(point, _) = idx else {
         return OlsIdx::Absent;
     };
-    OlsIdx::Present(idx)
+    OlsIdx::Present(point)
+}
+
+// The operating point from the first bytes of an OPI's RBSP: the bit reader reads a flag, passes one over and reads the code; `point_of` decides.
+fn parse_rbsp(rbsp: &[u8]) -> OlsIdx
+    requires { ⌜ length (now rbsp) ≤ 9 ⌝ }
+    ensures { λ r. ⌜ olsIdxOf r ≡ accept (whereRead (opiPoint (now (rbsp .entry)) 0)) ⌝ }
+{
+    let br = BitReader::new(rbsp);
+    let ols_info_present = br.u(1);
+    let htid_info_present = ols_info_present.reader.skip(1);
+    let ols_idx = htid_info_present.reader.ue();
+    point_of(
+        ols_info_present.answer,
+        htid_info_present.answer,
+        ols_idx.answer,
+    )
 }
 
 // The operating point from an OPI's payload: two flags and a code of at most 63 bits, so 9 bytes of its RBSP are enough.

@@ -6,14 +6,17 @@ use ptl::PtlAnswer;
 use rbsp::BitPosition;
 use rbsp::BitsRead;
 use rbsp::bits;
+use rbsp::reader::BitReader;
 ghost use mathlib.Core.Path.{_≡_};
 ghost use Prim.Native.Nat.{_≤_};
 ghost use lib.ListN.{length};
 ghost use Rattle.error.specs.Outcome.{refuse};
 ghost use Rattle.error.specs.Refusals.{numberOf};
 ghost use Rattle.rbsp.specs.Rbsp.{rbsp};
+ghost use Rattle.rbsp.specs.Answers.{parsed};
 ghost use Rattle.ptl.specs.Ptl.{zeroPtl};
 ghost use Rattle.params.specs.Heads.{vpsPtl};
+ghost use Rattle.params.specs.Sections.{vpsFront, frontOf};
 ghost use Rattle.params.specs.Answers.{readOr, ptlOf, answerOf};
 
 // A refusal, with all zeros beside it.
@@ -35,35 +38,68 @@ fn params_answer(answer: PtlAnswer) -> ParamsAnswer
     }
 }
 
+// What the answers in front of the PTL say: vps_max_sublayers_minus1, and where the PTL starts. Refusals in bit order: 11, 15.
+fn front_of(
+    id: BitsRead,
+    layers: BitsRead,
+    sublayers: BitsRead,
+    layer: BitsRead,
+    start: BitPosition,
+) -> BitsRead
+    ensures { λ r. ⌜ parsed r ≡ frontOf (parsed id) (parsed layers) (parsed sublayers) (parsed layer) (start .0) ⌝ }
+{
+    let BitsRead::Value(_, _) = id else {
+        return id;
+    };
+    let BitsRead::Value(max_layers_minus1, _) = layers else {
+        return layers;
+    };
+    let BitsRead::Value(s, _) = sublayers else {
+        return sublayers;
+    };
+    if max_layers_minus1 != 0 {
+        return BitsRead::Refused(Refusal::SeveralLayers);
+    }
+    let BitsRead::Value(_, _) = layer else {
+        return layer;
+    };
+    BitsRead::Value(s, start)
+}
+
+// The fields in front of a VPS's PTL: the bit reader goes over them, and `front_of` decides.
+fn front(rbsp: &[u8]) -> BitsRead
+    requires { ⌜ length (now rbsp) ≤ 1132 ⌝ }
+    ensures { λ r. ⌜ parsed r ≡ vpsFront (now (rbsp .entry)) 0 ⌝ }
+{
+    let br = BitReader::new(rbsp);
+    let id = br.skip(4);
+    let layers = id.reader.u(6);
+    let sublayers = layers.reader.u(3);
+    let layer = sublayers.reader.skip(6);
+    let aligned = layer.reader.align();
+    let start = aligned.bit_position();
+    front_of(
+        id.answer,
+        layers.answer,
+        sublayers.answer,
+        layer.answer,
+        start,
+    )
+}
+
 // A VPS's first PTL from the first bytes of its RBSP. Refusals in bit order: 11, 15.
 fn parse_rbsp(rbsp: &[u8]) -> PtlRead
     requires { ⌜ length (now rbsp) ≤ 1132 ⌝ }
     ensures { λ r. ⌜ ptlOf r ≡ readOr zeroPtl (vpsPtl (now (rbsp .entry)) 0) ⌝ }
 {
-    let r1 = bits::read_bits(rbsp, BitPosition(0), 4);
-    let BitsRead::Value(_, p1) = r1 else {
+    let r1 = front(rbsp);
+    let BitsRead::Value(s, start) = r1 else {
         return no_ptl(bits::refusal(r1));
     };
-    let r2 = bits::read_bits(rbsp, p1, 6);
-    let BitsRead::Value(layers, p2) = r2 else {
-        return no_ptl(bits::refusal(r2));
-    };
-    let r3 = bits::read_bits(rbsp, p2, 3);
-    let BitsRead::Value(s, p3) = r3 else {
-        return no_ptl(bits::refusal(r3));
-    };
-    if layers != 0 {
-        return no_ptl(Refusal::SeveralLayers);
-    }
-    let r4 = bits::read_bits(rbsp, p3, 6);
-    let BitsRead::Value(_, p4) = r4 else {
-        return no_ptl(bits::refusal(r4));
-    };
-    let start = bits::align(p4);
-    let r5 = ptl::bits::parse_ptl(rbsp, start, s as u8);
-    let a5 = r5.answer;
-    let answer = params_answer(a5);
-    let ptl_read = r5.ptl;
+    let r2 = ptl::bits::parse_ptl(rbsp, start, s as u8);
+    let a2 = r2.answer;
+    let answer = params_answer(a2);
+    let ptl_read = r2.ptl;
     PtlRead {
         answer,
         ptl: ptl_read,

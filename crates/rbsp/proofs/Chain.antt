@@ -1,17 +1,22 @@
 -- Reads one after the other: what an answer of a read says of the definition's chain.
-use mathlib.Core.Path.{_≡_, ap, sym, _∙_}
-use mathlib.Core.List.{List, []}
-use Prim.Native.Nat.{ℕ}
+use mathlib.Core.Path.{_≡_, ap, sym, _∙_, refl}
+use mathlib.Core.Bool.{Bool, true, false}
+use mathlib.Core.List.{List}
+use Prim.Native.Nat.{ℕ, _+_, _*_}
 use native.Mathlib.Omega.{arith}
+use lib.Dec.{leb}
+use lib.ListN.{length}
+use Rattle.error.specs.Logic.{if_then_else_}
 use Rattle.error.specs.Parse.{Parsed, value, refused, bind}
 use Rattle.error.specs.Refusals.{numberOf}
 use Rattle.error.specs.declared.Refusal.{Refusal}
-use Rattle.rbsp.specs.Bits.{u, skip, align, ue}
+use Rattle.rbsp.specs.Bits.{bitsAt, u, skip, ue}
 use Rattle.rbsp.specs.Answers.{parsed, refusalOf}
+use Rattle.rbsp.specs.Reader.{skipping}
 use Rattle.rbsp.specs.declared.BitsRead.{BitsRead}
 use Rattle.rbsp.specs.declared.BitsRead.the-variants.{Value, Refused}
 use Rattle.rbsp.specs.declared.BitPosition.{BitPosition}
-use Rattle.rbsp.proofs.Numbers.{Read, u-read, Passed, skip-read, Coded, ue-read, Aligned, align-read}
+use Rattle.rbsp.proofs.Numbers.{Read, u-read, Passed, skip-read, Coded, ue-read}
 
 -- ---- a number: read_bits and exp_golomb
 
@@ -58,10 +63,11 @@ module _ {B : Type 0} (n : ℕ) (s : List ℕ) (p : ℕ) (f : Unit {0} → ℕ �
 pub passed-of : {n : ℕ} {s : List ℕ} {p v : ℕ} {r : BitsRead} {q : BitPosition} → parsed r ≡ bind (skip n s p) (λ _ t. value 0 t) → r ≡ Value v q → Passed n s p (q .0)
 passed-of {n} {s} {p} h e = skip-read n s p _ (skip-told (skip n s p) _ _ (told h e))
 
--- ---- alignment: align
-module _ (p : ℕ) {q : ℕ} (h : (t : List ℕ) → align t p ≡ value tt q) where
-  pub went-aligned : {B : Type 0} (s : List ℕ) (f : Unit {0} → ℕ → Parsed B) → bind (align s p) f ≡ f tt q
-  went-aligned s f = ap (λ y. bind y f) (h s)
-
-  pub aligned-of : Aligned p q
-  aligned-of = align-read [] p q (h [])
+-- a number that nothing needs may as well be passed over
+pub passed-for-read : {B : Type 0} (n : ℕ) (s : List ℕ) (p : ℕ) (f : ℕ → Parsed B) → bind (u n s p) (λ _ q. f q) ≡ bind (skipping n s p) (λ _ q. f q)
+unfolding u skip
+passed-for-read {B} n s p f = go (leb (p + n) (8 * length s))
+  where
+    go : (b : Bool) → bind (if b then value (bitsAt s p n) (p + n) else refused 11) (λ _ q. f q) ≡ bind {A = ℕ} (bind {A = Unit {0}} (if b then value tt (p + n) else refused 11) (λ _ q. value 0 q)) (λ _ q. f q)
+    go true = refl
+    go false = refl

@@ -5,3 +5,5 @@ pub mod Numbers
 pub mod Chain
 pub mod Local
 pub mod Examples
+pub mod Readers
+pub mod ReaderCalls

@@ -1,6 +1,7 @@
 // Emulation prevention removed from a payload, and bits read from what is left.
 pub mod bits;
 pub mod fill;
+pub mod reader;
 
 use error::Refusal;
 use error::Written;

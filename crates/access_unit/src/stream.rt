@@ -51,7 +51,7 @@ fn put_unit(src: &[u8], a: Span, out: &mut [u8], at: usize) -> usize
     start + a.len
 }
 
-// Stores the first `n` of the kept units from a place of the item on. The next unit is looked up before one is copied, so that the copy does not wait for it.
+// Stores the first `n` of the kept units from a place of the item on.
 fn put_kept(
     item: &[u8],
     size: usize,
@@ -67,12 +67,11 @@ fn put_kept(
     let mut at = from;
     let mut end = to;
     let mut left = n;
-    let mut step = items::item_step(item, size, from);
     while 0 < left {
+        let step = items::item_step(item, size, at);
         let ItemStep::Unit(a, next) = step else {
             return Places { item: at, out: end };
         };
-        step = items::item_step(item, size, next);
         if kept::kept_at(item, a, target) {
             end = put_unit(item, a, out, end);
             left -= 1;

@@ -1,10 +1,9 @@
--- `stream::put_kept` stores the first kept units from a place of the item on. The loop's invariant: what is stored and what is left of them make the
--- whole, and the step is the one from the place.
+-- `stream::put_kept` stores the first kept units from a place of the item on. The loop's invariant: what is stored and what is left of them make the whole.
 use Prim.Native.Nat.{_+_, _-_, _≤_}
-use mathlib.Core.Path.{_≡_, sym, _∙_}
+use mathlib.Core.Path.{_≡_, sym, ap, _∙_}
+use mathlib.Core.Bool.{Bool}
 use lib.ListN.{length}
 use lib.Seq.{sets}
-use Rattle.hvcc.specs.Answers.{leftOf, stepped, Onward}
 use Rattle.hvcc.proofs.Items.{Turn, found-unit}
 use Rattle.access_unit.specs.Answers.{tolsOf}
 use Rattle.access_unit.specs.Inside.{keptLeft, foundBytes, firstOf, restOf}
@@ -16,92 +15,86 @@ use Rattle.access_unit.proofs.stream.put_kept.Statement.{statement}
 use Rattle.access_unit.proofs.stream.put_kept.Tie as tie
 
 abbrev Inv-loop : tie.InvT-loop
-Inv-loop item size target from n out₀ to at₀ end₀ left₀ step₀ out at end left step =
+Inv-loop item size target from n out₀ to at₀ end₀ left₀ out at end left =
     (at ≤ length item)
     × FirstLeft item (length out₀) (to + length (foundBytes item (firstOf n (keptLeft size (tolsOf target) item from))))
     (sets out₀ to (foundBytes item (firstOf n (keptLeft size (tolsOf target) item from)))) (restOf n (keptLeft size (tolsOf target) item from)) (keptLeft size (tolsOf target) item at) left out end
-    × ((stepped size item step ≡ leftOf size item at) × Onward item at step)
 
 abbrev μ-loop : tie.MeasureT-loop
-μ-loop item size target from n out₀ to at₀ end₀ left₀ step₀ out at end left step = length item - at
-
-item-step-requires : tie.Need-item-step-requires Inv-loop μ-loop
-item-step-requires c κs = let w = c .before .before .pre .walks in (w .some, w .four, w .within, w .lent)
+μ-loop item size target from n out₀ to at₀ end₀ left₀ out at end left = length item - at
 
 loop-holds : tie.Need-loop-holds Inv-loop μ-loop
 loop-holds c =
-    let p = c .before .before .before .pre in
-    (p .walks .within, first-start _ _ (p .units) (p .found) _ (p .enough) _ _ (p .room), c .item-step .ensures)
+    let p = c .before .before .pre in
+    (p .walks .within, first-start _ _ (p .units) (p .found) _ (p .enough) _ _ (p .room))
+
+item-step-requires : tie.Need-item-step-requires Inv-loop μ-loop
+item-step-requires c κs = let w = c .before .before .before .before .pre .walks in (w .some, w .four, c .before .loop .inv .0, w .lent)
 
 enum-known-step : tie.Need-enum-known-step Inv-loop μ-loop
 enum-known-step c = search needs
 
 same-length : tie.Need-same-length Inv-loop μ-loop
-same-length c = c .before .before .loop .inv .1 .storing .same
+same-length c = c .before .before .before .loop .inv .1 .storing .same
 
 returns : tie.Need-returns Inv-loop μ-loop
 returns c =
-    let b = c .before .before in
-    let a = b .before .before .before .before .args in
-    let l = b .loop in
-    let z = kept-none (a .size) (tolsOf (a .target)) (a .item .now) (l .at) (l .step) (over-none (a .size) (tolsOf (a .target)) (a .item .now) (l .at) (l .step) (c .match .keys2) (l .inv .2 .0)) (c .match .keys2) in
-    absurd (first-some _ _ _ _ _ _ _ _ _ (l .inv .1) (c .before .loop-test .taken) z)
+    let b = c .before .before .before in
+    let a = b .before .before .before .args in
+    let r = c .before .item-step in
+    let z = kept-none (a .size) (tolsOf (a .target)) (a .item .now) (b .loop .at) (r .result) (over-none (a .size) (tolsOf (a .target)) (a .item .now) (b .loop .at) (r .result) (c .match .keys2) (r .ensures .0)) (c .match .keys2) in
+    absurd (first-some _ _ _ _ _ _ _ _ _ (b .loop .inv .1) (c .before .before .loop-test .taken) z)
 
 -- the unit that the step found
 turn-at : (c : tie.After-known-told Inv-loop μ-loop)
     → Turn (c .before .before .before .before .before .before .before .before .args .size) (c .before .before .before .before .before .before .before .before .args .item .now)
-    (c .before .before .before .before .loop .at) (c .before .step .given .0 .0) (c .before .step .given .0 .1 .0)
-turn-at c = found-unit _ _ _ _ (c .before .before .before .before .loop .inv .2) _ _ (c .before .step .given .1)
+    (c .before .before .before .before .before .loop .at) (c .before .step .given .0 .0) (c .before .step .given .0 .1 .0)
+turn-at c = found-unit _ _ _ _ (c .before .before .before .item-step .ensures) _ _ (c .before .step .given .1)
 
 -- it lies inside the item
 inside-at : (c : tie.After-known-told Inv-loop μ-loop)
     → c .before .step .given .0 .0 .start + c .before .step .given .0 .0 .len ≤ length (c .before .before .before .before .before .before .before .before .args .item .now)
 inside-at c = let t = turn-at c in omega (arith, t .here)
 
-item-step-requires-2 : tie.Need-item-step-requires-2 Inv-loop μ-loop
-item-step-requires-2 c κs =
-    let w = c .before .before .before .before .before .before .before .before .pre .walks in
-    (w .some, w .four, turn-at c .here .inside, w .lent)
-
 kept-at-requires : tie.Need-kept-at-requires Inv-loop μ-loop
-kept-at-requires c κs = (inside-at (c .before), c .before .before .before .before .before .before .before .before .before .pre .walks .lent)
+kept-at-requires c κs = (inside-at c, c .before .before .before .before .before .before .before .before .pre .walks .lent)
 
 put-unit-requires : tie.Need-put-unit-requires Inv-loop μ-loop
 put-unit-requires c κs =
-    let u = c .before .before .before .before in
+    let u = c .before .before .before in
     let t = turn-at u in
-    let l = u .before .before .before .before .loop in
+    let l = u .before .before .before .before .before .loop in
     let a = u .before .before .before .before .before .before .before .before .args in
     let k = over-kept (a .size) (tolsOf (a .target)) (a .item .now) _ _ _ (t .rest) (sym (c .before .before .kept-at .ensures) ∙ c .before .if1 .taken) in
-    (inside-at u, first-room _ _ _ _ _ _ _ (keptLeft (a .size) (tolsOf (a .target)) (a .item .now) (u .before .step .given .0 .1 .0)) k (inside-at u) _ _ _ (l .inv .1) (u .before .before .before .loop-test .taken))
+    (inside-at u, first-room _ _ _ _ _ _ _ (keptLeft (a .size) (tolsOf (a .target)) (a .item .now) (u .before .step .given .0 .1 .0)) k (inside-at u) _ _ _ (l .inv .1) (u .before .before .before .before .loop-test .taken))
 
 sub-left : tie.Need-sub-left Inv-loop μ-loop
 sub-left c = search needs
 
 loop-less : tie.Need-loop-less Inv-loop μ-loop
-loop-less c = let t = turn-at (c .before .before .before .before .before .before .before) in omega (arith, t .here)
+loop-less c = let t = turn-at (c .before .before .before .before .before .before) in omega (arith, t .here)
 
 loop-again : tie.Need-loop-again Inv-loop μ-loop
 loop-again c =
-    let u = c .before .before .before .before .before .before .before in
+    let u = c .before .before .before .before .before .before in
     let t = turn-at u in
-    let l = u .before .before .before .before .loop in
+    let l = u .before .before .before .before .before .loop in
     let a = u .before .before .before .before .before .before .before .before .args in
     let p = c .before .before .put-unit .ensures in
     let k = over-kept (a .size) (tolsOf (a .target)) (a .item .now) _ _ _ (t .rest) (sym (c .before .before .before .before .before .kept-at .ensures) ∙ c .before .before .before .before .if1 .taken) in
-    (t .here .inside, first-more _ _ _ _ _ _ _ (keptLeft (a .size) (tolsOf (a .target)) (a .item .now) (u .before .step .given .0 .1 .0)) k (inside-at u) _ _ _ (l .inv .1) (u .before .before .before .loop-test .taken) _ _ (p .0) (p .1), c .before .before .before .before .before .before .item-step2 .ensures)
+    (omega (arith, t .here), first-more _ _ _ _ _ _ _ (keptLeft (a .size) (tolsOf (a .target)) (a .item .now) (u .before .step .given .0 .1 .0)) k (inside-at u) _ _ _ (l .inv .1) (u .before .before .before .before .loop-test .taken) _ _ (p .0) (p .1))
 
 loop-less-2 : tie.Need-loop-less-2 Inv-loop μ-loop
-loop-less-2 c = let t = turn-at (c .before .before .before) in omega (arith, t .here)
+loop-less-2 c = let t = turn-at (c .before .before) in omega (arith, t .here)
 
 loop-again-2 : tie.Need-loop-again-2 Inv-loop μ-loop
 loop-again-2 c =
-    let u = c .before .before .before in
+    let u = c .before .before in
     let t = turn-at u in
-    let l = u .before .before .before .before .loop in
+    let l = u .before .before .before .before .before .loop in
     let a = u .before .before .before .before .before .before .before .before .args in
     let d = over-dropped (a .size) (tolsOf (a .target)) (a .item .now) _ _ _ (t .rest) (sym (c .before .kept-at .ensures) ∙ c .if1 .left) in
-    (t .here .inside, first-on _ _ _ _ _ _ _ d _ _ _ (l .inv .1), c .before .before .item-step2 .ensures)
+    (omega (arith, t .here), first-on _ _ _ _ _ _ _ d _ _ _ (l .inv .1))
 
 same-length-2 : tie.Need-same-length-2 Inv-loop μ-loop
 same-length-2 c = c .before .loop .inv .1 .storing .same
@@ -118,12 +111,11 @@ put-kept-spec =
     (tie.spec
     Inv-loop
     μ-loop
-    item-step-requires
     loop-holds
+    item-step-requires
     enum-known-step
     same-length
     returns
-    item-step-requires-2
     kept-at-requires
     put-unit-requires
     sub-left

@@ -24,7 +24,6 @@ pub be-four : (s : List ℕ) (p : ℕ)
 unfolding be
 be-four s p = let e : p + 0 ≡ p = omega arith in rw e (omega arith)
 
-
 -- equal bytes, equal numbers
 pub be-same : (s t : List ℕ) (p q w : ℕ) → ((i : ℕ) → i < w → getD s (p + i) 0 ≡ getD t (q + i) 0) → be s p w ≡ be t q w
 unfolding be

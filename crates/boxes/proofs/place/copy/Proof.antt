@@ -62,9 +62,11 @@ loop-again c =
     let n = c .before .before .before .before .before .block-len .result in
     let b = c .before .before .before .before .before .block-len .ensures in
     let e = c .before .before .copy-block .ensures in
-    let k : l .done + n - l .done ≡ n = omega arith in
-    (omega (arith, b .0), ap length e ∙ length-sets (l .out) (a .at + l .done) (take (l .done + n - l .done) (drop (l .done) (a .src .now))) ∙ l .inv .1,
-    e ∙ rw (l .inv .2, k) (sets-next (a .out .now) (a .src .now) (a .at) (l .done) n (l .inv .0)))
+    let k : l .done + n - l .done ≡ n = omega arith in (
+      omega (arith, b .0),
+      ap length e ∙ length-sets (l .out) (a .at + l .done) (take (l .done + n - l .done) (drop (l .done) (a .src .now))) ∙ l .inv .1,
+      e ∙ rw (l .inv .2, k) (sets-next (a .out .now) (a .src .now) (a .at) (l .done) n (l .inv .0)),
+    )
 
 same-length : tie.Need-same-length Inv-loop μ-loop
 same-length c = search needs

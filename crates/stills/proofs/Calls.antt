@@ -17,7 +17,7 @@ use Rattle.vvcc.specs.Path.{Path}
 use Rattle.vvcc.proofs.Path.{streamOf, recordOf, is-written, is-read-back, is-restored, is-assembled, of-picture, path, same-streams, same-grouped, same-picture, counts-of}
 use Rattle.vvcc.proofs.Worked.{P, Q, C, worked}
 use Rattle.vvcc.proofs.Instance.{instance}
-use Rattle.stills.specs.Stills.{stillRecord, anyPicture, stillStream}
+use Rattle.stills.specs.Stills.{stillRecord, streamWith, anyPicture, stillStream}
 use Rattle.stills.specs.Calls.{Calls}
 
 module _ (C S : List ℕ) (pic : Picture) (still : Still C S pic) where
@@ -30,7 +30,7 @@ module _ (C S : List ℕ) (pic : Picture) (still : Still C S pic) where
   plain = of-picture C S pic still anyPicture (omega arith) (omega arith)
 
   is-stream : (tols : Option ℕ) → stillStream C S tols ≡ accept (streamOf C S pic still)
-  unfolding stillStream
+  unfolding stillStream streamWith
   is-stream tols =
       let s = still .short in
       lent-within S _ (omega arith)

@@ -22,7 +22,7 @@ use Rattle.full.specs.declared.VvcConfig.{VvcConfig}
 use Rattle.expand.specs.Expand.{Picture, FullHead, toFull}
 use Rattle.expand.specs.Answers.{expandedGiven}
 use Rattle.vvcc.specs.Still.{Bytes}
-use Rattle.stills.specs.Stills.{stillRecord, anyPicture, stillStream}
+use Rattle.stills.specs.Stills.{stillRecord, streamWith, anyPicture, stillStream}
 use Rattle.stills.specs.Inside.{ReadFrom, ExpandedFrom, recordFrom, streamExpanded, streamFrom}
 use Rattle.stills.proofs.Lists.{list-short, expanded-short, expanded-count}
 
@@ -193,14 +193,14 @@ module _ (C : List ℕ) (pic : Picture) where
 
 module _ (C S : List ℕ) (tols : Option ℕ) where
   pub stream-too-long : 2 ^ 30 < length S → stillStream C S tols ≡ refuse 23
-  unfolding stillStream
+  unfolding stillStream streamWith
   stream-too-long h = lent-too-long S _ h
 
   module _ (lent : length S ≤ 2 ^ 30) where
     pub stream-read : (r : CompactParsed) (list : List ℕ) → parseCompact C ≡ accept (r, list) → stillStream C S tols ≡ streamFrom (r .config) list S tols
-    unfolding stillStream
+    unfolding stillStream streamWith
     stream-read r list e = lent-within S _ lent ∙ rw e
 
     pub stream-unread : (n : ℕ) → parseCompact C ≡ refuse n → stillStream C S tols ≡ refuse n
-    unfolding stillStream
+    unfolding stillStream streamWith
     stream-unread n e = lent-within S _ lent ∙ rw e

@@ -23,8 +23,7 @@ use Rattle.expand.specs.Expand.{Picture, FullHead, havingType, first, multiLaye
 use Rattle.access_unit.specs.AccessUnit.{accessUnit, assemble}
 use Rattle.expand.proofs.Expansion.{list-expanded}
 use Rattle.vvcc.specs.Still.{Bytes}
-use Rattle.stills.specs.Stills.{anyPicture, stillStream}
-use Rattle.stills.specs.Calls.{streamWith}
+use Rattle.stills.specs.Stills.{streamWith, anyPicture, stillStream}
 use Rattle.stills.specs.Inside.{ReadFrom, streamExpanded}
 use Rattle.stills.proofs.Lists.{Ready, facts, us, expanded, ready}
 use Rattle.stills.proofs.Steps.{done}

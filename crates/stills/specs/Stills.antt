@@ -19,16 +19,20 @@ stillRecord C pic = do
   full ← toFull (read .0 .config) pic (read .1)
   serializeFull (full .0 .head) (full .1)
 
--- a stream does not depend on chroma, depth and dimensions (crates/stills/proofs/Pictures.antt)
-abbrev pub anyPicture : Picture
-anyPicture = record { chroma = 1; depth = 8; width = 0; height = 0 }
-
--- the stream of a compact record C and stored bytes S: compact read, expand, full write, full read, restore, assemble; 23 of S first
-unfoldable pub stillStream : List ℕ → List ℕ → Option ℕ → Outcome (List ℕ)
-stillStream C S tols = lentInput S do
+-- the stream of a compact record C, a picture and stored bytes S: compact read, expand, full write, full read, restore, assemble; 23 of S first
+unfoldable pub streamWith : Picture → List ℕ → List ℕ → Option ℕ → Outcome (List ℕ)
+streamWith pic C S tols = lentInput S do
   read ← parseCompact C
-  full ← toFull (read .0 .config) anyPicture (read .1)
+  full ← toFull (read .0 .config) pic (read .1)
   bytes ← serializeFull (full .0 .head) (full .1)
   back ← parseFull bytes
   item ← restore (read .0 .config) S
   assemble (back .0 .head) (back .1) item tols
+
+-- a stream does not depend on chroma, depth and dimensions (`any-picture`, crates/stills/proofs/Pictures.antt)
+abbrev pub anyPicture : Picture
+anyPicture = record { chroma = 1; depth = 8; width = 0; height = 0 }
+
+-- so a call for it does not ask for them
+unfoldable pub stillStream : List ℕ → List ℕ → Option ℕ → Outcome (List ℕ)
+stillStream C S tols = streamWith anyPicture C S tols

@@ -19,7 +19,8 @@ use Rattle.rbsp.specs.declared.reader.BitReader.{BitReader}
 use Rattle.rbsp.specs.declared.reader.ReaderStep.{ReaderStep}
 use Rattle.rbsp.proofs.Chain.{passed-for-read}
 use Rattle.rbsp.proofs.ReaderCalls.{AtStart}
-use Rattle.params.specs.Heads.{whereRead, opiPoint, pointOf}
+use Rattle.params.specs.Heads.{whereRead, opiPoint}
+use Rattle.params.specs.Sections.{pointOf}
 
 -- ---- the five answers
 module _ (x y z : BitsRead) where

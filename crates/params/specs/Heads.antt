@@ -7,7 +7,7 @@ use lib.Dec.{ltb, eqb}
 use lib.ListN.{drop}
 use Rattle.error.specs.Logic.{if_then_else_}
 use Rattle.error.specs.Outcome.{Outcome, refuse, lentInput}
-use Rattle.error.specs.Parse.{Parsed, value, refused, bind, Parser, _>>=_, _>>_, give, refuseIf, refusing, outcome}
+use Rattle.error.specs.Parse.{Parsed, value, refused, Parser, _>>=_, _>>_, give, refuseIf, refusing, outcome}
 use Rattle.nal.specs.Header.{typeOr31}
 use Rattle.rbsp.specs.Rbsp.{rbsp}
 use Rattle.rbsp.specs.Bits.{u, isSet, align, ue}
@@ -109,10 +109,6 @@ opiPoint = do
   present ← u 1  -- opi_ols_info_present_flag
   u 1  -- opi_htid_info_present_flag
   if isSet present then ue else refusing 0  -- opi_ols_idx
-
--- the same from the answers of the three reads, each from where the one before it left the reader
-abbrev pub pointOf : Parsed ℕ → Parsed ℕ → Parsed ℕ → Parsed ℕ
-pointOf ols htid idx = bind ols (λ present _. bind htid (λ _ _. if isSet present then idx else refused 0))
 
 -- what P reads of a unit of type t: of the RBSP of what follows its two header bytes
 abbrev pub ofUnit : {A : Type 0} → ℕ → Parser A → List ℕ → Outcome A

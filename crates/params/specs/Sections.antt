@@ -1,4 +1,5 @@
--- The SPS's head, and the VPS up to its first PTL, in the sections that the code reads one by one; laws say that they make up the whole.
+-- The SPS's head, the VPS up to its first PTL and an OPI's operating point, in the sections that the code reads one by one; laws say that they make
+-- up the whole.
 use mathlib.Core.Bool.{Bool, not}
 use Prim.Native.Nat.{ℕ, _+_}
 use lib.Dec.{ltb, eqb}
@@ -106,3 +107,7 @@ vpsFront = do
 -- the same from the answers of the four reads, each from where the one before it left the reader, and from the PTL's position
 abbrev pub frontOf : Parsed ℕ → Parsed ℕ → Parsed ℕ → Parsed ℕ → ℕ → Parsed ℕ
 frontOf id layers sublayers layer start = bind id (λ _ _. bind layers (λ n _. bind sublayers (λ s _. if eqb n 0 then bind layer (λ _ _. value s start) else refused 15)))
+
+-- an OPI's operating point (`opiPoint`) from the answers of the three reads, each from where the one before it left the reader
+abbrev pub pointOf : Parsed ℕ → Parsed ℕ → Parsed ℕ → Parsed ℕ
+pointOf ols htid idx = bind ols (λ present _. bind htid (λ _ _. if isSet present then idx else refused 0))

@@ -8,7 +8,8 @@ ghost use lib.ListN.{length};
 ghost use Rattle.error.specs.Outcome.{accept};
 ghost use Rattle.rbsp.specs.Rbsp.{rbsp};
 ghost use Rattle.rbsp.specs.Answers.{parsed};
-ghost use Rattle.params.specs.Heads.{whereRead, opiPoint, pointOf};
+ghost use Rattle.params.specs.Heads.{whereRead, opiPoint};
+ghost use Rattle.params.specs.Sections.{pointOf};
 ghost use Rattle.params.specs.Answers.{olsIdxOf};
 
 // What the answers of the two flags and of the code say: absent where one is refused, or where the first flag is not 1.

@@ -69,7 +69,8 @@ use Rattle.rbsp.proofs.reader.BitReader.ue as ue′
 use Rattle.rbsp.proofs.reader.BitReader.ue.Symbol as ue-def
 use Rattle.rbsp.proofs.reader.BitReader.ue.Symbol.{name as #ue}
 use Rattle.rbsp.proofs.reader.BitReader.ue.Met as ue-thm
-use Rattle.params.specs.Heads.{whereRead, opiPoint, pointOf}
+use Rattle.params.specs.Heads.{whereRead, opiPoint}
+use Rattle.params.specs.Sections.{pointOf}
 use Rattle.params.specs.Answers.{olsIdxOf}
 use Rattle.params.specs.declared.OlsIdx.{OlsIdx}
 use Rattle.params.proofs.OlsIdx as Result

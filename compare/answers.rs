@@ -434,7 +434,7 @@ fn zeros(op: u8) -> String {
 
 /// The expected answer.
 pub fn answer(c: &Case) -> Answer {
-    assert!(c.first.len() <= reading::LARGEST && c.second.len() <= reading::LARGEST);
+    let too_long = c.first.len().max(c.second.len()) > reading::LARGEST;
     let out = vec![c.fill; c.room];
     let refused = |refusal, out| Answer {
         refusal,
@@ -442,7 +442,17 @@ pub fn answer(c: &Case) -> Answer {
         out,
         result: None,
     };
+    let told = |fields, out| Answer {
+        refusal: 0,
+        fields,
+        out,
+        result: None,
+    };
     match c.op {
+        _ if too_long => match reading::too_long(c.op) {
+            Err(e) => refused(e, out),
+            Ok(fields) => told(fields, out),
+        },
         19 | 20 => {
             let mut fields = String::new();
             let r = if c.op == 19 {
@@ -451,12 +461,7 @@ pub fn answer(c: &Case) -> Answer {
                 vvcc::vps_first_ptl(&c.first).map(|p| put_ptl(&mut fields, Some(&p)))
             };
             match r {
-                Ok(()) => Answer {
-                    refusal: 0,
-                    fields,
-                    out,
-                    result: None,
-                },
+                Ok(()) => told(fields, out),
                 Err(e) => refused(number(&e), out),
             }
         }
@@ -479,12 +484,7 @@ pub fn answer(c: &Case) -> Answer {
         },
         _ => match plain(c) {
             Err(e) => refused(e, out),
-            Ok(fields) => Answer {
-                refusal: 0,
-                fields,
-                out,
-                result: None,
-            },
+            Ok(fields) => told(fields, out),
         },
     }
 }

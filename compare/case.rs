@@ -11,6 +11,9 @@ pub struct Case {
     pub second: Vec<u8>,
 }
 
+/// How many bytes stand in front of a case's numbers.
+const FRONT: usize = 18;
+
 /// The names of the calls by their numbers, from 1 on.
 pub const NAMES: [&str; 38] = [
     "number",
@@ -74,11 +77,11 @@ impl Case {
 
     /// How many bytes the case has.
     pub fn size(&self) -> usize {
-        14 + self.numbers.len() + self.first.len() + self.second.len()
+        FRONT + self.numbers.len() + self.first.len() + self.second.len()
     }
 
-    /// The case as a line.
-    pub fn line(&self) -> String {
+    /// What stands in front of the inputs: the call, the fill byte, the four lengths and the numbers.
+    pub fn front(&self) -> Vec<u8> {
         let mut bytes = vec![self.op, self.fill];
         for n in [
             self.room,
@@ -86,9 +89,15 @@ impl Case {
             self.first.len(),
             self.second.len(),
         ] {
-            bytes.extend_from_slice(&(n as u32).to_be_bytes()[1..]);
+            bytes.extend_from_slice(&(n as u32).to_be_bytes());
         }
         bytes.extend_from_slice(&self.numbers);
+        bytes
+    }
+
+    /// The case as a line.
+    pub fn line(&self) -> String {
+        let mut bytes = self.front();
         bytes.extend_from_slice(&self.first);
         bytes.extend_from_slice(&self.second);
         let mut out = format!("{:08x} ", bytes.len());
@@ -103,16 +112,16 @@ impl Case {
         let bytes: Vec<u8> = (0..digits.len() / 2)
             .map(|i| u8::from_str_radix(&digits[2 * i..2 * i + 2], 16).unwrap_or(0))
             .collect();
-        let three = |at: usize| {
+        let four = |at: usize| {
             Some(
                 bytes
-                    .get(at..at + 3)?
+                    .get(at..at + 4)?
                     .iter()
                     .fold(0, |n, b| n * 256 + *b as usize),
             )
         };
-        let (room, n, m, k) = (three(2)?, three(5)?, three(8)?, three(11)?);
-        let strings = &bytes[14..];
+        let (room, n, m, k) = (four(2)?, four(6)?, four(10)?, four(14)?);
+        let strings = &bytes[FRONT..];
         (strings.len() == n + m + k).then(|| Case {
             op: bytes[0],
             fill: bytes[1],

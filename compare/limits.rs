@@ -8,12 +8,13 @@ use original::vvcc::VvcNalArray;
 /// The calls of a list: number, numbers, first and second input.
 type Calls = Vec<(u8, Vec<u8>, Vec<u8>, Vec<u8>)>;
 
-/// Document 01's P and Q.
-fn sps() -> Vec<u8> {
+/// Document 01's P.
+pub fn sps() -> Vec<u8> {
     vec![0, 0x79, 0, 0x0d, 2, 0x33, 0x80, 0, 2, 0x22, 0x4c]
 }
 
-fn pps() -> Vec<u8> {
+/// Document 01's Q.
+pub fn pps() -> Vec<u8> {
     vec![0, 0x81, 0x80]
 }
 

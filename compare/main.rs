@@ -6,6 +6,8 @@ mod case;
 mod differences;
 mod generator;
 mod limits;
+#[cfg(compare)]
+mod longest;
 mod reading;
 mod recorded;
 mod rng;
@@ -99,6 +101,28 @@ fn print(table: &Table) {
     }
 }
 
+/// The cases that no program can hold, put to the library; counts and table go on.
+#[cfg(compare)]
+fn longest_inputs(n: &mut u64, differ: &mut u64, table: &mut Table) {
+    longest::each(&mut |c, refusal, want, got| {
+        *n += 1;
+        if got == want {
+            *table.entry((c.op, refusal)).or_default() += 1;
+            return;
+        }
+        *differ += 1;
+        println!(
+            "differs: {}, inputs of {} and {} bytes\n  expected {want}  replay   {got}",
+            NAMES[c.op as usize - 1],
+            c.first.len(),
+            c.second.len()
+        );
+    });
+}
+
+#[cfg(not(compare))]
+fn longest_inputs(_: &mut u64, _: &mut u64, _: &mut Table) {}
+
 fn run(replay: &str, seed: u64, count: usize, wrong: Option<usize>) -> bool {
     let mut child = Command::new(replay)
         .stdin(Stdio::piped())
@@ -141,8 +165,9 @@ fn run(replay: &str, seed: u64, count: usize, wrong: Option<usize>) -> bool {
     drop(to_replay);
     drop(to_compare);
     writer.join().unwrap();
-    let ((n, differ), table) = reader.join().unwrap();
+    let ((mut n, mut differ), mut table) = reader.join().unwrap();
     child.wait().unwrap();
+    longest_inputs(&mut n, &mut differ, &mut table);
     print(&table);
     println!("\nseed {seed}\n{n} cases, {differ} differ");
     differ == 0

@@ -10,6 +10,14 @@ pub type Refusal = u32;
 /// The largest input that a call takes (refusal 23).
 pub const LARGEST: usize = 1 << 30;
 
+/// What a call answers where an input is too long, before anything else: 23, or an empty part where a part is all that it hands back.
+pub fn too_long(op: u8) -> Result<String, Refusal> {
+    match op {
+        15 | 17 | 24 | 26 | 38 => Ok(" =".into()),
+        _ => Err(23),
+    }
+}
+
 fn chunk(s: &[u8]) -> Option<(&[u8], &[u8])> {
     let n = u32::from_be_bytes(s.get(..4)?.try_into().ok()?) as usize;
     let rest = &s[4..];

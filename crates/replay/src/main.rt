@@ -42,7 +42,7 @@ fn answer(n: usize, space: &mut [u8], input: &mut [u8], out: &mut [u8]) -> bool 
         return false;
     }
     text::decode(space, &mut input[0..n]);
-    let end = replay_calls::line(text::front(input, n), out, space);
+    let end = replay_calls::replay_line(text::front(input, n), out, space);
     io::write_all(1, text::front(space, end))
 }
 

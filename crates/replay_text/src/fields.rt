@@ -17,14 +17,6 @@ pub fn two(s: &[u8], at: usize) -> usize
     high * 256 + low
 }
 
-// A number of three bytes.
-pub fn three(s: &[u8], at: usize) -> usize
-    ensures { λ r. ⌜ r < 16777216 ⌝ }
-{
-    let high = place::wide(place::byte(s, at));
-    high * 65536 + two(s, text::plus(at, 1))
-}
-
 // A number of four bytes.
 pub fn four(s: &[u8], at: usize) -> usize
     ensures { λ r. ⌜ r < 4294967296 ⌝ }

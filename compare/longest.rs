@@ -1,0 +1,139 @@
+//! Cases with an input of 2^30 bytes and of one more (refusal 23). A program in Rattle has no memory but its stack, so `replay` cannot
+//! hold them; the library `replay_calls`, whose function answers for `replay`, is called with memory of this program instead.
+
+use crate::answers;
+use crate::case::Case;
+use crate::limits::{pps, sps};
+use crate::reading::LARGEST;
+
+extern "C" {
+    fn replay_line(
+        input: *const u8,
+        input_len: usize,
+        lent: *mut u8,
+        lent_len: usize,
+        out: *mut u8,
+        out_len: usize,
+    ) -> usize;
+}
+
+/// The answer of the library to a case. The long ends of its inputs are zeros, which are not copied: memory that was never written reads as zeros.
+fn answer_of(c: &Case) -> String {
+    let mut input = vec![0; c.size()];
+    let front = c.front();
+    input[..front.len()].copy_from_slice(&front);
+    let places = [
+        (front.len(), &c.first),
+        (front.len() + c.first.len(), &c.second),
+    ];
+    for (at, bytes) in places {
+        let n = bytes.len().min(SET);
+        input[at..at + n].copy_from_slice(&bytes[..n]);
+    }
+    let mut lent = vec![0; c.room];
+    let mut out = vec![0; 2 * c.room + 100_000];
+    let n = unsafe {
+        replay_line(
+            input.as_ptr(),
+            input.len(),
+            lent.as_mut_ptr(),
+            lent.len(),
+            out.as_mut_ptr(),
+            out.len(),
+        )
+    };
+    String::from_utf8_lossy(&out[..n]).into_owned()
+}
+
+/// How many bytes at the front of an input may be other than zero.
+const SET: usize = 64;
+
+/// An input of some length with given bytes in front.
+fn long(front: &[u8], len: usize) -> Vec<u8> {
+    assert!(front.len() <= SET);
+    let mut s = vec![0; len];
+    s[..front.len()].copy_from_slice(front);
+    s
+}
+
+/// What stands in front of a long input: nothing, and what a sound one begins with.
+fn fronts(op: u8) -> Vec<Vec<u8>> {
+    let sound = match op {
+        6..=9 | 19 => sps(),
+        20 => vec![0, 0x71, 0, 0],
+        21 => vec![0, 0x61, 0xc0],
+        14..=17 | 29 | 33..=38 => [&[1, 0, 0, 0, 9, 1, 16, 0, 0, 0, 3][..], &pps()].concat(),
+        23 | 24 | 31 => vec![0, 0, 0, 2, 0, 0x41],
+        25..=27 => vec![0, 0, 1, 0x41],
+        28 => [&[0x60, 11][..], &sps(), &[3], &pps()].concat(),
+        32 => vec![0xff, 1],
+        _ => vec![1],
+    };
+    vec![vec![], sound]
+}
+
+/// The numbers of a call that would be accepted on a short input.
+fn numbers(op: u8) -> Vec<u8> {
+    match op {
+        2 => [[0; 8], [0, 0, 0, 0, 0, 0, 0, 4]].concat(),
+        23 | 24 => vec![4],
+        29..=31 => vec![0, 4],
+        33 | 34 => vec![4],
+        35 => vec![0, 4, 1, 8],
+        36..=38 => [vec![0; 11], vec![4]].concat(),
+        _ => vec![],
+    }
+}
+
+/// Every call that takes an input, with one that is too long; where it takes two, with either and both.
+fn too_long(emit: &mut dyn FnMut(Case)) {
+    for op in (2..=9).chain(14..=21).chain(23..=38) {
+        for front in fronts(op) {
+            let c = Case {
+                fill: 0xa5,
+                room: 3,
+                ..Case::new(op, numbers(op), long(&front, LARGEST + 1))
+            };
+            if op >= 36 {
+                emit(Case {
+                    second: vec![0, 0, 0, 1, 9],
+                    ..c.clone()
+                });
+                emit(Case {
+                    first: front.clone(),
+                    second: long(&[0, 0, 0, 1, 9], LARGEST + 1),
+                    ..c.clone()
+                });
+                emit(Case {
+                    second: vec![0; LARGEST + 1],
+                    ..c.clone()
+                });
+            }
+            emit(c);
+        }
+    }
+}
+
+/// The same calls with an input of exactly 2^30 bytes, which is not too long. What it is otherwise, the original says.
+fn largest(emit: &mut dyn FnMut(Case)) {
+    for op in (2..=9).chain(14..=21).chain(23..=38) {
+        for front in fronts(op) {
+            emit(Case {
+                fill: 0xa5,
+                room: 3,
+                second: vec![0, 0, 0, 1, 9],
+                ..Case::new(op, numbers(op), long(&front, LARGEST))
+            });
+        }
+    }
+}
+
+/// Every case of this file with the expected answer and the library's.
+pub fn each(f: &mut dyn FnMut(&Case, u32, &str, &str)) {
+    let mut one = |c: Case| {
+        let a = answers::answer(&c);
+        f(&c, a.refusal, &answers::line(&c, &a), &answer_of(&c));
+    };
+    too_long(&mut one);
+    largest(&mut one);
+}

@@ -272,10 +272,21 @@ fn streams(calls: &mut Calls) {
     }
 }
 
+/// Header parts and the unit check of units of up to three bytes; full records that end where an array would begin.
+fn ends(calls: &mut Calls) {
+    for n in 0..=3 {
+        for op in 6..=9 {
+            calls.push((op, vec![], vec![0x25, 0xfb, 0x9d][..n].to_vec(), vec![]));
+        }
+    }
+    calls.push((32, vec![], vec![0xfe, 1], vec![]));
+    calls.push((32, vec![], vec![0xfe, 2, 0x8c, 0, 1, 5], vec![]));
+}
+
 /// All of them, the output as long as the result or somewhat longer.
 pub fn limits(emit: Emit) {
     let mut calls = Calls::new();
-    let parts: [fn(&mut Calls); 9] = [
+    let parts: [fn(&mut Calls); 10] = [
         compact,
         sizes,
         refused_sps,
@@ -285,6 +296,7 @@ pub fn limits(emit: Emit) {
         windows,
         access_units,
         streams,
+        ends,
     ];
     for part in parts {
         part(&mut calls);

@@ -5,8 +5,10 @@ use crate::answers;
 use crate::case::Case;
 use crate::generator;
 use crate::limits;
+use crate::reading;
 use crate::rng::Rng;
 use crate::shapes;
+use original::vvcc::VvcNalArray;
 use std::collections::BTreeMap;
 use std::fs;
 use std::path::Path;
@@ -120,6 +122,7 @@ pub fn write(folder: &str, seed: u64) -> bool {
         let c = Case::of_line(line).expect("a case");
         list.take(&c, &answers::answer(&c));
     }
+    list.long_cases();
     fs::write(Path::new(folder).join("stdin"), &list.input).expect("stdin is written");
     fs::write(Path::new(folder).join("stdout"), &list.output).expect("stdout is written");
     let reached = list.reached.iter().filter(|r| **r).count();
@@ -137,26 +140,51 @@ pub fn write(folder: &str, seed: u64) -> bool {
 }
 
 impl List {
-    /// The program's own answers: lengths that do not add up, an output beyond its memory, a call that there is not.
+    /// The program's own answers: lengths that do not add up, an output or a case beyond its memory, a call that there is not, digits that are none.
     fn program_lines(&mut self) {
         let long = Case {
             op: 18,
             room: 524_289,
             ..Case::default()
         };
-        let none = Case {
-            op: 39,
+        let none = |op| Case {
+            op,
             fill: 0xab,
             room: 2,
             ..Case::default()
         };
-        self.input.push_str("00000003 120000\n");
-        self.output.push_str("malformed case\n");
-        self.input.push_str(&long.line());
-        self.output.push_str("case too long\n");
-        self.input.push_str(&none.line());
-        self.output.push_str("39 no such call =abab\n");
-        self.cases += 3;
+        // three bytes whose digits are none, which count as 0
+        let unit = Case::new(6, vec![], vec![0; 3]).line();
+        let odd = unit.replace("000000\n", "/:`gA~\n");
+        let beyond = format!("{:08x} {}\n", 524_289, "00".repeat(524_289));
+        for (case, answer) in [
+            ("00000003 120000\n", "malformed case\n"),
+            (&long.line(), "case too long\n"),
+            (&beyond, "case too long\n"),
+            (&none(39).line(), "39 no such call =abab\n"),
+            (&none(0).line(), "0 no such call =abab\n"),
+            (&odd, "6 0 1 0 =\n"),
+        ] {
+            self.input.push_str(case);
+            self.output.push_str(answer);
+            self.cases += 1;
+        }
+    }
+
+    /// What only a long case reaches: a unit and a count beyond 16 bits, and a copy of more than one block.
+    fn long_cases(&mut self) {
+        let head = [vec![4], vec![0; 24]].concat();
+        let many = VvcNalArray::new(false, 16, vec![Vec::new(); 65536]);
+        let one = VvcNalArray::new(true, 23, vec![vec![7; 65536]]);
+        for array in [many, one] {
+            let c = Case::new(33, head.clone(), reading::list_bytes(&[array]));
+            self.take(&c, &answers::answer(&c));
+        }
+        let copied = Case {
+            room: 16_389,
+            ..Case::new(30, vec![0, 2], vec![0x55; 16_385])
+        };
+        self.take(&copied, &answers::answer(&copied));
     }
 
     /// Takes one case in n.

@@ -272,13 +272,19 @@ fn streams(calls: &mut Calls) {
     }
 }
 
-/// Header parts and the unit check of units of up to three bytes; full records that end where an array would begin.
+/// Header parts and the unit check of units of up to three bytes; arrays' types; full records that end where an array would begin.
 fn ends(calls: &mut Calls) {
     for n in 0..=3 {
         for op in 6..=9 {
             calls.push((op, vec![], vec![0x25, 0xfb, 0x9d][..n].to_vec(), vec![]));
         }
     }
+    // an array of type 31 and one of 32; a full writer's array that does not fit, and another behind it
+    for t in [31, 32] {
+        calls.push((14, vec![], vec![1, 0, 0, 0, 2, 1, t], vec![]));
+    }
+    let two = [12, 16].map(|t| VvcNalArray::new(true, t, vec![]));
+    calls.push((33, [vec![4], vec![0; 24]].concat(), list_bytes(&two), vec![]));
     calls.push((32, vec![], vec![0xfe, 1], vec![]));
     calls.push((32, vec![], vec![0xfe, 2, 0x8c, 0, 1, 5], vec![]));
 }

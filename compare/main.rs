@@ -1,12 +1,12 @@
 //! Holds `replay` against the original: `compare REPLAY SEED CASES [WRONG]`, where the expected answer of case number WRONG is made wrong.
-//! Answers cases from standard input as is expected of `replay`: `compare answers`. Prints the intended differences: `compare differences REPLAY`. Writes the recorded list: `compare record FOLDER SEED`.
+//! Answers cases from standard input as is expected of `replay`: `compare answers`. Prints the intended differences: `compare differences REPLAY`. Only the longest inputs: `compare longest`. Writes the recorded list: `compare record FOLDER SEED`.
 
 mod answers;
 mod case;
 mod differences;
 mod generator;
 mod limits;
-#[cfg(compare)]
+#[cfg(not(counted))]
 mod longest;
 mod reading;
 mod recorded;
@@ -102,7 +102,7 @@ fn print(table: &Table) {
 }
 
 /// The cases that no program can hold, put to the library; counts and table go on.
-#[cfg(compare)]
+#[cfg(not(counted))]
 fn longest_inputs(n: &mut u64, differ: &mut u64, table: &mut Table) {
     longest::each(&mut |c, refusal, want, got| {
         *n += 1;
@@ -120,7 +120,7 @@ fn longest_inputs(n: &mut u64, differ: &mut u64, table: &mut Table) {
     });
 }
 
-#[cfg(not(compare))]
+#[cfg(counted)]
 fn longest_inputs(_: &mut u64, _: &mut u64, _: &mut Table) {}
 
 fn run(replay: &str, seed: u64, count: usize, wrong: Option<usize>) -> bool {
@@ -203,6 +203,12 @@ fn main() {
     let good = match words.first().map(String::as_str) {
         Some("answers") => answer_all(),
         Some("differences") => differences::print(&words[1]),
+        Some("longest") => {
+            let (mut n, mut differ, mut table) = (0, 0, Table::new());
+            longest_inputs(&mut n, &mut differ, &mut table);
+            println!("{n} cases, {differ} differ");
+            differ == 0
+        }
         Some("record") => recorded::write(&words[1], number(2).unwrap_or(1)),
         Some(replay) => run(
             replay,

@@ -156,7 +156,7 @@ impl List {
         // three bytes whose digits are none, which count as 0
         let unit = Case::new(6, vec![], vec![0; 3]).line();
         let odd = unit.replace("000000\n", "/:`gA~\n");
-        let beyond = format!("{:08x} {}\n", 524_289, "00".repeat(524_289));
+        let beyond = format!("{:08x} {}\n", 530_000, "00".repeat(530_000));
         for (case, answer) in [
             ("00000003 120000\n", "malformed case\n"),
             (&long.line(), "case too long\n"),

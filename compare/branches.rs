@@ -1,0 +1,207 @@
+//! Which way the branches of a compiled program go. `branches mark IN.ll OUT.ll NAMES` has the text of an LLVM module note each branch
+//! that it takes; `branches report UNREACHED LIST FURTHER`, each a file of `branches name` with the branches taken, says
+//! which were not. A branch is `FUNCTION NUMBER DIRECTION`: the function's branches are numbered in the order of its code, a direction is
+//! true, false or a match's case.
+
+use std::collections::{BTreeMap, BTreeSet};
+use std::fs;
+
+/// A branch in the code: its function and number there, and its directions, `None` where one of them cannot be taken.
+struct Branch {
+    name: String,
+    cases: Vec<(u64, Option<String>)>,
+}
+
+/// The function that a line begins to define.
+fn defined(line: &str) -> Option<String> {
+    let rest = line.strip_prefix("define ")?;
+    let name = &rest[rest.find('@')? + 1..];
+    Some(match name.strip_prefix('"') {
+        Some(quoted) => quoted[..quoted.find('"')?].into(),
+        None => name[..name.find('(')?].into(),
+    })
+}
+
+/// Whether a block does nothing but stop: a proved program never gets there.
+fn stops(lines: &[&str], at: usize, label: &str) -> bool {
+    let start = format!("{label}:");
+    let block = lines[at..].iter().position(|l| l.starts_with(&start));
+    let first = block.map(|b| lines[at + b + 1].trim());
+    first.is_some_and(|l| l.starts_with("unreachable") || l.contains("llvm.trap"))
+}
+
+/// A conditional jump: the value, and the labels for true and false.
+fn jump(line: &str) -> Option<(&str, &str, &str)> {
+    let rest = line.trim_start().strip_prefix("br i1 ")?;
+    let mut words = rest.split(", ");
+    let value = words.next()?;
+    let yes = words.next()?.strip_prefix("label %")?;
+    let no = words.next()?.strip_prefix("label %")?;
+    Some((value, yes, no))
+}
+
+/// A switch: the type, the value and the label where no case holds.
+fn switch(line: &str) -> Option<(&str, &str, &str)> {
+    let rest = line.trim_start().strip_prefix("switch ")?;
+    let (kind, rest) = rest.split_once(' ')?;
+    let (value, rest) = rest.split_once(", label %")?;
+    Some((kind, value, rest.split(' ').next()?))
+}
+
+/// The cases of a switch that begins at a line.
+fn cases(lines: &[&str]) -> Vec<u64> {
+    let end = lines.iter().position(|l| l.contains(']')).unwrap();
+    let text = lines[..=end].join(" ");
+    let words: Vec<&str> = text.split_whitespace().collect();
+    let found = words.windows(2).filter(|w| w[1] == "label");
+    found
+        .filter_map(|w| w[0].strip_suffix(',')?.parse().ok())
+        .collect()
+}
+
+/// The number that stands for a switch's value where none of its cases holds.
+const OTHER: u64 = 255;
+
+/// Marks every branch of a module's text.
+fn mark(text: &str) -> (String, Vec<Branch>) {
+    let lines: Vec<&str> = text.lines().collect();
+    let (mut out, mut branches): (String, Vec<Branch>) = (String::new(), Vec::new());
+    let (mut function, mut number) = (String::new(), 0);
+    for (i, line) in lines.iter().enumerate() {
+        if let Some(name) = defined(line) {
+            (function, number) = (name, 0);
+        }
+        let n = branches.len();
+        let mut cases_of = Vec::new();
+        if let Some((value, yes, no)) = jump(line) {
+            for (v, label, word) in [(1, yes, "true"), (0, no, "false")] {
+                cases_of.push((v, (!stops(&lines, i, label)).then(|| word.into())));
+            }
+            out += &format!("  %mark{n} = zext i1 {value} to i64\n");
+        } else if let Some((kind, value, other)) = switch(line) {
+            for v in cases(&lines[i..]) {
+                cases_of.push((v, Some(format!("case {v}"))));
+            }
+            let live = !stops(&lines, i, other);
+            cases_of.push((OTHER, live.then(|| "other".into())));
+            let wide = if kind == "i64" { "add i64 0," } else { "zext" };
+            let to = if kind == "i64" { "" } else { " to i64" };
+            let given = if kind == "i64" { value.into() } else { format!("{kind} {value}") };
+            out += &format!("  %mark{n} = {wide} {given}{to}\n");
+        }
+        if !cases_of.is_empty() {
+            out += &format!("  call void @branch_taken(i32 {n}, i64 %mark{n})\n");
+            branches.push(Branch { name: format!("{function} {number}"), cases: cases_of });
+            number += 1;
+        }
+        out += line;
+        out.push('\n');
+    }
+    (out + "declare void @branch_taken(i32, i64)\n", branches)
+}
+
+/// The names of a module's directions, one line for each: the branch's number, the value and the name, without name where it cannot be taken.
+fn names(branches: &[Branch]) -> String {
+    let mut out = String::new();
+    for (n, b) in branches.iter().enumerate() {
+        for (v, word) in &b.cases {
+            let name = word.as_ref().map_or(String::new(), |w| format!(" {} {w}", b.name));
+            out += &format!("{n} {v}{name}\n");
+        }
+    }
+    out
+}
+
+fn read(path: &str) -> String {
+    fs::read_to_string(path).unwrap_or_else(|e| panic!("{path}: {e}"))
+}
+
+/// Of the names of a module, those whose branch a run has taken, and the others.
+fn name(names: &str, taken: &str) -> String {
+    let mut values: BTreeMap<u64, BTreeSet<u64>> = BTreeMap::new();
+    for line in taken.lines() {
+        let (n, v) = line.split_once(' ').unwrap();
+        values.entry(n.parse().unwrap()).or_default().insert(v.parse().unwrap());
+    }
+    let all: Vec<(u64, u64, &str)> = names
+        .lines()
+        .map(|line| {
+            let mut words = line.splitn(3, ' ');
+            let mut number = || words.next().unwrap().parse().unwrap();
+            let (n, v) = (number(), number());
+            (n, v, words.next().unwrap_or(""))
+        })
+        .collect();
+    let listed: BTreeSet<(u64, u64)> = all.iter().map(|a| (a.0, a.1)).collect();
+    let mut out = String::new();
+    for (n, v, name) in all.iter().filter(|a| !a.2.is_empty()) {
+        let seen = values.get(n).is_some_and(|s| {
+            s.contains(v) || (*v == OTHER && s.iter().any(|x| !listed.contains(&(*n, *x))))
+        });
+        out += &format!("{} {name}\n", if seen { "taken" } else { "not" });
+    }
+    out
+}
+
+/// The directions of a file that `name` has made: all, and those taken.
+fn directions(path: &str) -> (BTreeSet<String>, BTreeSet<String>) {
+    let text = read(path);
+    let words = text.lines().map(|l| l.split_once(' ').unwrap());
+    let all: Vec<(bool, String)> = words.map(|(w, n)| (w == "taken", n.into())).collect();
+    let taken = all.iter().filter(|a| a.0).map(|a| a.1.clone()).collect();
+    (all.into_iter().map(|a| a.1).collect(), taken)
+}
+
+/// Holds what was not taken against the list of what no recorded case takes, with its reasons; false where the two differ.
+fn report(unreached: &str, list: &str, further: &[String]) -> bool {
+    let text = read(unreached);
+    let lines = text.lines().filter(|l| !l.starts_with('#') && !l.is_empty());
+    let reasons: BTreeMap<&str, &str> = lines.map(|l| l.rsplit_once(' ').unwrap()).collect();
+    let (all, by_list) = directions(list);
+    let by_further: BTreeSet<String> = further.iter().flat_map(|f| directions(f).1).collect();
+    let mut good = true;
+    let mut counts: BTreeMap<&str, usize> = BTreeMap::new();
+    for d in all.difference(&by_list) {
+        let reason = reasons.get(d.as_str()).copied().unwrap_or("no reason given");
+        *counts.entry(reason).or_default() += 1;
+        if !reasons.contains_key(d.as_str()) || matches!(reason, "L" | "E") != by_further.contains(d) {
+            let and = if by_further.contains(d) { ", but by the further runs" } else { "" };
+            println!("not taken by the list{and}: {d} ({reason})");
+            good = false;
+        }
+    }
+    for d in reasons.keys().filter(|d| !all.contains(**d) || by_list.contains(**d)) {
+        println!("listed as not taken, and it is taken or there is none such: {d}");
+        good = false;
+    }
+    println!("{} directions of {} branches; the list takes {}", all.len(), branches(&all), by_list.len());
+    for (reason, n) in counts {
+        println!("not taken, {reason}: {n}");
+    }
+    good
+}
+
+/// How many branches some directions belong to.
+fn branches(all: &BTreeSet<String>) -> usize {
+    let names: BTreeSet<(&str, &str)> = all
+        .iter()
+        .map(|d| {
+            let mut words = d.split(' ');
+            (words.next().unwrap(), words.next().unwrap())
+        })
+        .collect();
+    names.len()
+}
+
+fn main() {
+    let words: Vec<String> = std::env::args().skip(1).collect();
+    match words[0].as_str() {
+        "mark" => {
+            let (text, branches) = mark(&read(&words[1]));
+            fs::write(&words[2], text).expect("the module is written");
+            fs::write(&words[3], names(&branches)).expect("the names are written");
+        }
+        "name" => print!("{}", name(&read(&words[1]), &read(&words[2]))),
+        _ => std::process::exit(!report(&words[1], &words[2], &words[3..]) as i32),
+    }
+}

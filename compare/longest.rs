@@ -31,7 +31,7 @@ fn answer_of(c: &Case) -> String {
         input[at..at + n].copy_from_slice(&bytes[..n]);
     }
     let mut lent = vec![0; c.room];
-    let mut out = vec![0; 2 * c.room + 100_000];
+    let mut out = vec![0; 2 * (c.size() + c.room) + 4096];
     let n = unsafe {
         replay_line(
             input.as_ptr(),

@@ -22,6 +22,9 @@ use std::sync::mpsc::{sync_channel, Receiver};
 /// The bytes that `replay` has for a case, and for an output.
 const LONGEST: usize = 524_288;
 
+/// The bytes of a case and its output for whose digits `replay` has room.
+const TOGETHER: usize = 600_000;
+
 /// A case's line, its expected answer, its call and its refusal.
 type Expected = (String, String, u8, u32);
 
@@ -177,7 +180,9 @@ fn run(replay: &str, seed: u64, count: usize, wrong: Option<usize>) -> bool {
 fn answer_to(line: &str) -> String {
     match Case::of_line(line) {
         None => "malformed case\n".into(),
-        Some(c) if c.size() > LONGEST || c.room > LONGEST => "case too long\n".into(),
+        Some(c) if c.size() > LONGEST || c.room > LONGEST || c.size() + c.room > TOGETHER => {
+            "case too long\n".into()
+        }
         Some(c) if c.op == 0 || c.op as usize > NAMES.len() => {
             let mut s = format!("{} no such call =", c.op);
             case::hex_onto(&mut s, &vec![c.fill; c.room]);

@@ -147,6 +147,10 @@ impl List {
             room: 524_289,
             ..Case::default()
         };
+        let together = Case {
+            room: 524_288,
+            ..Case::new(18, vec![], vec![0; 75_695])
+        };
         let none = |op| Case {
             op,
             fill: 0xab,
@@ -156,10 +160,11 @@ impl List {
         // three bytes whose digits are none, which count as 0
         let unit = Case::new(6, vec![], vec![0; 3]).line();
         let odd = unit.replace("000000\n", "/:`gA~\n");
-        let beyond = format!("{:08x} {}\n", 530_000, "00".repeat(530_000));
+        let beyond = format!("{:08x} {}\n", 602_048, "00".repeat(602_048));
         for (case, answer) in [
             ("00000003 120000\n", "malformed case\n"),
             (&long.line(), "case too long\n"),
+            (&together.line(), "case too long\n"),
             (&beyond, "case too long\n"),
             (&none(39).line(), "39 no such call =abab\n"),
             (&none(0).line(), "0 no such call =abab\n"),

@@ -66,11 +66,11 @@ fn replay(space: &mut [u8], input: &mut [u8], out: &mut [u8]) {
     }
 }
 
-// Zeros for a line: the digits of a case or of an output, and what stands in front.
-fn line_space() -> [u8; 1060000]
-    ensures { λ r. ⌜ 1060000 ≡ length r ⌝ }
+// Zeros for a line: the digits of a case, or those of what a case and its output have together, and numbers.
+fn line_space() -> [u8; 1204096]
+    ensures { λ r. ⌜ 1204096 ≡ length r ⌝ }
 {
-    [0; 1060000]
+    [0; 1204096]
 }
 
 // Zeros for a case, or for the output of its call.

@@ -64,6 +64,12 @@ fn answered(input: &[u8], n: usize, m: usize, k: usize, lent: &mut [u8], out: &m
     text::put(out, shown, b'\n')
 }
 
+// How long the answer line of a case with this much input and output can be: the digits of both, and the numbers.
+fn longest_line(input: usize, room: usize) -> usize {
+    let bytes = text::plus(input, room);
+    text::plus(4096, text::plus(bytes, bytes))
+}
+
 // The answer line of a case, and its length. It is exported for cases that need more memory than a program has, which is its stack: those of
 // more than 2^30 bytes, refusal 23.
 #[no_mangle]
@@ -75,7 +81,7 @@ pub extern "C" fn replay_line(input: &[u8], lent: &mut [u8], out: &mut [u8]) -> 
     if input.len() != text::plus(18, text::plus(n, text::plus(m, k))) {
         return text::put_all(out, 0, b"malformed case\n");
     }
-    if lent.len() < room {
+    if lent.len() < room || out.len() < longest_line(input.len(), room) {
         return text::put_all(out, 0, b"case too long\n");
     }
     answered(input, n, m, k, &mut lent[0..room], out)

@@ -6,7 +6,7 @@ use Rattle.replay.proofs.line_space.Statement.{statement}
 use Rattle.replay.proofs.line_space.Tie as tie
 
 returns : tie.Need-returns
-returns c = sym (length-replicate {A = ℕ} 1060000 0)
+returns c = sym (length-replicate {A = ℕ} 1204096 0)
 
 pub line-space-spec : {M : Type 1} → statement M
 line-space-spec = tie.close (tie.spec returns)

@@ -1,15 +1,15 @@
 //! Which way the branches of a compiled program go. `branches mark IN.ll OUT.ll NAMES` has the text of an LLVM module note each branch
-//! that it takes; `branches report UNREACHED LIST FURTHER`, each a file of `branches name` with the branches taken, says
-//! which were not. A branch is `FUNCTION NUMBER DIRECTION`: the function's branches are numbered in the order of its code, a direction is
+//! that it takes, `branches name NAMES TAKEN` says which a run has taken, and `branches report UNREACHED LIST FURTHER ..` holds what the first
+//! of several runs has not taken against a list with reasons. A branch is `FUNCTION NUMBER DIRECTION`: the function's branches are numbered in the order of its code, a direction is
 //! true, false or a match's case.
 
 use std::collections::{BTreeMap, BTreeSet};
 use std::fs;
 
-/// A branch in the code: its function and number there, and its directions, `None` where one of them cannot be taken.
+/// A branch in the code: its function and number there, and its directions.
 struct Branch {
     name: String,
-    cases: Vec<(u64, Option<String>)>,
+    directions: Vec<Direction>,
 }
 
 /// The function that a line begins to define.
@@ -62,6 +62,28 @@ fn cases(lines: &[&str]) -> Vec<u64> {
 /// The number that stands for a switch's value where none of its cases holds.
 const OTHER: u64 = 255;
 
+/// A direction of a branch: the value that takes it, and its name, none where it cannot be taken.
+type Direction = (u64, Option<String>);
+
+/// The directions of the branch at a line, and the text of its value as a number of 64 bits.
+fn branch_at(lines: &[&str], i: usize) -> Option<(Vec<Direction>, String)> {
+    if let Some((value, yes, no)) = jump(lines[i]) {
+        let directions = [(1, yes, "true"), (0, no, "false")]
+            .map(|(v, label, word)| (v, (!stops(lines, i, label)).then(|| word.into())));
+        return Some((directions.to_vec(), format!("zext i1 {value} to i64")));
+    }
+    let (kind, value, other) = switch(lines[i])?;
+    let mut directions: Vec<Direction> = cases(&lines[i..])
+        .into_iter()
+        .map(|v| (v, Some(format!("case {v}"))))
+        .collect();
+    directions.push((OTHER, (!stops(lines, i, other)).then(|| "other".into())));
+    Some(match kind {
+        "i64" => (directions, format!("add i64 0, {value}")),
+        _ => (directions, format!("zext {kind} {value} to i64")),
+    })
+}
+
 /// Marks every branch of a module's text.
 fn mark(text: &str) -> (String, Vec<Branch>) {
     let lines: Vec<&str> = text.lines().collect();
@@ -71,27 +93,14 @@ fn mark(text: &str) -> (String, Vec<Branch>) {
         if let Some(name) = defined(line) {
             (function, number) = (name, 0);
         }
-        let n = branches.len();
-        let mut cases_of = Vec::new();
-        if let Some((value, yes, no)) = jump(line) {
-            for (v, label, word) in [(1, yes, "true"), (0, no, "false")] {
-                cases_of.push((v, (!stops(&lines, i, label)).then(|| word.into())));
-            }
-            out += &format!("  %mark{n} = zext i1 {value} to i64\n");
-        } else if let Some((kind, value, other)) = switch(line) {
-            for v in cases(&lines[i..]) {
-                cases_of.push((v, Some(format!("case {v}"))));
-            }
-            let live = !stops(&lines, i, other);
-            cases_of.push((OTHER, live.then(|| "other".into())));
-            let wide = if kind == "i64" { "add i64 0," } else { "zext" };
-            let to = if kind == "i64" { "" } else { " to i64" };
-            let given = if kind == "i64" { value.into() } else { format!("{kind} {value}") };
-            out += &format!("  %mark{n} = {wide} {given}{to}\n");
-        }
-        if !cases_of.is_empty() {
+        if let Some((directions, value)) = branch_at(&lines, i) {
+            let n = branches.len();
+            out += &format!("  %mark{n} = {value}\n");
             out += &format!("  call void @branch_taken(i32 {n}, i64 %mark{n})\n");
-            branches.push(Branch { name: format!("{function} {number}"), cases: cases_of });
+            branches.push(Branch {
+                name: format!("{function} {number}"),
+                directions,
+            });
             number += 1;
         }
         out += line;
@@ -104,8 +113,10 @@ fn mark(text: &str) -> (String, Vec<Branch>) {
 fn names(branches: &[Branch]) -> String {
     let mut out = String::new();
     for (n, b) in branches.iter().enumerate() {
-        for (v, word) in &b.cases {
-            let name = word.as_ref().map_or(String::new(), |w| format!(" {} {w}", b.name));
+        for (v, word) in &b.directions {
+            let name = word
+                .as_ref()
+                .map_or(String::new(), |w| format!(" {} {w}", b.name));
             out += &format!("{n} {v}{name}\n");
         }
     }
@@ -116,22 +127,22 @@ fn read(path: &str) -> String {
     fs::read_to_string(path).unwrap_or_else(|e| panic!("{path}: {e}"))
 }
 
-/// Of the names of a module, those whose branch a run has taken, and the others.
+/// A line of names taken apart: the branch's number, the value, the name.
+fn named(line: &str) -> (u64, u64, &str) {
+    let mut words = line.splitn(3, ' ');
+    let mut number = || words.next().unwrap().parse().unwrap();
+    let (n, v) = (number(), number());
+    (n, v, words.next().unwrap_or(""))
+}
+
+/// Says of each direction of a module whether a run has taken it.
 fn name(names: &str, taken: &str) -> String {
     let mut values: BTreeMap<u64, BTreeSet<u64>> = BTreeMap::new();
     for line in taken.lines() {
-        let (n, v) = line.split_once(' ').unwrap();
-        values.entry(n.parse().unwrap()).or_default().insert(v.parse().unwrap());
+        let (n, v, _) = named(line);
+        values.entry(n).or_default().insert(v);
     }
-    let all: Vec<(u64, u64, &str)> = names
-        .lines()
-        .map(|line| {
-            let mut words = line.splitn(3, ' ');
-            let mut number = || words.next().unwrap().parse().unwrap();
-            let (n, v) = (number(), number());
-            (n, v, words.next().unwrap_or(""))
-        })
-        .collect();
+    let all: Vec<(u64, u64, &str)> = names.lines().map(named).collect();
     let listed: BTreeSet<(u64, u64)> = all.iter().map(|a| (a.0, a.1)).collect();
     let mut out = String::new();
     for (n, v, name) in all.iter().filter(|a| !a.2.is_empty()) {
@@ -152,33 +163,50 @@ fn directions(path: &str) -> (BTreeSet<String>, BTreeSet<String>) {
     (all.into_iter().map(|a| a.1).collect(), taken)
 }
 
+/// The reasons of a file such as `unreached`, by direction.
+fn reasons(text: &str) -> BTreeMap<&str, &str> {
+    text.lines()
+        .filter(|l| !l.starts_with('#') && !l.is_empty())
+        .map(|l| l.rsplit_once(' ').unwrap())
+        .collect()
+}
+
 /// Holds what was not taken against the list of what no recorded case takes, with its reasons; false where the two differ.
 fn report(unreached: &str, list: &str, further: &[String]) -> bool {
     let text = read(unreached);
-    let lines = text.lines().filter(|l| !l.starts_with('#') && !l.is_empty());
-    let reasons: BTreeMap<&str, &str> = lines.map(|l| l.rsplit_once(' ').unwrap()).collect();
+    let reasons = reasons(&text);
     let (all, by_list) = directions(list);
     let by_further: BTreeSet<String> = further.iter().flat_map(|f| directions(f).1).collect();
-    let mut good = true;
+    let mut faults = Vec::new();
     let mut counts: BTreeMap<&str, usize> = BTreeMap::new();
     for d in all.difference(&by_list) {
-        let reason = reasons.get(d.as_str()).copied().unwrap_or("no reason given");
+        let reason = reasons.get(d.as_str()).copied().unwrap_or("none given");
         *counts.entry(reason).or_default() += 1;
-        if !reasons.contains_key(d.as_str()) || matches!(reason, "L" | "E") != by_further.contains(d) {
-            let and = if by_further.contains(d) { ", but by the further runs" } else { "" };
-            println!("not taken by the list{and}: {d} ({reason})");
-            good = false;
+        let outside = matches!(reason, "L" | "E");
+        if reason == "none given" || outside != by_further.contains(d) {
+            let further = by_further.contains(d);
+            faults.push(format!(
+                "not taken: {d}, reason {reason}, by a further run {further}"
+            ));
         }
     }
-    for d in reasons.keys().filter(|d| !all.contains(**d) || by_list.contains(**d)) {
-        println!("listed as not taken, and it is taken or there is none such: {d}");
-        good = false;
+    for d in reasons.keys() {
+        if !all.contains(*d) || by_list.contains(*d) {
+            faults.push(format!(
+                "not taken by {unreached}, but it is, or is not there: {d}"
+            ));
+        }
     }
-    println!("{} directions of {} branches; the list takes {}", all.len(), branches(&all), by_list.len());
+    let (n, m) = (branches(&all), by_list.len());
+    println!(
+        "{} directions of {n} branches; the list takes {m}",
+        all.len()
+    );
     for (reason, n) in counts {
         println!("not taken, {reason}: {n}");
     }
-    good
+    faults.iter().for_each(|f| println!("{f}"));
+    faults.is_empty()
 }
 
 /// How many branches some directions belong to.

@@ -284,7 +284,12 @@ fn ends(calls: &mut Calls) {
         calls.push((14, vec![], vec![1, 0, 0, 0, 2, 1, t], vec![]));
     }
     let two = [12, 16].map(|t| VvcNalArray::new(true, t, vec![]));
-    calls.push((33, [vec![4], vec![0; 24]].concat(), list_bytes(&two), vec![]));
+    calls.push((
+        33,
+        [vec![4], vec![0; 24]].concat(),
+        list_bytes(&two),
+        vec![],
+    ));
     calls.push((32, vec![], vec![0xfe, 1], vec![]));
     calls.push((32, vec![], vec![0xfe, 2, 0x8c, 0, 1, 5], vec![]));
 }

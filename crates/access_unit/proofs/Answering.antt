@@ -6,7 +6,7 @@ use mathlib.Core.Option.{Option}
 use native.Mathlib.Omega.{arith}
 use lib.ListN.{length, getD, take, drop, length-append}
 use lib.Seq.{sets, take-all, length-sets}
-use Rattle.error.specs.Outcome.{Outcome, accept, refuse, andThen, lentOutput, counted}
+use Rattle.error.specs.Outcome.{Outcome, accept, refuse, andThen}
 use Rattle.boxes.specs.Parts.{nowhere}
 use Rattle.boxes.specs.Walk.{countFound, found}
 use Rattle.boxes.specs.declared.Span.{Span}

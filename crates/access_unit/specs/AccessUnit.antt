@@ -1,6 +1,6 @@
 -- The access unit of an item (ISO/IEC 23008-12 L.2.2.2 and L.2.2.1.2; ISO/IEC 14496-15 11.2.4.2, note 4).
 use Prim.Native.Nat.{ℕ}
-use mathlib.Core.Bool.{Bool, true, false, not, _&&_, _||_}
+use mathlib.Core.Bool.{Bool, true, _||_}
 use mathlib.Core.List.{List, [], _∷_, _++_, map}
 use mathlib.Core.Option.{Option, none, some}
 use lib.Dec.{eqb}

@@ -20,7 +20,7 @@ ghost use Rattle.unit_list.specs.Walk.{Fits};
 ghost use Rattle.unit_list.specs.Find.{unitsLeft};
 ghost use Rattle.access_unit.specs.AccessUnit.{startCode};
 ghost use Rattle.access_unit.specs.Answers.{tolsOf};
-ghost use Rattle.access_unit.specs.Inside.{keptLeft, foundBytes, PutsFirst, FirstPut, PutsAll, gather, PutsStream, gatheredBytes};
+ghost use Rattle.access_unit.specs.Inside.{foundBytes, PutsFirst, FirstPut, PutsAll, gather, PutsStream, gatheredBytes};
 
 // How many bytes a start code has: those of the number 1.
 pub const START_CODE_LEN: usize = 4;

@@ -4,7 +4,7 @@ use mathlib.Core.List.{List}
 use mathlib.Core.Bool.{_||_}
 use lib.Dec.{ltb, eqb}
 use Rattle.error.specs.Logic.{if_then_else_}
-use Rattle.error.specs.Outcome.{Outcome, accept, refuse, lentInput, andThen}
+use Rattle.error.specs.Outcome.{Outcome, accept, refuse, lentInput}
 use Rattle.error.specs.Parse.{Parsed, value, refused}
 use Rattle.error.specs.Refusals.{numberOf}
 use Rattle.boxes.specs.Bytes.{uint}

@@ -1,10 +1,10 @@
 -- Big-endian numbers of whole bytes, read from a place and written.
 use Prim.Native.Nat.{ℕ, zero, suc, _+_, _*_, _/_, _%_}
 use mathlib.Core.List.{List, [], _∷_, _++_}
-use lib.Dec.{leb, ltb, eqb}
-use lib.ListN.{length, getD, take, drop}
+use lib.Dec.{leb}
+use lib.ListN.{length, getD, take}
 use Rattle.error.specs.Logic.{if_then_else_}
-use Rattle.error.specs.Parse.{Parsed, value, refused, Parser, _>>=_, _>>_, give, here}
+use Rattle.error.specs.Parse.{value, refused, Parser, _>>=_, _>>_}
 use Rattle.boxes.specs.declared.Span.{Span}
 
 -- the number of the w bytes from place p on, the first the highest

@@ -5,13 +5,12 @@ use mathlib.Core.Bool.{true}
 use mathlib.Core.List.{List, [], _∷_, _++_, map, append-assoc, append-nil}
 use native.Mathlib.Omega.{arith}
 use native.Mathlib.Decide.{decLe}
-use lib.Dec.{eqb}
 use lib.ListN.{length, getD, take, drop, length-map, length-take, take-append-drop, drop-of-length-le, List·getD-eq-default}
 use lib.Seq.{getD-take, getD-drop, drop-cons, drop-drop}
 use borrow.Author.Tests.{le-leb, eq-eqb, ne-eqb}
 use Rattle.error.specs.Outcome.{accept, refuse}
 use Rattle.error.specs.Parse.{Parsed, value, refused, bind, times}
-use Rattle.boxes.specs.Bytes.{be, toBe, chunk, toChunk}
+use Rattle.boxes.specs.Bytes.{toBe, chunk, toChunk}
 use Rattle.boxes.specs.Parts.{held}
 use Rattle.boxes.specs.declared.Span.{Span}
 use Rattle.boxes.proofs.Fields.{Chunk, chunk-read}

@@ -10,7 +10,7 @@ use lib.ListN.{length, getD, set, take, drop}
 use lib.Seq.{sets, drop-cons}
 use borrow.Author.Tests.{le-leb, lt-leb, eq-eqb, ne-eqb, lt-ltb, le-ltb}
 use Rattle.error.specs.Outcome.{Outcome, accept, refuse}
-use Rattle.error.specs.Parse.{Parsed, value, refused, many}
+use Rattle.error.specs.Parse.{Parsed, value, refused}
 use Rattle.boxes.specs.Bytes.{toBe, toChunk}
 use Rattle.boxes.specs.Parts.{held}
 use Rattle.boxes.specs.Walk.{more}

@@ -1,5 +1,4 @@
 -- What the answers of this crate say.
-use Prim.Native.Nat.{ℕ}
 use Rattle.error.specs.Outcome.{Outcome, accept, refuse}
 use Rattle.error.specs.Refusals.{numberOf}
 use Rattle.compact.specs.Compact.{CompactParsed}

@@ -1,12 +1,12 @@
 -- The compact record (ISO/IEC 23008-12 Amd 2 L.4.3.3, CompactVvcDecoderConfigurationRecord), read and written.
 use Prim.Native.Nat.{ℕ, _+_, _-_, _*_, _/_, _%_}
-use mathlib.Core.Bool.{Bool, true, false, not, _&&_}
+use mathlib.Core.Bool.{Bool, true, not, _&&_}
 use mathlib.Core.List.{List, [], _∷_, map}
 use lib.Dec.{leb, ltb, eqb}
 use lib.ListN.{length}
 use Rattle.error.specs.Logic.{if_then_else_}
-use Rattle.error.specs.Outcome.{Outcome, accept, refuse, lentInput, andThen, lentOutput, counted}
-use Rattle.error.specs.Parse.{Parsed, value, refused, Parser, _>>=_, _>>_, give, times, outcome}
+use Rattle.error.specs.Outcome.{Outcome, accept, refuse, lentInput, andThen}
+use Rattle.error.specs.Parse.{value, refused, Parser, _>>=_, _>>_, give, times, outcome}
 use Rattle.boxes.specs.Bytes.{uint, chunk}
 use Rattle.boxes.specs.Parts.{held}
 use Rattle.boxes.specs.declared.Span.{Span}

@@ -1,6 +1,5 @@
 -- What the shared answers say: the number and the value of each case.
 use Prim.Native.Nat.{ℕ}
-use mathlib.Core.List.{List}
 use Rattle.error.specs.Outcome.{Outcome, accept, refuse}
 use Rattle.error.specs.Refusals.{numberOf}
 use Rattle.error.specs.declared.Counted.{Counted}

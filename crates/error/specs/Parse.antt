@@ -1,5 +1,5 @@
 -- Reading a list of bytes from a place on. The place counts bytes for the parsers of bytes, and bits for those of bits.
-use Prim.Native.Nat.{ℕ, zero, suc, _+_, _^_}
+use Prim.Native.Nat.{ℕ, zero, suc}
 use mathlib.Core.Bool.{Bool}
 use mathlib.Core.List.{List, [], _∷_}
 use lib.Dec.{leb}

@@ -1,12 +1,12 @@
 -- What grouping keeps of the units: their number and lengths, and that their arrays can be written.
-use Prim.Native.Nat.{ℕ, zero, suc, _+_, _*_, _/_, _^_, _≤_, _<_}
+use Prim.Native.Nat.{ℕ, suc, _+_, _*_, _^_, _≤_}
 use native.Mathlib.Omega.{arith}
-use mathlib.Core.Path.{_≡_, refl, sym, ap, _∙_, subst}
-use mathlib.Core.Bool.{Bool, true, false, _&&_, _||_}
+use mathlib.Core.Path.{_≡_, refl, ap, _∙_}
+use mathlib.Core.Bool.{Bool, true, false, _||_}
 use mathlib.Core.List.{List, [], _∷_, _++_, map}
-use lib.Dec.{leb, eqb}
+use lib.Dec.{eqb}
 use lib.ListN.{length, getD, length-append, length-map}
-use borrow.Author.Tests.{le-leb, eq-eqb, eqb-true, eqb-false}
+use borrow.Author.Tests.{le-leb, eq-eqb, eqb-true}
 use Rattle.error.specs.Logic.{if_then_else_}
 use Rattle.boxes.specs.Bytes.{toChunk}
 use Rattle.nal.specs.Header.{typeOr31}

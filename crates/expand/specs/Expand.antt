@@ -6,7 +6,7 @@ use mathlib.Core.Option.{Option, none, some}
 use lib.Dec.{eqb}
 use lib.ListN.{length}
 use Rattle.error.specs.Logic.{if_then_else_}
-use Rattle.error.specs.Outcome.{Outcome, accept, refuse}
+use Rattle.error.specs.Outcome.{Outcome, accept}
 use Rattle.error.specs.Steps.{_>>=_, _>>_, orRefuse}
 use Rattle.boxes.specs.Parts.{held}
 use Rattle.nal.specs.Header.{typeOr31}

@@ -2,19 +2,19 @@
 use Prim.Native.Nat.{ℕ, _+_, _^_, _≤_, _<_}
 use native.Mathlib.Omega.{arith}
 use mathlib.Core.Path.{_≡_, refl, sym, ap, _∙_, subst}
-use mathlib.Core.Bool.{Bool, true, false, _&&_}
+use mathlib.Core.Bool.{Bool, true, false}
 use mathlib.Core.List.{List, [], _∷_, _++_, append-nil, append-assoc}
 use lib.Dec.{leb, eqb}
 use lib.ListN.{length, getD, length-append}
 use borrow.Author.Tests.{leb-true, le-leb, eqb-false}
 use Rattle.error.specs.Logic.{if_then_else_}
-use Rattle.error.specs.Outcome.{Outcome, accept, refuse}
+use Rattle.error.specs.Outcome.{accept, refuse}
 use Rattle.error.specs.Parse.{value}
 use Rattle.nal.proofs.StartCodes.{and-true}
-use Rattle.unit_list.specs.UnitList.{Array, encode, heldArrays}
+use Rattle.unit_list.specs.UnitList.{Array, encode}
 use Rattle.unit_list.proofs.Arrays.{Sound}
 use Rattle.ptl.specs.declared.VvcPtlRecord.{VvcPtlRecord}
-use Rattle.full.specs.Read.{FullParsed, vvcRecord, fullParsed, parseFull}
+use Rattle.full.specs.Read.{vvcRecord, parseFull}
 use Rattle.ptl_record.specs.AsWritten.{asWritten}
 use Rattle.ptl_record.proofs.AsWritten.{Canonical, kept}
 use Rattle.ptl_record.proofs.RoundTrip as P

@@ -1,7 +1,7 @@
 -- The full record read (ISO/IEC 14496-15 11.2.4.2, VvcDecoderConfigurationRecord). Reserved bits are ignored.
-use Prim.Native.Nat.{ℕ, _+_, _-_, _*_, _/_, _%_}
+use Prim.Native.Nat.{ℕ, _+_, _/_, _%_}
 use mathlib.Core.Bool.{Bool, true, false, _||_}
-use mathlib.Core.List.{List, map}
+use mathlib.Core.List.{List}
 use lib.Dec.{eqb}
 use lib.ListN.{length}
 use Rattle.error.specs.Logic.{if_then_else_}

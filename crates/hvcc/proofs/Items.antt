@@ -12,7 +12,7 @@ use Rattle.error.specs.Refusals.{numberOf}
 use Rattle.error.specs.declared.Refusal.{Refusal}
 use Rattle.error.specs.Parse.{Parsed, value, refused, bind, many, outcome}
 use Rattle.boxes.specs.Bytes.{be}
-use Rattle.boxes.specs.Walk.{more, countFound, found}
+use Rattle.boxes.specs.Walk.{more, countFound}
 use Rattle.boxes.specs.declared.Span.{Span}
 use Rattle.boxes.proofs.Walk.{total}
 use Rattle.boxes.proofs.Fields.{uint-there, uint-short, bytes-there, bytes-short}

@@ -145,29 +145,3 @@ pub sized : (s : List ℕ) (p z t v q : ℕ) → zerosBeforeOne 0 32 s p ≡ val
 sized s p z t v q e f =
     let h : z < 32 = zeros-read s 0 32 p z t e .few in
     record { few = h; low = u-read z s t v q f .low; top = pow-mono {j = 31} (omega arith); one = pow-pos z }
-
--- what a code says of its value and its next position
-pub record Coded (s : List ℕ) (p v q : ℕ) : Type 0 where
-  pub low : v ≤ 4294967294
-  pub from : p < q
-  pub near : q ≤ p + 63
-  pub within : q ≤ 8 * length s
-
-module _ (s : List ℕ) (p v q : ℕ) where
-  low-bits : (z t : ℕ) → zerosBeforeOne 0 32 s p ≡ value z t → (r : Parsed ℕ) → u z s t ≡ r → bind r (λ w. give (2 ^ z - 1 + w) s) ≡ value v q → Coded s p v q
-  low-bits z t h (value w k) g e =
-      let a : 2 ^ z - 1 + w ≡ v = cc in
-      let b : k ≡ q = cc in
-      let n = sized s p z t w k h g in
-      let i = zeros-read s 0 32 p z t h in
-      let j = u-read z s t w k g in
-      record { low = omega arith; from = omega arith; near = omega arith; within = omega arith }
-  low-bits z t h (refused r) g e = let o : _≡_ {A = ℕ} 0 1 = cc in absurd (omega arith)
-
-  code : (r : Parsed ℕ) → zerosBeforeOne 0 32 s p ≡ r → bind r (λ z t. bind (u z s t) (λ w. give (2 ^ z - 1 + w) s)) ≡ value v q → Coded s p v q
-  code (value z t) h e = low-bits z t h (u z s t) refl e
-  code (refused r) h e = let o : _≡_ {A = ℕ} 0 1 = cc in absurd (omega arith)
-
-  pub ue-read : ue s p ≡ value v q → Coded s p v q
-  unfolding ue
-  ue-read e = code (zerosBeforeOne 0 32 s p) refl e

@@ -5,7 +5,7 @@ use Prim.Native.Nat.{ℕ, zero, suc, _+_, _-_, _*_, _/_, _%_, _^_}
 use lib.Dec.{leb, eqb}
 use lib.ListN.{length, getD}
 use Rattle.error.specs.Logic.{if_then_else_}
-use Rattle.error.specs.Parse.{Parsed, value, refused, bind, Parser, _>>=_, _>>_, give, refusing}
+use Rattle.error.specs.Parse.{value, refused, Parser, _>>=_, _>>_, give, refusing}
 
 -- bit p of the bytes
 abbrev pub bitAt : List ℕ → ℕ → ℕ

@@ -1,10 +1,9 @@
 -- The sample format by cases: of the head, of an SPS, of a list.
-use Prim.Native.Nat.{ℕ, suc, _+_, _≤_, _<_}
+use Prim.Native.Nat.{ℕ, _+_, _≤_, _<_}
 use native.Mathlib.Omega.{arith}
-use mathlib.Core.Path.{_≡_, refl, sym, ap, _∙_, subst}
+use mathlib.Core.Path.{_≡_, refl, sym, ap, _∙_}
 use mathlib.Core.Bool.{Bool, true, false}
 use mathlib.Core.List.{List, [], _∷_}
-use lib.Dec.{ltb}
 use lib.ListN.{length}
 use borrow.Author.Tests.{lt-ltb, le-ltb}
 use Rattle.error.specs.Logic.{if_then_else_}
@@ -14,7 +13,7 @@ use Rattle.error.specs.Refusals.{numberOf}
 use Rattle.error.specs.declared.Refusal.{Refusal}
 use Rattle.error.specs.declared.Counted.{Counted}
 use Rattle.error.specs.declared.Counted.the-variants.{Count, Refused}
-use Rattle.boxes.specs.Parts.{held, nowhere}
+use Rattle.boxes.specs.Parts.{held}
 use Rattle.boxes.specs.Walk.{countFound, found}
 use Rattle.boxes.specs.declared.Span.{Span}
 use Rattle.unit_list.specs.UnitList.{Array, decode, unitsOfType}
@@ -25,7 +24,7 @@ use Rattle.params.specs.declared.ParamsAnswer.the-variants as A
 use Rattle.params.specs.declared.SpsHead.{SpsHead}
 use Rattle.params.specs.declared.SpsRead.{SpsRead}
 use Rattle.full.specs.declared.VvcConfig.{VvcConfig}
-use Rattle.sample_format.specs.Format.{Format, headFormat, spsFormatOf, firstFormat, sampleFormat}
+use Rattle.sample_format.specs.Format.{headFormat, spsFormatOf, firstFormat, sampleFormat}
 
 -- ---- the head
 module _ (h : VvcConfig) where

@@ -1,5 +1,4 @@
 -- What the answer of this crate says.
-use Prim.Native.Nat.{ℕ}
 use Rattle.error.specs.Outcome.{Outcome, accept, refuse}
 use Rattle.error.specs.Refusals.{numberOf}
 use Rattle.sample_format.specs.Format.{Format}

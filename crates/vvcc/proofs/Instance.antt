@@ -1,25 +1,24 @@
 -- The worked P and Q with S = 9A meet every premise of the whole path.
-use Prim.Native.Nat.{ℕ, zero, suc, _+_, _-_, _*_, _/_, _%_, _≤_, _<_}
+use Prim.Native.Nat.{ℕ, zero, suc, _<_}
 use native.Mathlib.Omega.{arith}
-use mathlib.Core.Path.{_≡_, refl, sym, ap, _∙_}
+use mathlib.Core.Path.{_≡_, refl, sym, _∙_}
 use mathlib.Core.Bool.{Bool, true, false, _&&_}
-use mathlib.Core.List.{List, [], _∷_, _++_}
+use mathlib.Core.List.{List, [], _∷_}
 use lib.Dec.{ltb}
 use lib.ListN.{length, getD}
 use borrow.Author.Tests.{ltb-true}
-use Rattle.error.specs.Outcome.{Outcome, accept}
 use Rattle.error.specs.Parse.{times, many, manyUpTo}
 use Rattle.boxes.specs.Bytes.{be, toBe, uint, bytes, chunk, toChunk, inside}
 use Rattle.nal.specs.StartCode.{isStartCode, scan, endsInZero, unitChecked}
 use Rattle.nal.proofs.StartCodes.{and-true}
-use Rattle.nal.proofs.Checks.{Splittable, checked-splittable}
+use Rattle.nal.proofs.Checks.{checked-splittable}
 use Rattle.unit_list.specs.UnitList.{arrayRest, array, unitList, decode, unitsOf, encodeUnits, encodeArray, encodeArrays, encode}
 use Rattle.rbsp.specs.Rbsp.{drops, nextZeros, unescape}
 use Rattle.rbsp.specs.Bits.{bitsAt, u, skip, align, zerosBeforeOne, ue}
 use Rattle.ptl.specs.Ptl.{presentFlags, levels, withoutFlags, constraintBits, generalConstraintsInfo, constraintBytes, profileTierLevel}
 use Rattle.params.specs.Heads.{window, spsHead, parseSps}
-use Rattle.compact.specs.Compact.{CompactParsed, atEnd, compactRecord, oneArray, parseCompact}
-use Rattle.expand.specs.Expand.{Picture, FullHead, havingType, without, firsts, grouped, multiLayerVps, ptlOfSets, expandedHead, expandUnits, toFull}
+use Rattle.compact.specs.Compact.{atEnd, compactRecord, oneArray, parseCompact}
+use Rattle.expand.specs.Expand.{Picture, havingType, without, firsts, grouped, multiLayerVps, ptlOfSets, expandedHead, expandUnits, toFull}
 use Rattle.vvcc.proofs.Worked.{P, Q, C, ptlOfP}
 use Rattle.vvcc.specs.Still.{Bytes, Clean, AtMostOne, unitsIn, Still}
 

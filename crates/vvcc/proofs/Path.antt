@@ -1,24 +1,23 @@
 -- The whole path of a still, one claim (document 01, demand 3).
-use Prim.Native.Nat.{ℕ, _+_, _≤_, _<_}
+use Prim.Native.Nat.{ℕ, _≤_}
 use native.Mathlib.Omega.{arith}
 use mathlib.Core.Path.{_≡_, refl, sym, ap, _∙_, subst}
 use mathlib.Core.Option.{Option}
 use mathlib.Core.List.{List, [], _∷_, _++_}
-use lib.Dec.{leb}
 use lib.ListN.{length, getD, drop, length-map}
 use lib.Seq.{ext-getD}
 use borrow.Author.Tests.{le-leb}
-use Rattle.error.specs.Outcome.{Outcome, accept, overlay, lentOutput, counted}
+use Rattle.error.specs.Outcome.{Outcome, accept, counted}
 use Rattle.boxes.specs.Parts.{held, nowhere}
 use Rattle.boxes.specs.declared.Span.{Span}
 use Rattle.hvcc.specs.Stream.{splitStream}
-use Rattle.compact.specs.Compact.{CompactParsed, parseCompact}
+use Rattle.compact.specs.Compact.{parseCompact}
 use Rattle.compact.specs.ItemData.{restore}
 use Rattle.compact.specs.declared.CompactVvcConfig.{CompactVvcConfig}
-use Rattle.full.specs.Read.{FullParsed, parseFull}
+use Rattle.full.specs.Read.{parseFull}
 use Rattle.full.specs.Write.{serializeFull}
 use Rattle.full.specs.declared.VvcConfig.{VvcConfig}
-use Rattle.expand.specs.Expand.{Picture, FullHead, toFull}
+use Rattle.expand.specs.Expand.{Picture, toFull}
 use Rattle.access_unit.specs.AccessUnit.{assemble}
 use Rattle.nal.specs.Header.{typeOr31}
 use Rattle.nal.proofs.Checks.{Splittable}

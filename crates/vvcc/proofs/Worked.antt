@@ -1,17 +1,16 @@
 -- The starred worked bytes of document 01, as one table: each line computes from the definitions that the contracts cite.
-use Prim.Native.Nat.{ℕ, zero, suc, _+_, _*_, _/_, _%_}
+use Prim.Native.Nat.{ℕ}
 use mathlib.Core.Path.{_≡_, refl}
-use mathlib.Core.Bool.{Bool, true, false}
+use mathlib.Core.Bool.{true, false}
 use mathlib.Core.List.{List, [], _∷_, _++_}
 use lib.ListN.{length, replicate}
 use Rattle.error.specs.Outcome.{Outcome, accept, refuse, andThen}
-use Rattle.error.specs.Parse.{Parsed, value, refused, times, many, manyUpTo}
+use Rattle.error.specs.Parse.{value, refused, times, many, manyUpTo}
 use Rattle.boxes.specs.Bytes.{be, toBe, uint, bytes, chunk, toChunk, inside}
-use Rattle.nal.specs.Header.{typeOr31}
 use Rattle.unit_list.specs.UnitList.{arrayRest, array, unitList, decode, unitsOf, unitsOfType, encodeUnits, encodeArray, encodeArrays, encode}
 use Rattle.rbsp.specs.Rbsp.{drops, nextZeros, unescape, rbsp}
 use Rattle.rbsp.specs.Bits.{bitsAt, u, skip, align, zerosBeforeOne, ue}
-use Rattle.ptl.specs.Ptl.{presentFlags, levels, withoutFlags, constraintBits, generalConstraintsInfo, constraintBytes, profileTierLevel, zeroPtl}
+use Rattle.ptl.specs.Ptl.{presentFlags, levels, withoutFlags, constraintBits, generalConstraintsInfo, constraintBytes, profileTierLevel}
 use Rattle.params.specs.Heads.{window, spsHead, vpsPtl, parseSps, vpsFirstPtl}
 use Rattle.ptl.specs.declared.VvcPtlRecord.{VvcPtlRecord}
 use Rattle.params.specs.declared.SpsHead.{SpsHead}
@@ -20,9 +19,9 @@ use Rattle.compact.specs.ItemData.{restore}
 use Rattle.compact.specs.declared.CompactVvcConfig.{CompactVvcConfig}
 use Rattle.ptl_record.specs.Read.{octets, vvcPtlRecord}
 use Rattle.ptl_record.specs.Write.{withFlags, flagByte, levelBytes, subProfiles, ptlBytes, ptlFits}
-use Rattle.full.specs.Read.{FullParsed, headWithPtl, plainHead, vvcHead, recordArray, vvcRecord, parseFull}
+use Rattle.full.specs.Read.{FullParsed, headWithPtl, vvcHead, recordArray, vvcRecord, parseFull}
 use Rattle.full.specs.Write.{ptlPart, headBytes, arrayBytes, arraysBytes, fullBytes, ptlPartFits, headFits, unitsFit, arrayFits, arraysFit, recordFits, writeFull, serializeFull}
-use Rattle.expand.specs.Expand.{Picture, FullHead, havingType, without, firsts, grouped, multiLayerVps, ptlOfSets, expandUnits, toFull}
+use Rattle.expand.specs.Expand.{havingType, without, firsts, grouped, multiLayerVps, ptlOfSets, expandUnits, toFull}
 
 -- an SPS and a PPS
 abbrev pub P : List ℕ

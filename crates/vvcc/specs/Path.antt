@@ -10,7 +10,7 @@ use Rattle.boxes.specs.declared.Span.{Span}
 use Rattle.hvcc.specs.Stream.{annexB, splitStream}
 use Rattle.compact.specs.Compact.{CompactParsed, parseCompact}
 use Rattle.compact.specs.ItemData.{restore}
-use Rattle.full.specs.Read.{FullParsed, parseFull}
+use Rattle.full.specs.Read.{parseFull}
 use Rattle.full.specs.Write.{serializeFull}
 use Rattle.full.specs.declared.VvcConfig.{VvcConfig}
 use Rattle.expand.specs.Expand.{Picture, FullHead, toFull}

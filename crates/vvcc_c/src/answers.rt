@@ -8,7 +8,6 @@ use error::number;
 use hvcc::NextUnit;
 ghost use mathlib.Core.Path.{_≡_};
 ghost use mathlib.Core.Option.{none, some};
-ghost use Prim.Native.Nat.{_+_, _<_, _^_};
 ghost use Rattle.error.specs.Outcome.{accept, refuse};
 ghost use Rattle.error.specs.Refusals.{numberOf};
 ghost use Rattle.error.specs.Answers.{writtenOf};

@@ -1,6 +1,5 @@
 -- `head_format` gives the head's format, or 22.
 use Rattle.sample_format.proofs.Formats.{head-wide, head-holds}
-use Prim.Native.Nat.{_-_}
 use borrow.Author.Needs.{needs}
 use Rattle.sample_format.proofs.head_format.Statement.{statement}
 use Rattle.sample_format.proofs.head_format.Tie as tie

@@ -2,7 +2,6 @@
 use Rattle.sample_format.proofs.Formats.{list-head, list-none, list-refused, list-first}
 use denote.Ref.{now}
 use Rattle.sample_format.specs.Format.{spsFormatOf}
-use Prim.Native.Nat.{_-_}
 use mathlib.Core.Path.{ap, _∙_}
 use borrow.Author.Needs.{needs}
 use Rattle.sample_format.proofs.sample_format.Statement.{statement}

@@ -2,14 +2,12 @@
 use mathlib.Core.Path.{_≡_, sym, ap, _∙_}
 use mathlib.Core.Bool.{true, false}
 use native.Mathlib.Omega.{arith}
-use lib.Dec.{eqb}
 use lib.ListN.{length}
 use borrow.Author.Needs.{needs}
-use Rattle.error.specs.Logic.{if_then_else_}
 use Rattle.boxes.specs.Parts.{held}
 use Rattle.nal.specs.Header.{typeOr31}
 use Rattle.unit_list.proofs.Accepted.{held-long}
-use Rattle.access_unit.specs.AccessUnit.{keeps, mayLead}
+use Rattle.access_unit.specs.AccessUnit.{keeps}
 use Rattle.access_unit.specs.Answers.{tolsOf}
 use Rattle.access_unit.proofs.Targets.{keeps-other, leads-opi, leads-other}
 use Rattle.access_unit.proofs.sizes.add_kept.Statement.{statement}

@@ -1,6 +1,5 @@
 -- `sizes::item_sum` sums the kept units of an item. The loop's invariant: the sum is that of the units passed, and those left come behind them.
 use Prim.Native.Nat.{_-_, _≤_}
-use mathlib.Core.Path.{_≡_, ap, _∙_}
 use lib.ListN.{length}
 use Rattle.hvcc.proofs.Items.{Turn, found-unit, found-end, found-refusal}
 use Rattle.access_unit.specs.Answers.{tolsOf}

@@ -1,7 +1,6 @@
 -- `stream::put_kept` stores the first kept units from a place of the item on. The loop's invariant: what is stored and what is left of them make the whole.
 use Prim.Native.Nat.{_+_, _-_, _≤_}
-use mathlib.Core.Path.{_≡_, sym, ap, _∙_}
-use mathlib.Core.Bool.{Bool}
+use mathlib.Core.Path.{sym, _∙_}
 use lib.ListN.{length}
 use lib.Seq.{sets}
 use Rattle.hvcc.proofs.Items.{Turn, found-unit}

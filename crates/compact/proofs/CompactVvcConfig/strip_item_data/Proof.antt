@@ -3,7 +3,6 @@ use Prim.Native.Nat.{ℕ}
 use mathlib.Core.Path.{_≡_, sym, ap, _∙_, subst}
 use mathlib.Core.List.{List}
 use borrow.Author.Needs.{needs}
-use lib.ListN.{length}
 use Rattle.error.specs.Outcome.{Outcome, accept, lentOutput, counted}
 use Rattle.boxes.specs.Parts.{held}
 use Rattle.compact.specs.ItemData.{strip}

@@ -1,13 +1,11 @@
 -- `list_units::put_record` gives the record of the units behind a cursor, or the refusal that comes first.
 use Prim.Native.Nat.{_^_, _≤_}
 use mathlib.Core.Path.{_≡_, sym, ap, _∙_, subst}
-use mathlib.Core.Bool.{true, false}
 use mathlib.Core.List.{_∷_}
 use mathlib.Core.Logic.{⊎-elim, inl, inr}
 use native.Mathlib.Omega.{arith}
 use borrow.Author.Needs.{needs}
 use borrow.Author.Tests.{ltb-true, ltb-false, not-true, not-false}
-use lib.ListN.{length}
 use Rattle.error.specs.Outcome.{accept}
 use Rattle.unit_list.specs.Find.{unitsLeft}
 use Rattle.compact.specs.Inside.{sumOf, SumFits, foundBytes, recordOf, firstByte}

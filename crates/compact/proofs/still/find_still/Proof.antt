@@ -6,7 +6,6 @@ use mathlib.Core.Logic.{⊎-elim, inl, inr}
 use native.Mathlib.Omega.{arith}
 use borrow.Author.Needs.{needs}
 use borrow.Author.Tests.{ltb-true, ltb-false}
-use lib.ListN.{length}
 use Rattle.error.specs.Outcome.{accept}
 use Rattle.boxes.specs.Walk.{more}
 use Rattle.hvcc.specs.Item.{itemUnits}

@@ -3,6 +3,7 @@ use super::Target;
 use super::kept;
 use boxes::Span;
 use boxes::place;
+use error::LARGEST_INPUT;
 use error::Refusal;
 use hvcc::ItemStep;
 use hvcc::walk as items;
@@ -175,7 +176,7 @@ fn measure_item(item: &[u8], length_size: u8, target: Target, listed: UnitSum) -
 pub fn measure(list: &[u8], item: &[u8], length_size: u8, target: Target) -> Measured
     ensures { λ r. ⌜ measuredOf r ≡ andThen (gather «length_size» (tolsOf target) (now (list .entry)) (now (item .entry))) (λ g. accept (sizesOf (now (list .entry)) (now (item .entry)) g)) ⌝ }
 {
-    if 0x4000_0000 < item.len() {
+    if LARGEST_INPUT < item.len() {
         return Measured::Refused(Refusal::InputTooLong);
     }
     let summed = list_sum(list);

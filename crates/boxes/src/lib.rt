@@ -1,6 +1,7 @@
 // Big-endian fields at a place of lent bytes, after the original's `Reader`.
 pub mod place;
 
+use error::LARGEST_INPUT;
 use error::Refusal;
 ghost use mathlib.Core.Path.{_≡_};
 ghost use Rattle.boxes.specs.Answers.{fieldOf, fieldAt};
@@ -21,7 +22,7 @@ pub enum Field {
 pub fn uint_at(s: &[u8], at: usize, width: usize) -> Field
     ensures { λ r. ⌜ fieldOf r ≡ fieldAt width (now (s .entry)) at ⌝ }
 {
-    if 0x4000_0000 < s.len() {
+    if LARGEST_INPUT < s.len() {
         return Field::Refused(Refusal::InputTooLong);
     }
     if width == 0 || 4 < width {

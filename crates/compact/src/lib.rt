@@ -5,6 +5,7 @@ pub mod record_units;
 pub mod still;
 
 use boxes::place;
+use error::LARGEST_INPUT;
 use error::Refusal;
 use error::Written;
 use record_units::UnitsRoom;
@@ -35,7 +36,7 @@ impl CompactVvcConfig {
     pub fn parse(record: &[u8], out: &mut [u8]) -> CompactRead
         ensures { λ r. ⌜ (compactOf r, now (out .exit)) ≡ lentOutput (parseCompact (now («record» .entry))) (now (out .entry)) ⌝ }
     {
-        if 0x4000_0000 < record.len() {
+        if LARGEST_INPUT < record.len() {
             return CompactRead::Refused(Refusal::InputTooLong);
         }
         let first = place::byte(record, 0);
@@ -71,7 +72,7 @@ impl CompactVvcConfig {
     pub fn item_data(self, stored: &[u8], out: &mut [u8]) -> Written
         ensures { λ r. ⌜ (writtenOf r, now (out .exit)) ≡ lentOutput (counted (restore self (now (stored .entry)))) (now (out .entry)) ⌝ }
     {
-        if 0x4000_0000 < stored.len() {
+        if LARGEST_INPUT < stored.len() {
             return Written::Refused(Refusal::InputTooLong);
         }
         if self.multi_layer_flag {
@@ -84,7 +85,7 @@ impl CompactVvcConfig {
     pub fn strip_item_data(self, item: &[u8], out: &mut [u8]) -> Written
         ensures { λ r. ⌜ (writtenOf r, now (out .exit)) ≡ lentOutput (counted (strip self (now (item .entry)))) (now (out .entry)) ⌝ }
     {
-        if 0x4000_0000 < item.len() {
+        if LARGEST_INPUT < item.len() {
             return Written::Refused(Refusal::InputTooLong);
         }
         if self.multi_layer_flag {

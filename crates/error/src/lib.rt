@@ -2,6 +2,9 @@
 ghost use mathlib.Core.Path.{_≡_};
 ghost use Rattle.error.specs.Refusals.{numberOf};
 
+// The largest lent input, in bytes: 2^30.
+pub const LARGEST_INPUT: usize = 0x4000_0000;
+
 // One ground each; the number beside it is the one that the scope gives the ground.
 pub enum Refusal {
     // a field runs past the end

@@ -5,6 +5,7 @@ pub mod written;
 
 use arrays::Measured;
 use boxes::place;
+use error::LARGEST_INPUT;
 use error::Refusal;
 use full::VvcConfig;
 use head::HeadAnswer;
@@ -70,7 +71,7 @@ fn read_arrays(record: &[u8], at: usize, head: VvcConfig, out: &mut [u8]) -> Ful
 pub fn parse(record: &[u8], out: &mut [u8]) -> FullRead
     ensures { λ r. ⌜ (fullOf r, now (out .exit)) ≡ fullGiven (now («record» .entry)) (now (out .entry)) ⌝ }
 {
-    if 0x4000_0000 < record.len() {
+    if LARGEST_INPUT < record.len() {
         return refused(Refusal::InputTooLong);
     }
     let read = head::read_head(record);

@@ -4,6 +4,7 @@ pub mod walk;
 use boxes::Span;
 use boxes::place;
 use error::Counted;
+use error::LARGEST_INPUT;
 use error::Refusal;
 use nal::start_code;
 ghost use mathlib.Core.Path.{_≡_};
@@ -32,7 +33,7 @@ pub enum NextUnit {
 pub fn split_length_prefixed_count(item: &[u8], length_size: u8) -> Counted
     ensures { λ r. ⌜ countOf r ≡ countFound (splitItem «length_size» (now (item .entry))) ⌝ }
 {
-    if 0x4000_0000 < item.len() {
+    if LARGEST_INPUT < item.len() {
         return Counted::Refused(Refusal::InputTooLong);
     }
     if length_size == 0 || 4 < length_size {
@@ -53,7 +54,7 @@ pub fn split_length_prefixed(item: &[u8], length_size: u8, k: usize) -> &[u8]
 pub fn next_unit(stream: &[u8], from: usize) -> NextUnit
     ensures { λ r. ⌜ nextOf r ≡ nextGiven (now (stream .entry)) from ⌝ }
 {
-    if 0x4000_0000 < stream.len() {
+    if LARGEST_INPUT < stream.len() {
         return NextUnit::Refused(Refusal::InputTooLong);
     }
     if stream.len() <= from {

@@ -2,6 +2,7 @@
 pub mod header;
 pub mod start_code;
 
+use error::LARGEST_INPUT;
 use error::Refusal;
 ghost use mathlib.Core.Path.{_≡_};
 ghost use Rattle.nal.specs.Header.{layerId, unitType, temporalIdPlus1, nalHeader};
@@ -59,7 +60,7 @@ pub enum UnitKind {
 pub fn nal_unit_type(nal: &[u8]) -> HeaderField
     ensures { λ r. ⌜ headerOf r ≡ headerPart unitType (now (nal .entry)) ⌝ }
 {
-    if 0x4000_0000 < nal.len() {
+    if LARGEST_INPUT < nal.len() {
         return HeaderField::Refused(Refusal::InputTooLong);
     }
     if nal.len() < 2 {
@@ -72,7 +73,7 @@ pub fn nal_unit_type(nal: &[u8]) -> HeaderField
 pub fn nal_layer_id(nal: &[u8]) -> HeaderField
     ensures { λ r. ⌜ headerOf r ≡ headerPart layerId (now (nal .entry)) ⌝ }
 {
-    if 0x4000_0000 < nal.len() {
+    if LARGEST_INPUT < nal.len() {
         return HeaderField::Refused(Refusal::InputTooLong);
     }
     if nal.len() < 1 {
@@ -85,7 +86,7 @@ pub fn nal_layer_id(nal: &[u8]) -> HeaderField
 pub fn nal_temporal_id_plus1(nal: &[u8]) -> HeaderField
     ensures { λ r. ⌜ headerOf r ≡ headerPart temporalIdPlus1 (now (nal .entry)) ⌝ }
 {
-    if 0x4000_0000 < nal.len() {
+    if LARGEST_INPUT < nal.len() {
         return HeaderField::Refused(Refusal::InputTooLong);
     }
     if nal.len() < 2 {
@@ -147,7 +148,7 @@ pub fn is_record_nal_type(nal_unit_type: u8) -> bool
 pub fn check_unit(unit: &[u8]) -> UnitCheck
     ensures { λ r. ⌜ checkOf r ≡ checked (now (unit .entry)) ⌝ }
 {
-    if 0x4000_0000 < unit.len() {
+    if LARGEST_INPUT < unit.len() {
         return UnitCheck::Refused(Refusal::InputTooLong);
     }
     if unit.len() == 0 {

@@ -3,6 +3,7 @@ pub mod bits;
 pub mod fill;
 pub mod reader;
 
+use error::LARGEST_INPUT;
 use error::Refusal;
 use error::Written;
 ghost use mathlib.Core.Path.{_≡_};
@@ -25,7 +26,7 @@ pub enum BitsRead {
 pub fn extract_rbsp(payload: &[u8], out: &mut [u8]) -> Written
     ensures { λ r. ⌜ (writtenOf r, now (out .exit)) ≡ extractRbsp (now (payload .entry)) (now (out .entry)) ⌝ }
 {
-    if 0x4000_0000 < payload.len() {
+    if LARGEST_INPUT < payload.len() {
         return Written::Refused(Refusal::InputTooLong);
     }
     if out.len() < fill::rbsp_len(payload) {

@@ -5,6 +5,7 @@ pub mod stream;
 use access_unit::Target;
 use compact::CompactRead;
 use compact::CompactVvcConfig;
+use error::LARGEST_INPUT;
 use error::Refusal;
 use error::Written;
 ghost use mathlib.Core.Path.{_≡_};
@@ -48,7 +49,7 @@ pub fn still_record(
 pub fn still_stream(record: &[u8], stored: &[u8], tols: Target, out: &mut [u8]) -> Written
     ensures { λ r. ⌜ (writtenOf r, now (out .exit)) ≡ lentOutput (counted (stillStream (now («record» .entry)) (now (stored .entry)) (tolsOf tols))) (now (out .entry)) ⌝ }
 {
-    if 0x4000_0000 < stored.len() {
+    if LARGEST_INPUT < stored.len() {
         return Written::Refused(Refusal::InputTooLong);
     }
     let mut list = [0u8; COMPACT_LIST];

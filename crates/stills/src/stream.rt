@@ -6,6 +6,7 @@ use access_unit::sizes::Measured;
 use access_unit::sizes::Sizes;
 use boxes::place;
 use compact::CompactVvcConfig;
+use error::LARGEST_INPUT;
 use error::Refusal;
 use error::Written;
 use expand::ExpandAnswer;
@@ -94,7 +95,7 @@ fn put_plain(length_size: u8, list: &[u8], stored: &[u8], out: &mut [u8]) -> Wri
     ensures { λ r. ⌜ (writtenOf r, now (out .exit)) ≡ lentOutput (counted (plainStream «length_size» (now (list .entry)) (now (stored .entry)))) (now (out .entry)) ⌝ }
 {
     let item_len = place::wide(length_size) + 2 + stored.len();
-    if 0x4000_0000 < item_len {
+    if LARGEST_INPUT < item_len {
         return Written::Refused(Refusal::InputTooLong);
     }
     let target = Target::Unset;

@@ -6,6 +6,7 @@ use super::ListStart;
 use super::ListStep;
 use boxes::Span;
 use boxes::place;
+use error::LARGEST_INPUT;
 use error::Refusal;
 ghost use mathlib.Core.Path.{_≡_};
 ghost use Prim.Native.Nat.{_≤_, _^_};
@@ -37,7 +38,7 @@ pub fn chunk(s: &[u8], at: usize, end: usize, width: usize) -> ChunkRead
 pub fn start(list: &[u8]) -> ListStart
     ensures { λ r. ⌜ (started (now (list .entry)) r ≡ typedList (now (list .entry))) × (arraysStarted (now (list .entry)) r ≡ decode (now (list .entry))) × StartFits (now (list .entry)) r ⌝ }
 {
-    if 0x4000_0000 < list.len() {
+    if LARGEST_INPUT < list.len() {
         return ListStart::Refused(Refusal::InputTooLong);
     }
     if place::byte(list, 0) != 1 {

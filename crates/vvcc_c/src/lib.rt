@@ -4,6 +4,7 @@ pub mod answers;
 use access_unit::access_unit_annex_b;
 use boxes::Field;
 use boxes::place;
+use error::LARGEST_INPUT;
 use error::Refusal;
 use full_read::FullAnswer;
 ghost use mathlib.Core.Path.{_≡_};
@@ -74,7 +75,7 @@ pub extern "C" fn vvcc_access_unit(
     ensures { λ r. ⌜ (r, now (out .exit)) ≡ writtenGiven (streamBeside (now («record» .entry)) (now (item .entry)) (targetFrom «has_target» target) (now (scratch .entry))) (now (out .entry)) ⌝ }
     ensures { λ _. ⌜ now (scratch .exit) ≡ scratchFilled (now («record» .entry)) (now (item .entry)) (now (scratch .entry)) ⌝ }
 {
-    if 0x4000_0000 < item.len() {
+    if LARGEST_INPUT < item.len() {
         return answers::refused(Refusal::InputTooLong);
     }
     let read = full_read::parse(record, scratch);
@@ -103,7 +104,7 @@ pub extern "C" fn vvcc_next_unit(stream: &[u8], from: usize) -> VvccUnit
 pub extern "C" fn vvcc_next_item_unit(item: &[u8], length_size: u8, from: usize) -> VvccUnit
     ensures { λ r. ⌜ r ≡ unitAnswer (nextItemUnit «length_size» (now (item .entry)) from) ⌝ }
 {
-    if 0x4000_0000 < item.len() {
+    if LARGEST_INPUT < item.len() {
         return answers::no_unit(Refusal::InputTooLong);
     }
     if length_size == 0 || 4 < length_size {

@@ -21,10 +21,11 @@ use Rattle.boxes.specs.declared.Span.{Span}
 use Rattle.boxes.proofs.Walk.{total}
 use Rattle.nal.specs.Header.{typeOr31}
 use Rattle.params.specs.Heads.{opiOlsIdx}
-use Rattle.hvcc.specs.Answers.{leftOf, stepped, UnitAhead, Onward}
-use Rattle.hvcc.specs.declared.ItemStep.{ItemStep}
-use Rattle.hvcc.specs.declared.ItemStep.the-variants as I
-use Rattle.hvcc.proofs.ItemStep.{the-type}
+use Rattle.hvcc.specs.Answers.{leftOf, UnitAhead, Onward, nextOf, itemStep}
+use Rattle.hvcc.specs.declared.NextUnit.{NextUnit}
+use Rattle.hvcc.specs.declared.NextUnit.the-variants as N
+use Rattle.hvcc.proofs.NextUnit.{the-type}
+use Rattle.hvcc.proofs.Items.{found-end, found-refusal}
 use Rattle.access_unit.specs.AccessUnit.{agrees, isOpi, keeps, mayLead, leading, following, kept}
 use Rattle.access_unit.specs.Inside.{keptLeft, keptStepped}
 
@@ -84,10 +85,10 @@ module _ (item : List ℕ) where
 -- ### the walk
 
 -- what a step found lies behind every earlier place too
-pub onward-earlier : (item : List ℕ) (p q : ℕ) → p ≤ q → (r : ItemStep) → Onward item q r → Onward item p r
-onward-earlier item p q h (I.Unit a next) f = record { some = f .some; ahead = omega arith; behind = f .behind; inside = f .inside }
-onward-earlier item p q h I.End f = tt
-onward-earlier item p q h (I.Refused e) f = tt
+pub onward-earlier : (item : List ℕ) (p q : ℕ) → p ≤ q → (r : NextUnit) → Onward item q r → Onward item p r
+onward-earlier item p q h (N.Unit a next) f = record { some = f .some; ahead = omega arith; behind = f .behind; inside = f .inside }
+onward-earlier item p q h N.End f = tt
+onward-earlier item p q h (N.Refused e) f = tt
 
 module _ (size : ℕ) (target : Option ℕ) (item : List ℕ) where
   module _ (p : ℕ) (a : Span) (q : ℕ) (rest : leftOf size item p ≡ more a (leftOf size item q)) where
@@ -111,12 +112,12 @@ module _ (size : ℕ) (target : Option ℕ) (item : List ℕ) where
     over-dropped e = over false e
 
   -- a step that found no unit says the same of the kept units
-  pub over-none : (p : ℕ) (r : ItemStep) → OneOf (1 ∷ 2 ∷ []) (tagOf the-type r) → stepped size item r ≡ leftOf size item p
+  pub over-none : (p : ℕ) (r : NextUnit) → OneOf (1 ∷ 2 ∷ []) (tagOf the-type r) → nextOf r ≡ itemStep size item p
       → keptStepped size target item r ≡ keptLeft size target item p
   unfolding keptLeft kept
-  over-none p (I.Unit a next) k e = absurd (⊎-elim (λ h. omega arith) (λ h. omega arith) k)
-  over-none p I.End k e = rw (← e)
-  over-none p (I.Refused x) k e = rw (← e)
+  over-none p (N.Unit a next) k e = absurd (⊎-elim (λ h. omega arith) (λ h. omega arith) k)
+  over-none p N.End k e = rw (found-end size item p N.End e refl)
+  over-none p (N.Refused x) k e = rw (found-refusal size item p (N.Refused x) e x refl)
 
   -- where nothing is left, or a refusal, so it is of the kept units
   pub over-end : (p : ℕ) → leftOf size item p ≡ accept [] → keptLeft size target item p ≡ accept []
@@ -132,19 +133,19 @@ module _ (size : ℕ) (target : Option ℕ) (item : List ℕ) where
     pub here : UnitAhead item p a next
     pub rest : keptLeft size target item p ≡ more a (keptLeft size target item next)
 
-  module _ (p : ℕ) (r : ItemStep) (said : (keptStepped size target item r ≡ keptLeft size target item p) × Onward item p r) where
-    pub kept-found : (a : Span) (next : ℕ) → r ≡ I.Unit a next → KeptTurn p a next
+  module _ (p : ℕ) (r : NextUnit) (said : (keptStepped size target item r ≡ keptLeft size target item p) × Onward item p r) where
+    pub kept-found : (a : Span) (next : ℕ) → r ≡ N.Unit a next → KeptTurn p a next
     kept-found a next e = record { here = rw e at (said .1); rest = sym (said .0) ∙ ap (keptStepped size target item) e }
 
-    pub kept-end : r ≡ I.End → keptLeft size target item p ≡ accept []
+    pub kept-end : r ≡ N.End → keptLeft size target item p ≡ accept []
     kept-end e = sym (said .0) ∙ ap (keptStepped size target item) e
 
-    pub kept-refused : (e : Refusal) → r ≡ I.Refused e → keptLeft size target item p ≡ refuse (numberOf e)
+    pub kept-refused : (e : Refusal) → r ≡ N.Refused e → keptLeft size target item p ≡ refuse (numberOf e)
     kept-refused e w = sym (said .0) ∙ ap (keptStepped size target item) w
 
   -- a step that found no unit: there is none
-  pub kept-none : (p : ℕ) (r : ItemStep) → keptStepped size target item r ≡ keptLeft size target item p → OneOf (1 ∷ 2 ∷ []) (tagOf the-type r)
+  pub kept-none : (p : ℕ) (r : NextUnit) → keptStepped size target item r ≡ keptLeft size target item p → OneOf (1 ∷ 2 ∷ []) (tagOf the-type r)
       → total (keptLeft size target item p) ≡ 0
-  kept-none p (I.Unit a next) e k = absurd (⊎-elim (λ h. omega arith) (λ h. omega arith) k)
-  kept-none p I.End e k = ap total (sym e)
-  kept-none p (I.Refused x) e k = ap total (sym e)
+  kept-none p (N.Unit a next) e k = absurd (⊎-elim (λ h. omega arith) (λ h. omega arith) k)
+  kept-none p N.End e k = ap total (sym e)
+  kept-none p (N.Refused x) e k = ap total (sym e)

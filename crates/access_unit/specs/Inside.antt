@@ -18,8 +18,8 @@ use Rattle.unit_list.specs.Answers.{listUnits}
 use Rattle.hvcc.specs.Answers.{leftOf}
 use Rattle.hvcc.specs.Item.{splitItem}
 use Rattle.hvcc.specs.Stream.{annexB}
-use Rattle.hvcc.specs.declared.ItemStep.{ItemStep}
-use Rattle.hvcc.specs.declared.ItemStep.the-variants as I
+use Rattle.hvcc.specs.declared.NextUnit.{NextUnit}
+use Rattle.hvcc.specs.declared.NextUnit.the-variants as N
 use Rattle.access_unit.specs.AccessUnit.{mayLead, keeps, leading, following, kept, Source, ofList, ofItem, heldIn, startCode}
 use Rattle.access_unit.specs.declared.sizes.UnitSum.{UnitSum}
 use Rattle.access_unit.specs.declared.sizes.Summed.{Summed}
@@ -43,10 +43,10 @@ unfoldable pub keptLeft : ℕ → Option ℕ → List ℕ → ℕ → Outcome (L
 keptLeft size target item p = andThen (leftOf size item p) (λ xs. accept (kept item target xs))
 
 -- what a step to the next kept unit says of those from the place that it started from
-abbrev pub keptStepped : ℕ → Option ℕ → List ℕ → ItemStep → Outcome (List Span)
-keptStepped size target item (I.Unit a next) = more a (keptLeft size target item next)
-keptStepped size target item I.End = accept []
-keptStepped size target item (I.Refused e) = refuse (numberOf e)
+abbrev pub keptStepped : ℕ → Option ℕ → List ℕ → NextUnit → Outcome (List Span)
+keptStepped size target item (N.Unit a next) = more a (keptLeft size target item next)
+keptStepped size target item N.End = accept []
+keptStepped size target item (N.Refused e) = refuse (numberOf e)
 
 -- ### measured
 

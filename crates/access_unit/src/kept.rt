@@ -3,7 +3,7 @@ use super::Target;
 use boxes::Span;
 use boxes::place;
 use full::VvcConfig;
-use hvcc::ItemStep;
+use hvcc::NextUnit;
 use hvcc::walk;
 use nal::NAL_OPI;
 use nal::header;
@@ -69,14 +69,14 @@ pub fn kept_at(item: &[u8], a: Span, target: Target) -> bool
 }
 
 // The next unit from a place of an item on that is kept, past those that are dropped.
-pub fn next_kept(item: &[u8], size: usize, target: Target, from: usize) -> ItemStep
+pub fn next_kept(item: &[u8], size: usize, target: Target, from: usize) -> NextUnit
     requires { ⌜ Walks size (now item) from ⌝ }
     ensures { λ r. ⌜ (keptStepped size (tolsOf target) (now (item .entry)) r ≡ keptLeft size (tolsOf target) (now (item .entry)) from) × Onward (now (item .entry)) from r ⌝ }
 {
     let mut at = from;
     loop {
         let step = walk::item_step(item, size, at);
-        let ItemStep::Unit(a, next) = step else {
+        let NextUnit::Unit(a, next) = step else {
             return step;
         };
         if kept_at(item, a, target) {

@@ -5,7 +5,7 @@ use boxes::Span;
 use boxes::place;
 use error::LARGEST_INPUT;
 use error::Refusal;
-use hvcc::ItemStep;
+use hvcc::NextUnit;
 use hvcc::walk as items;
 use nal::NAL_AUD;
 use nal::NAL_OPI;
@@ -102,12 +102,12 @@ fn item_sum(item: &[u8], size: usize, target: Target) -> Summed
     };
     loop {
         match items::item_step(item, size, at) {
-            ItemStep::Unit(a, next) => {
+            NextUnit::Unit(a, next) => {
                 sum = add_kept(item, a, target, sum);
                 at = next;
             }
-            ItemStep::End => return Summed::Sum(sum),
-            ItemStep::Refused(e) => return Summed::Refused(e),
+            NextUnit::End => return Summed::Sum(sum),
+            NextUnit::Refused(e) => return Summed::Refused(e),
         }
     }
 }

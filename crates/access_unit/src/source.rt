@@ -5,7 +5,7 @@ use super::sizes;
 use super::sizes::Measured;
 use boxes::Span;
 use boxes::place;
-use hvcc::ItemStep;
+use hvcc::NextUnit;
 use unit_list::Wanted;
 use unit_list::find;
 ghost use mathlib.Core.Path.{_≡_};
@@ -30,7 +30,7 @@ fn kept_unit(item: &[u8], size: usize, target: Target, k: usize) -> Span
     let mut skip = k;
     let unit = 'walk: loop {
         let step = kept::next_kept(item, size, target, at);
-        let ItemStep::Unit(a, next) = step else {
+        let NextUnit::Unit(a, next) = step else {
             break 'walk Span { start: 0, len: 0 };
         };
         if skip == 0 {

@@ -4,7 +4,7 @@ use super::kept;
 use super::sizes::Sizes;
 use boxes::Span;
 use boxes::place;
-use hvcc::ItemStep;
+use hvcc::NextUnit;
 use hvcc::walk as items;
 use unit_list::ListCursor;
 use unit_list::ListStart;
@@ -69,7 +69,7 @@ fn put_kept(
     let mut left = n;
     while 0 < left {
         let step = items::item_step(item, size, at);
-        let ItemStep::Unit(a, next) = step else {
+        let NextUnit::Unit(a, next) = step else {
             return Places { item: at, out: end };
         };
         if kept::kept_at(item, a, target) {

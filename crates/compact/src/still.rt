@@ -3,7 +3,7 @@ use boxes::Span;
 use boxes::place;
 use error::Refusal;
 use error::Written;
-use hvcc::ItemStep;
+use hvcc::NextUnit;
 use hvcc::walk;
 ghost use mathlib.Core.Path.{_≡_};
 ghost use Prim.Native.Nat.{_+_, _≤_, _^_};
@@ -78,7 +78,7 @@ pub fn find_still(length_size: u8, item: &[u8]) -> Still
         return Still::Other;
     }
     let size = place::wide(length_size);
-    let ItemStep::Unit(a, next) = walk::item_step(item, size, 0) else {
+    let NextUnit::Unit(a, next) = walk::item_step(item, size, 0) else {
         return Still::Other;
     };
     if next < item.len() {

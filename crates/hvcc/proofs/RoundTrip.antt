@@ -132,7 +132,7 @@ module _ (size : ℕ) (u : List ℕ) (one : 1 ≤ size) (four : size ≤ 4) (som
       let l = length-chunk in
       let n = number-chunk in
       let e : 0 + size ≡ size = omega arith in
-      let a = left-more size (toChunk size u) 0 (omega arith) (omega arith) (λ z. omega arith) (omega arith) in
+      let a = left-more size (toChunk size u) 0 (omega arith) (λ z. omega arith) (omega arith) in
       let b = left-end size (toChunk size u) (size + length u) (omega arith) in
       items-left size (toChunk size u) one four ∙ (rw (n, e, b) at a)
 

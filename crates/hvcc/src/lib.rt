@@ -13,16 +13,9 @@ ghost use Rattle.boxes.specs.Parts.{PartOf};
 ghost use Rattle.boxes.specs.Walk.{countFound, found};
 ghost use Rattle.hvcc.specs.Item.{splitItem};
 ghost use Rattle.hvcc.specs.Stream.{splitStream};
-ghost use Rattle.hvcc.specs.Answers.{nextOf, nextGiven};
+ghost use Rattle.hvcc.specs.Answers.{nextOf, nextItemUnit, nextGiven};
 
-// One step of a walk over an item: a unit and the place behind it, the end, or a refusal.
-pub enum ItemStep {
-    Unit(Span, usize),
-    End,
-    Refused(Refusal),
-}
-
-// The next unit of a stream and the place behind it, to go on from.
+// The next unit of an item or a stream and the place behind it, to go on from; the end; or a refusal.
 pub enum NextUnit {
     Unit(Span, usize),
     End,
@@ -36,7 +29,7 @@ pub fn split_length_prefixed_count(item: &[u8], length_size: u8) -> Counted
     if LARGEST_INPUT < item.len() {
         return Counted::Refused(Refusal::InputTooLong);
     }
-    if length_size == 0 || 4 < length_size {
+    if walk::outside(length_size) {
         return Counted::Refused(Refusal::PrefixSize);
     }
     walk::item_count(item, place::wide(length_size))
@@ -48,6 +41,22 @@ pub fn split_length_prefixed(item: &[u8], length_size: u8, k: usize) -> &[u8]
 {
     let unit = walk::item_span(item, length_size, k);
     place::part(item, unit)
+}
+
+// The unit whose length stands at a place of an item, and the place behind it, to go on from. Refusals: 23, 4, then in byte order 1 and 5.
+pub fn next_item_unit(item: &[u8], length_size: u8, from: usize) -> NextUnit
+    ensures { λ r. ⌜ nextOf r ≡ nextItemUnit «length_size» (now (item .entry)) from ⌝ }
+{
+    if LARGEST_INPUT < item.len() {
+        return NextUnit::Refused(Refusal::InputTooLong);
+    }
+    if walk::outside(length_size) {
+        return NextUnit::Refused(Refusal::PrefixSize);
+    }
+    if item.len() <= from {
+        return NextUnit::End;
+    }
+    walk::item_step(item, place::wide(length_size), from)
 }
 
 // The first unit whose start code stands at or after a place, and the place behind it, to go on from. Refusal: 23.

@@ -1,5 +1,4 @@
 // For the crates further down: the steps of the walks over items and streams.
-use super::ItemStep;
 use super::NextUnit;
 use boxes::Span;
 use boxes::place;
@@ -10,35 +9,42 @@ ghost use Prim.Native.Nat.{_+_, _-_, _≤_, _<_, _^_};
 ghost use lib.ListN.{length, take, drop};
 ghost use Rattle.error.specs.Answers.{countOf};
 ghost use Rattle.boxes.specs.Walk.{countFound, found};
-ghost use Rattle.hvcc.specs.Item.{splitItem};
+ghost use Rattle.hvcc.specs.Item.{outside, splitItem};
 ghost use Rattle.hvcc.specs.Stream.{trim, splitStream};
-ghost use Rattle.hvcc.specs.Answers.{leftOf, stepped, Onward, HasUnit};
+ghost use Rattle.hvcc.specs.Answers.{leftOf, HasUnit, nextOf, itemStep};
+
+// Whether a prefix size is outside 1 to 4.
+pub fn outside(length_size: u8) -> bool
+    ensures { λ r. ⌜ r ≡ outside «length_size» ⌝ }
+{
+    length_size == 0 || 4 < length_size
+}
 
 // The unit whose length stands at a place of an item, and the place behind it.
-pub fn item_step(item: &[u8], size: usize, at: usize) -> ItemStep
+pub fn item_step(item: &[u8], size: usize, at: usize) -> NextUnit
     requires { ⌜ (1 ≤ size) × (size ≤ 4) × (at ≤ length (now item)) × (length (now item) ≤ 2 ^ 30) ⌝ }
-    ensures { λ r. ⌜ (stepped size (now (item .entry)) r ≡ leftOf size (now (item .entry)) at) × Onward (now (item .entry)) at r ⌝ }
+    ensures { λ r. ⌜ nextOf r ≡ itemStep size (now (item .entry)) at ⌝ }
 {
     let left = item.len() - at;
     if left == 0 {
-        return ItemStep::End;
+        return NextUnit::End;
     }
     if left < size {
-        return ItemStep::Refused(Refusal::Truncated);
+        return NextUnit::Refused(Refusal::Truncated);
     }
     let start = at + size;
     let len = place::number(item, at, size);
     if len == 0 {
-        return ItemStep::Refused(Refusal::ZeroLengthUnit);
+        return NextUnit::Refused(Refusal::ZeroLengthUnit);
     }
     if left - size < len {
-        return ItemStep::Refused(Refusal::Truncated);
+        return NextUnit::Refused(Refusal::Truncated);
     }
     let unit = Span {
         start: start,
         len: len,
     };
-    ItemStep::Unit(unit, start + len)
+    NextUnit::Unit(unit, start + len)
 }
 
 // How many units an item has.
@@ -51,14 +57,14 @@ pub fn item_count(item: &[u8], size: usize) -> Counted
     'walk: loop {
         let step = item_step(item, size, at);
         match step {
-            ItemStep::Unit(_, next) => {
+            NextUnit::Unit(_, next) => {
                 n += 1;
                 at = next;
             }
-            ItemStep::End => {
+            NextUnit::End => {
                 break 'walk;
             }
-            ItemStep::Refused(e) => {
+            NextUnit::Refused(e) => {
                 return Counted::Refused(e);
             }
         }
@@ -75,7 +81,7 @@ pub fn item_unit(item: &[u8], size: usize, k: usize) -> Span
     let mut skip = k;
     let unit = 'walk: loop {
         let step = item_step(item, size, at);
-        let ItemStep::Unit(a, next) = step else {
+        let NextUnit::Unit(a, next) = step else {
             break 'walk Span { start: 0, len: 0 };
         };
         if skip == 0 {

@@ -1,4 +1,3 @@
 mod Given
-mod ItemUnits
 mod Beside
 mod ScratchBound

@@ -7,9 +7,6 @@ use lib.ListN.{length}
 use Rattle.error.specs.Logic.{if_then_else_}
 use Rattle.error.specs.Outcome.{Outcome, accept, refuse, lentInput, lentOutput, counted}
 use Rattle.error.specs.Steps.{_>>=_}
-use Rattle.error.specs.Parse.{Parsed, value, refused}
-use Rattle.boxes.specs.declared.Span.{Span}
-use Rattle.hvcc.specs.Item.{outside, itemUnit}
 use Rattle.hvcc.specs.Answers.{Next}
 use Rattle.full.specs.Read.{FullParsed, parseFull}
 use Rattle.access_unit.specs.AccessUnit.{assemble}
@@ -48,16 +45,3 @@ unfoldable pub streamBeside : List ℕ → List ℕ → Option ℕ → List ℕ 
 streamBeside rec item tols scratch = do
   r ← readBeside rec item
   if leb (length (r .1)) (length scratch) then assemble (r .0 .head) (r .1) item tols else refuse 20
-
--- the unit at a place of an item and the place behind it
-abbrev pub unitRead : Parsed Span → Outcome (Option Next)
-unitRead (value a p) = accept (some (record { unit = a; behind = p }))
-unitRead (refused e) = refuse e
-
--- one step of `split_length_prefixed`: 23, 4, then in byte order 1 and 5; at the end and behind it there is no unit
-unfoldable pub nextItemUnit : ℕ → List ℕ → ℕ → Outcome (Option Next)
-nextItemUnit size item p =
-    lentInput item
-    (if outside size then refuse 4
-    else if leb (length item) p then accept none
-    else unitRead (itemUnit size item p))

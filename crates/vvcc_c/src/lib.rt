@@ -2,15 +2,13 @@
 pub mod answers;
 
 use access_unit::access_unit_annex_b;
-use boxes::Field;
-use boxes::place;
 use error::LARGEST_INPUT;
 use error::Refusal;
 use full_read::FullAnswer;
 ghost use mathlib.Core.Path.{_≡_};
-ghost use Rattle.hvcc.specs.Answers.{nextGiven};
+ghost use Rattle.hvcc.specs.Answers.{nextItemUnit, nextGiven};
 ghost use Rattle.stills.specs.Stills.{stillRecord, stillStream};
-ghost use Rattle.vvcc_c.specs.Exports.{writtenGiven, unitAnswer, targetFrom, scratchFilled, streamBeside, nextItemUnit};
+ghost use Rattle.vvcc_c.specs.Exports.{writtenGiven, unitAnswer, targetFrom, scratchFilled, streamBeside};
 
 // How many bytes now stand at the front of the output, or a refusal's number and 0.
 #[repr(C)]
@@ -104,24 +102,5 @@ pub extern "C" fn vvcc_next_unit(stream: &[u8], from: usize) -> VvccUnit
 pub extern "C" fn vvcc_next_item_unit(item: &[u8], length_size: u8, from: usize) -> VvccUnit
     ensures { λ r. ⌜ r ≡ unitAnswer (nextItemUnit «length_size» (now (item .entry)) from) ⌝ }
 {
-    if LARGEST_INPUT < item.len() {
-        return answers::no_unit(Refusal::InputTooLong);
-    }
-    if length_size == 0 || 4 < length_size {
-        return answers::no_unit(Refusal::PrefixSize);
-    }
-    if item.len() <= from {
-        return answers::end();
-    }
-    let Field::Value(n, start) = boxes::uint_at(item, from, place::wide(length_size)) else {
-        return answers::no_unit(Refusal::Truncated);
-    };
-    if n == 0 {
-        return answers::no_unit(Refusal::ZeroLengthUnit);
-    }
-    let len = n as usize;
-    if item.len() - start < len {
-        return answers::no_unit(Refusal::Truncated);
-    }
-    answers::unit(start, len, start + len)
+    answers::next(hvcc::next_item_unit(item, length_size, from))
 }

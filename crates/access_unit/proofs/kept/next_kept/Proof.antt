@@ -4,8 +4,8 @@ use mathlib.Core.Path.{_≡_, refl, sym, _∙_}
 use lib.ListN.{length}
 use Rattle.access_unit.specs.Answers.{tolsOf}
 use Rattle.access_unit.specs.Inside.{keptLeft}
-use Rattle.hvcc.specs.declared.ItemStep.the-variants.{Unit}
-use Rattle.hvcc.proofs.Items.{Turn, found-unit}
+use Rattle.hvcc.specs.declared.NextUnit.the-variants.{Unit}
+use Rattle.hvcc.proofs.Items.{Turn, found-unit, found-onward}
 use Rattle.access_unit.proofs.KeptUnits.{onward-earlier, over-kept, over-dropped, over-none}
 use borrow.Author.Needs.{needs}
 use native.Mathlib.Omega.{arith}
@@ -32,7 +32,7 @@ returns c =
     let t = c .before in
     let l = t .before .loop in
     let a = t .before .before .before .args in
-    (over-none (a .size) (tolsOf (a .target)) (a .item .now) (l .at) (t .item-step .result) (c .match .keys2) (t .item-step .ensures .0) ∙ l .inv .2, onward-earlier (a .item .now) (a .from) (l .at) (l .inv .0) (t .item-step .result) (t .item-step .ensures .1))
+    (over-none (a .size) (tolsOf (a .target)) (a .item .now) (l .at) (t .item-step .result) (c .match .keys2) (t .item-step .ensures) ∙ l .inv .2, onward-earlier (a .item .now) (a .from) (l .at) (l .inv .0) (t .item-step .result) (found-onward (a .size) (a .item .now) (l .at) (t .item-step .result) (t .item-step .ensures)))
 
 -- the unit that the step found
 unit-at : (c : tie.After-known-told Inv-loop μ-loop)

@@ -41,7 +41,7 @@ returns c =
     let b = c .before .before .before in
     let a = b .before .before .before .args in
     let r = c .before .item-step in
-    let z = kept-none (a .size) (tolsOf (a .target)) (a .item .now) (b .loop .at) (r .result) (over-none (a .size) (tolsOf (a .target)) (a .item .now) (b .loop .at) (r .result) (c .match .keys2) (r .ensures .0)) (c .match .keys2) in
+    let z = kept-none (a .size) (tolsOf (a .target)) (a .item .now) (b .loop .at) (r .result) (over-none (a .size) (tolsOf (a .target)) (a .item .now) (b .loop .at) (r .result) (c .match .keys2) (r .ensures)) (c .match .keys2) in
     absurd (first-some _ _ _ _ _ _ _ _ _ (b .loop .inv .1) (c .before .before .loop-test .taken) z)
 
 -- the unit that the step found

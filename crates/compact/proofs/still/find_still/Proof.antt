@@ -54,7 +54,7 @@ returns-2 : tie.Need-returns-2
 returns-2 c =
     let a = c .before .before .before .before .before .before .args in
     let k = c .before .item-step in (
-      none-still (a .item .now) (leftOf (c .before .before .wide .result) (a .item .now) 0) (found-none _ _ _ (k .result) (k .ensures .0) (c .match .keys2))
+      none-still (a .item .now) (leftOf (c .before .before .wide .result) (a .item .now) 0) (found-none _ _ _ (k .result) (k .ensures) (c .match .keys2))
           ∙ ap (onlyStill (a .item .now)) (left-at (c .before .before)),
       tt,
     )

@@ -5,7 +5,7 @@ use native.Mathlib.Omega.{arith}
 use lib.ListN.{length}
 use borrow.Author.Needs.{needs}
 use Rattle.boxes.specs.Bytes.{be}
-use Rattle.hvcc.proofs.Items.{left-end, left-no-length, left-zero, left-no-bytes, left-more}
+use Rattle.hvcc.proofs.Items.{step-end, step-no-length, step-zero, step-no-bytes, step-there}
 use Rattle.hvcc.proofs.walk.item_step.Statement.{statement}
 use Rattle.hvcc.proofs.walk.item_step.Tie as tie
 
@@ -15,13 +15,13 @@ sub-left c = search needs
 returns : tie.Need-returns
 returns c =
     let a = c .before .before .args in
-    (sym (left-end (a .size) (a .item .now) (a .at) (omega arith)), tt)
+    sym (step-end (a .size) (a .item .now) (a .at) (omega arith))
 
 returns-2 : tie.Need-returns-2
 returns-2 c =
     let a = c .before .before .before .args in
     let i : a .at < length (a .item .now) = omega (arith, c .before .if1 .left) in
-    (sym (left-no-length (a .size) (a .item .now) (a .at) i (omega arith)), tt)
+    sym (step-no-length (a .size) (a .item .now) (a .at) i (omega arith))
 
 add-start : tie.Need-add-start
 add-start c = search needs
@@ -34,14 +34,14 @@ returns-3 c =
     let a = c .before .before .before .before .before .args in
     let i : a .at < length (a .item .now) = omega (arith, c .before .before .before .if1 .left) in
     let n : c .before .number .result ≡ be (a .item .now) (a .at) (a .size) = c .before .number .ensures .0 in
-    (sym (left-zero (a .size) (a .item .now) (a .at) i (omega arith) (omega arith)), tt)
+    sym (step-zero (a .size) (a .item .now) (a .at) i (omega arith) (omega arith))
 
 returns-4 : tie.Need-returns-4
 returns-4 c =
     let a = c .before .before .before .before .before .before .args in
     let i : a .at < length (a .item .now) = omega (arith, c .before .before .before .before .if1 .left) in
     let n : c .before .before .number .result ≡ be (a .item .now) (a .at) (a .size) = c .before .before .number .ensures .0 in
-    (sym (left-no-bytes (a .size) (a .item .now) (a .at) i (omega arith) (λ z. c .before .if3 .left (omega arith)) (omega arith)), tt)
+    sym (step-no-bytes (a .size) (a .item .now) (a .at) i (omega arith) (λ z. c .before .if3 .left (omega arith)) (omega arith))
 
 add-t8 : tie.Need-add-t8
 add-t8 c = search needs
@@ -52,7 +52,7 @@ returns-5 c =
     let i : a .at < length (a .item .now) = omega (arith, c .before .before .before .before .if1 .left) in
     let n : c .before .before .number .result ≡ be (a .item .now) (a .at) (a .size) = c .before .before .number .ensures .0 in
     let z : be (a .item .now) (a .at) (a .size) ≡ 0 → ⊥ = λ z. c .before .if3 .left (omega arith) in
-    (rw n (sym (left-more (a .size) (a .item .now) (a .at) i (omega arith) z (omega arith))), record { some = omega (arith, c .before .if3 .left); ahead = omega arith; behind = search needs; inside = omega arith })
+    rw n (sym (step-there (a .size) (a .item .now) (a .at) i (omega arith) z (omega arith)))
 
 pub item-step-spec : {M : Type 1} → statement M
 item-step-spec =

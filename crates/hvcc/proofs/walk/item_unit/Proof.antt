@@ -52,7 +52,7 @@ walk-again c =
 
 returns : tie.Need-returns Inv-walk μ-walk
 returns c =
-    let z = found-none _ _ _ (c .before .item-step .result) (c .before .item-step .ensures .0) (c .match .keys2) in
+    let z = found-none _ _ _ (c .before .item-step .result) (c .before .item-step .ensures) (c .match .keys2) in
     absurd (omega arith)
 
 returns-2 : tie.Need-returns-2 Inv-walk μ-walk

@@ -1,6 +1,7 @@
 -- What grouping keeps of the units: their number and lengths, and that their arrays can be written.
-use Prim.Native.Nat.{ℕ, suc, _+_, _*_, _^_, _≤_}
+use Prim.Native.Nat.{ℕ, suc, _+_, _*_, _≤_}
 use native.Mathlib.Omega.{arith}
+use native.Mathlib.Nat.{mul-suc}
 use mathlib.Core.Path.{_≡_, refl, ap, _∙_}
 use mathlib.Core.Bool.{Bool, true, false, _||_}
 use mathlib.Core.List.{List, [], _∷_, _++_, map}
@@ -130,6 +131,8 @@ module _ (us : List (List ℕ)) (g : Groupable us) where
   unfolding grouped
   grouped-fit = groups-fit (firsts (map typeOr31 us)) (types-have us (g .types))
 
+-- Their list can be read, whatever their types.
+module _ (us : List (List ℕ)) (types : Every (λ u. typeOr31 u ≤ 31) us) where
   groups-sound : (ts : List ℕ) → EachOf (Has-units us) ts → Sound (map (group us) ts)
   unfolding Has-units
   groups-sound [] e = sound-none
@@ -137,8 +140,10 @@ module _ (us : List (List ℕ)) (g : Groupable us) where
 
   pub grouped-sound : Sound (grouped us)
   unfolding grouped
-  grouped-sound = groups-sound (firsts (map typeOr31 us)) (types-have us (g .types))
+  grouped-sound = groups-sound (firsts (map typeOr31 us)) (types-have us types)
 
+-- Grouping loses no unit and makes none.
+module _ (us : List (List ℕ)) where
   pub grouped-few : length (grouped us) ≤ length us
   unfolding grouped
   grouped-few = omega (arith, length-map (firsts (map typeOr31 us)) (group us), firsts-le (map typeOr31 us), length-map us typeOr31)
@@ -158,29 +163,27 @@ module _ (us : List (List ℕ)) (g : Groupable us) where
       let r = grouped-as us in
       ap length (r .units) ∙ length-map (r .order) (λ i. getD us i []) ∙ r .count
 
--- The length of an encoded list of short units.
-units-long : (us : List (List ℕ)) → Every (λ u. length u ≤ 255) us → length (encodeUnits 4 us) ≤ 259 * length us
+-- How long short units are behind lengths of w bytes, and in a list.
+pub units-long : (w : ℕ) (us : List (List ℕ)) → Every (λ u. length u ≤ 255) us → length (encodeUnits w us) ≤ (w + 255) * length us
 unfolding encodeUnits
-units-long [] e = omega arith
-units-long (u ∷ us) e =
+units-long w [] e = omega arith
+units-long w (u ∷ us) e =
     let h = e .0 in
-    omega (arith, length-append (toChunk 4 u) (encodeUnits 4 us), length-toChunk 4 u, units-long us (e .1))
+    omega (arith, length-append (toChunk w u) (encodeUnits w us), length-toChunk w u, units-long w us (e .1), mul-suc (w + 255) (length us))
 
-every-left : (P : List ℕ → Type 0) (us vs : List (List ℕ)) → Every P (us ++ vs) → Every P us × Every P vs
-every-left P [] vs e = (tt, e)
-every-left P (u ∷ us) vs e = let r = every-left P us vs (e .1) in ((e .0, r .0), r .1)
+pub every-parts : (P : List ℕ → Type 0) (us vs : List (List ℕ)) → Every P (us ++ vs) → Every P us × Every P vs
+every-parts P [] vs e = (tt, e)
+every-parts P (u ∷ us) vs e = let r = every-parts P us vs (e .1) in ((e .0, r .0), r .1)
 
 arrays-long : (xs : List (Array (List ℕ))) → Every (λ u. length u ≤ 255) (unitsOf xs) → length (encodeArrays 4 xs) ≤ 6 * length xs + 259 * length (unitsOf xs)
 unfolding encodeArrays encodeArray unitsOf
 arrays-long [] e = omega arith
 arrays-long (a ∷ xs) e =
-    let r = every-left _ (a .units) (unitsOf xs) e in
+    let r = every-parts _ (a .units) (unitsOf xs) e in
     let rest = a .complete ∷ a .unitType ∷ encodeUnits 4 (a .units) in
-    omega (arith, length-append (toChunk 4 rest) (encodeArrays 4 xs), length-toChunk 4 rest, units-long (a .units) (r .0), arrays-long xs (r .1), length-append (a .units) (unitsOf xs))
+    omega (arith, length-append (toChunk 4 rest) (encodeArrays 4 xs), length-toChunk 4 rest, units-long 4 (a .units) (r .0), arrays-long xs (r .1), length-append (a .units) (unitsOf xs))
 
-pub grouped-long : (us : List (List ℕ)) (g : Groupable us) → length (encode (grouped us)) ≤ 2 ^ 20
+pub grouped-long : (us : List (List ℕ)) → Every (λ u. length u ≤ 255) us → length (encode (grouped us)) ≤ 1 + 265 * length us
 unfolding encode
-grouped-long us g =
-    let n = g .count in
-    let l = arrays-long (grouped us) (every-grouped us g (λ u. length u ≤ 255) (g .short)) in
-    omega (arith, l, grouped-few us g, grouped-count us g)
+grouped-long us short =
+    omega (arith, arrays-long (grouped us) (every-grouped us (λ u. length u ≤ 255) short), grouped-few us, grouped-count us)

@@ -17,19 +17,19 @@ use Rattle.unit_list.proofs.Encode.{UnitsRead, held-encode, decode-encode, unit
 use Rattle.compact.specs.ItemData.{restore}
 use Rattle.compact.specs.declared.CompactVvcConfig.{CompactVvcConfig}
 use Rattle.compact.proofs.Facts.{CompactFacts, compact-facts}
+use Rattle.compact.proofs.RecordUnits.{list-long}
 use Rattle.full.specs.Read.{parseFull}
 use Rattle.full.specs.Write.{headBytes, arraysBytes, fullBytes, recordFits, writeFull, serializeFull}
 use Rattle.full.specs.declared.VvcConfig.{VvcConfig}
 use Rattle.full.proofs.RecordRoundTrip.{Typed, headRead, read-after-write}
 use Rattle.expand.specs.Expand.{Picture, FullHead, grouped, expandedHead, withList, expandUnits, toFull}
-use Rattle.expand.proofs.GroupedFits.{Every}
+use Rattle.expand.proofs.GroupedFits.{Every, units-long, grouped-sound, grouped-few, grouped-count, every-grouped, grouped-long}
 use Rattle.access_unit.specs.AccessUnit.{accessUnit, assemble}
 use Rattle.vvcc.specs.Still.{Bytes}
 use Rattle.vvcc.proofs.Units.{every-of, type-small}
 use Rattle.vvcc.proofs.Expansion.{Expansion, expansion, of-units}
 use Rattle.vvcc.proofs.Lengths.{head-long, arrays-long}
 use Rattle.stills.specs.Inside.{ReadFrom, ExpandedFrom, Plain, streamExpanded}
-use Rattle.stills.proofs.Grouped.{one-long, grouped-sound, grouped-few, grouped-count, grouped-short, grouped-long}
 
 -- what full write accepts is the record's bytes
 written-bytes : (h : VvcConfig) (xs : List (Array (List ℕ))) (b : List ℕ) → writeFull h xs ≡ accept b → fullBytes h xs ≡ b
@@ -65,7 +65,7 @@ module _ (c : CompactVvcConfig) (list : List ℕ) (from : ReadFrom c list) where
   types = every-of (λ u. typeOr31 u ≤ 31) us (λ k h. type-small (getD us k []) (facts .bytes k))
 
   pub list-short : length list ≤ 8554
-  list-short = rw (facts .list-of) (one-long us (facts .most) all-short)
+  list-short = rw (facts .list-of) (omega (arith, list-long us, units-long 4 us all-short, facts .most))
 
   pub size-low : 1 ≤ c .«length_size»
   size-low = rw (sym (from .config)) (facts .size-some)
@@ -89,16 +89,16 @@ module _ (c : CompactVvcConfig) (list : List ℕ) (from : ReadFrom c list) where
         ap (λ (x : FullHead × List ℕ). x .0 .listLength) z ∙ ap (λ (x : FullHead × List ℕ). length (x .1)) (sym z)
 
     pub expanded-short : length expanded-list ≤ 8746
-    expanded-short = rw (expanded .is-list) (grouped-long us (facts .most) (facts .short) types)
+    expanded-short = rw (expanded .is-list) (omega (arith, grouped-long us all-short, facts .most))
 
     abbrev arrays : List ℕ
     arrays = encode (grouped us)
 
     list-lent : length arrays ≤ 2 ^ 30
-    list-lent = omega (arith, grouped-long us (facts .most) (facts .short) types)
+    list-lent = omega (arith, grouped-long us all-short, facts .most)
 
     units-read : UnitsRead arrays (listUnits arrays) (unitsOf (grouped us))
-    units-read = units-encode (grouped us) list-lent (grouped-sound us (facts .most) (facts .short) types)
+    units-read = units-encode (grouped us) list-lent (grouped-sound us types)
 
     abbrev head : VvcConfig
     head = expandedHead c pic (expanded .ptl)
@@ -112,12 +112,12 @@ module _ (c : CompactVvcConfig) (list : List ℕ) (from : ReadFrom c list) where
           high = size-high;
           units = u .spans;
           listed = u .read;
-          some = omega (arith, length-map (u .spans) (held arrays), grouped-count us (facts .most) (facts .short) types, facts .two);
+          some = omega (arith, length-map (u .spans) (held arrays), grouped-count us, facts .two);
         }
 
     written : serializeFull head arrays ≡ writeFull head (grouped us)
     unfolding serializeFull
-    written = rw (decode-encode (grouped us) list-lent (grouped-sound us (facts .most) (facts .short) types), held-encode (grouped us) list-lent)
+    written = rw (decode-encode (grouped us) list-lent (grouped-sound us types), held-encode (grouped us) list-lent)
 
     typed : Typed head
     typed = record {
@@ -135,9 +135,9 @@ module _ (c : CompactVvcConfig) (list : List ℕ) (from : ReadFrom c list) where
           length-append (headBytes head ++ (length (grouped us) ∷ [])) (arraysBytes (grouped us)),
           length-append (headBytes head) (length (grouped us) ∷ []),
           head-long c pic (expanded .ptl) (expanded .writable),
-          arrays-long (grouped us) (grouped-short us (facts .most) (facts .short) types),
-          grouped-few us (facts .most) (facts .short) types,
-          grouped-count us (facts .most) (facts .short) types,
+          arrays-long (grouped us) (every-grouped us (λ u. length u ≤ 255) all-short),
+          grouped-few us,
+          grouped-count us,
           facts .most,
         )
 
@@ -146,7 +146,7 @@ module _ (c : CompactVvcConfig) (list : List ℕ) (from : ReadFrom c list) where
     reads-back b e =
         let w = sym written ∙ e in
         let l = ap length (written-bytes head (grouped us) b w) in
-        read-after-write head typed (grouped us) (grouped-sound us (facts .most) (facts .short) types) b w (omega (arith, record-long))
+        read-after-write head typed (grouped us) (grouped-sound us types) b w (omega (arith, record-long))
 
     -- assembly looks only at what reading back keeps of the head
     assembles-back : (item : List ℕ) (tols : Option ℕ) → assemble (headRead head) arrays item tols ≡ assemble head arrays item tols

@@ -78,13 +78,14 @@ module _ (c : CompactVvcConfig) (pic : Picture) (ptl : VvcPtlRecord) (us : List 
 
   record-fits : recordFits head (grouped us) ≡ true
   unfolding recordFits
-  record-fits = let n = k .few in rw (head-fits, le-leb (length (grouped us)) 255 (omega (arith, grouped-few us (k .units))), grouped-fit us (k .units))
+  record-fits = let n = k .few in rw (head-fits, le-leb (length (grouped us)) 255 (omega (arith, grouped-few us)), grouped-fit us (k .units))
 
   pub written : serializeFull head groupedList ≡ accept (fullBytes head (grouped us))
   unfolding serializeFull writeFull
   written =
-      let l = grouped-long us (k .units) in
-      rw (decode-encode (grouped us) (omega arith) (grouped-sound us (k .units)), held-encode (grouped us) (omega arith), ne-eqb (c .«length_size») 3 (k .size), record-fits)
+      let l = grouped-long us (k .units .short) in
+      let n = k .few in
+      rw (decode-encode (grouped us) (omega arith) (grouped-sound us (k .units .types)), held-encode (grouped us) (omega arith), ne-eqb (c .«length_size») 3 (k .size), record-fits)
 
   writable : Writable head (asWritten ptl 1)
   writable = record {
@@ -103,14 +104,14 @@ module _ (c : CompactVvcConfig) (pic : Picture) (ptl : VvcPtlRecord) (us : List 
         length-append (headBytes head ++ (length (grouped us) ∷ [])) (arraysBytes (grouped us)),
         length-append (headBytes head) (length (grouped us) ∷ []),
         head-long c pic ptl (k .ptl-ok),
-        arrays-long (grouped us) (every-grouped us (k .units) (λ u. length u ≤ 255) (k .units .short)),
-        grouped-few us (k .units),
-        grouped-count us (k .units),
+        arrays-long (grouped us) (every-grouped us (λ u. length u ≤ 255) (k .units .short)),
+        grouped-few us,
+        grouped-count us,
       )
 
   pub read-back : parseFull (fullBytes head (grouped us))
       ≡ accept (record { head = back; consumed = length (fullBytes head (grouped us)); listLength = length groupedList }, groupedList)
-  read-back = read-written head (asWritten ptl 1) (grouped us) writable (grouped-sound us (k .units)) record-fits (omega (arith, record-long))
+  read-back = read-written head (asWritten ptl 1) (grouped us) writable (grouped-sound us (k .units .types)) record-fits (omega (arith, record-long))
 
   -- ---- the item
   abbrev pub item : List ℕ
@@ -151,18 +152,19 @@ module _ (c : CompactVvcConfig) (pic : Picture) (ptl : VvcPtlRecord) (us : List 
 
   pub assembles : (tols : Option ℕ) → assemble back groupedList item tols ≡ accept stream
   assembles tols =
-      let l = grouped-long us (k .units) in
-      let r = units-encode (grouped us) (omega arith) (grouped-sound us (k .units)) in
+      let l = grouped-long us (k .units .short) in
+      let n = k .few in
+      let r = units-encode (grouped us) (omega arith) (grouped-sound us (k .units .types)) in
       one-assembled back groupedList item tols (r .spans) one (0 ∷ 65 ∷ S) (r .read) item-split item-held (λ x. omega arith) (λ x. omega arith) ∙ rw (r .bytes)
 
   all-splits : (j : ℕ) → j < length carried → Splittable (getD carried j [])
-  all-splits = all-split (unitsOf (grouped us)) (0 ∷ 65 ∷ S) (every-grouped us (k .units) Splittable (k .split)) (still-splits S (k .clean))
+  all-splits = all-split (unitsOf (grouped us)) (0 ∷ 65 ∷ S) (every-grouped us Splittable (k .split)) (still-splits S (k .clean))
 
   stream-long : length stream ≤ 2 ^ 30
   stream-long =
       let n = k .few in
       let s = k .short in
-      omega (arith, annexB-long (unitsOf (grouped us)) (0 ∷ 65 ∷ S) (every-grouped us (k .units) (λ u. length u ≤ 255) (k .units .short)), grouped-count us (k .units))
+      omega (arith, annexB-long (unitsOf (grouped us)) (0 ∷ 65 ∷ S) (every-grouped us (λ u. length u ≤ 255) (k .units .short)), grouped-count us)
 
   pub splits : splitStream stream ≡ accept (unitsFrom stream 0)
   unfolding splitStream
@@ -174,13 +176,13 @@ module _ (c : CompactVvcConfig) (pic : Picture) (ptl : VvcPtlRecord) (us : List 
   pub split-count : length (unitsFrom stream 0) ≡ length us + 1
   split-count =
       let e = ap length split-units in
-      omega (arith, e, length-map (unitsFrom stream 0) (held stream), length-append (unitsOf (grouped us)) ((0 ∷ 65 ∷ S) ∷ []), grouped-count us (k .units))
+      omega (arith, e, length-map (unitsFrom stream 0) (held stream), length-append (unitsOf (grouped us)) ((0 ∷ 65 ∷ S) ∷ []), grouped-count us)
 
   unit-held : (j : ℕ) → held stream (getD (unitsFrom stream 0) j nowhere) ≡ getD carried j []
   unit-held j = sym (List·getD-map (held stream) (unitsFrom stream 0) j nowhere) ∙ ap (λ (l : List (List ℕ)). getD l j []) split-units
 
   pub unit-below : (j : ℕ) → j < length us → held stream (getD (unitsFrom stream 0) j nowhere) ≡ getD (unitsOf (grouped us)) j []
-  unit-below j h = unit-held j ∙ List·getD-append (unitsOf (grouped us)) ((0 ∷ 65 ∷ S) ∷ []) [] j (omega (arith, grouped-count us (k .units)))
+  unit-below j h = unit-held j ∙ List·getD-append (unitsOf (grouped us)) ((0 ∷ 65 ∷ S) ∷ []) [] j (omega (arith, grouped-count us))
 
   pub unit-last : held stream (getD (unitsFrom stream 0) (length us) nowhere) ≡ 0 ∷ 65 ∷ S
-  unit-last = unit-held (length us) ∙ getD-at (unitsOf (grouped us)) (0 ∷ 65 ∷ S) [] [] (length us) (grouped-count us (k .units))
+  unit-last = unit-held (length us) ∙ getD-at (unitsOf (grouped us)) (0 ∷ 65 ∷ S) [] [] (length us) (grouped-count us)

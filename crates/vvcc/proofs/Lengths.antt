@@ -1,15 +1,13 @@
 -- How long few short units are, behind their lengths and in a full record.
 use Prim.Native.Nat.{ℕ, _+_, _*_, _≤_}
 use native.Mathlib.Omega.{arith}
-use native.Mathlib.Nat.{mul-suc}
 use mathlib.Core.Bool.{Bool, true, false}
-use mathlib.Core.List.{List, [], _∷_, _++_}
+use mathlib.Core.List.{List, [], _∷_}
 use lib.ListN.{length, length-append}
 use Rattle.error.specs.Logic.{if_then_else_}
-use Rattle.boxes.specs.Bytes.{toBe, toChunk}
+use Rattle.boxes.specs.Bytes.{toBe}
 use Rattle.boxes.proofs.Numbers.{length-toBe}
-use Rattle.unit_list.specs.UnitList.{Array, unitsOf, encodeUnits}
-use Rattle.unit_list.proofs.Encode.{length-toChunk}
+use Rattle.unit_list.specs.UnitList.{Array, unitsOf}
 use Rattle.ptl.specs.declared.VvcPtlRecord.{VvcPtlRecord}
 use Rattle.ptl_record.specs.Write.{ptlBytes}
 use Rattle.ptl_record.proofs.Writing.{fitting, info-long, length-front, length-ptl}
@@ -19,19 +17,7 @@ use Rattle.full.specs.Read.{holdsOne}
 use Rattle.full.specs.Write.{arrayBytes, arraysBytes, headBytes, ptlPart}
 use Rattle.full.specs.declared.VvcConfig.{VvcConfig}
 use Rattle.expand.specs.Expand.{Picture, expandedHead}
-use Rattle.expand.proofs.GroupedFits.{Every}
-
-pub every-parts : (P : List ℕ → Type 0) (us vs : List (List ℕ)) → Every P (us ++ vs) → Every P us × Every P vs
-every-parts P [] vs e = (tt, e)
-every-parts P (u ∷ us) vs e = let r = every-parts P us vs (e .1) in ((e .0, r .0), r .1)
-
--- units behind lengths of w bytes
-pub units-long : (w : ℕ) (us : List (List ℕ)) → Every (λ u. length u ≤ 255) us → length (encodeUnits w us) ≤ (w + 255) * length us
-unfolding encodeUnits
-units-long w [] e = omega arith
-units-long w (u ∷ us) e =
-    let h = e .0 in
-    omega (arith, length-append (toChunk w u) (encodeUnits w us), length-toChunk w u, units-long w us (e .1), mul-suc (w + 255) (length us))
+use Rattle.expand.proofs.GroupedFits.{Every, every-parts, units-long}
 
 pub arrays-long : (xs : List (Array (List ℕ))) → Every (λ u. length u ≤ 255) (unitsOf xs) → length (arraysBytes xs) ≤ 3 * length xs + 257 * length (unitsOf xs)
 unfolding arraysBytes arrayBytes unitsOf

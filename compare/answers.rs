@@ -253,6 +253,20 @@ fn next_unit(s: &[u8], from: usize) -> String {
     }
 }
 
+/// The unit of an item at a place, by the original's splitting of as much of what lies from there on as the unit's length says.
+fn next_item_unit(s: &[u8], size: u8, from: usize) -> Result<String, Refusal> {
+    let rest = s.get(from..).unwrap_or(&[]);
+    let len = Reader::new(rest).uint(size.clamp(1, 4).into(), "length");
+    let end = len.map_or(rest.len(), |n| {
+        rest.len().min(usize::from(size) + n as usize)
+    });
+    let units = split_length_prefixed(&rest[..end], size).map_err(|e| number(&e))?;
+    Ok(units.first().map_or(" 0".into(), |u| {
+        let start = u.as_ptr() as usize - s.as_ptr() as usize;
+        format!(" 1 {start} {} {}", u.len(), start + u.len())
+    }))
+}
+
 fn cropped(c: &Case) -> String {
     let four = |at| c.number(at, 4) as u32;
     let window = (c.byte(9) != 0).then(|| (four(10), four(14), four(18), four(22)));
@@ -321,6 +335,7 @@ fn plain(c: &Case) -> Result<String, Refusal> {
         25 => format!(" {}", split_annex_b(s).len()),
         26 => part(&split_annex_b(s), k),
         27 => next_unit(s, k as usize),
+        39 => next_item_unit(s, t, k as usize)?,
         34 => {
             let (h, _) = with_list(c, 0)?;
             if h.ptl_present_flag && h.bit_depth_minus8 > 247 {

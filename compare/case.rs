@@ -15,7 +15,7 @@ pub struct Case {
 const FRONT: usize = 18;
 
 /// The names of the calls by their numbers, from 1 on.
-pub const NAMES: [&str; 38] = [
+pub const NAMES: [&str; 39] = [
     "number",
     "uint_at",
     "u8_at",
@@ -54,6 +54,7 @@ pub const NAMES: [&str; 38] = [
     "access_unit_annex_b",
     "access_unit_count",
     "access_unit_nal",
+    "next_item_unit",
 ];
 
 /// The digits of bytes, in lower case.

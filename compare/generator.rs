@@ -111,6 +111,9 @@ pub fn short_strings(longest: usize, emit: Emit) {
         (30, vec![0, 1]),
         (31, vec![0, 1]),
         (32, vec![]),
+        (39, size_and_k(1, 0)),
+        (39, size_and_k(1, 1)),
+        (39, size_and_k(2, 0)),
     ];
     let mut i = 0;
     for (op, numbers) in plain {
@@ -195,6 +198,7 @@ pub fn numbers(emit: Emit) {
             list_bytes(&[VvcNalArray::new(true, 3, vec![vec![5]; 9])]),
         ));
         emit(Case::new(24, size_and_k(1, at), [1, 9].repeat(9)));
+        emit(Case::new(39, size_and_k(1, at), [1, 9].repeat(9)));
         emit(Case::new(26, size_and_k(0, at), [0, 0, 1, 9].repeat(9)));
     }
 }
@@ -471,9 +475,10 @@ fn parameter_set(r: &mut Rng, op: u8) -> Vec<u8> {
 
 /// Any call on an input of its shape.
 pub fn any(r: &mut Rng) -> Case {
-    const CALLS: [u8; 46] = [
-        2, 6, 9, 14, 15, 16, 17, 18, 19, 19, 19, 20, 20, 21, 22, 23, 24, 25, 26, 27, 28, 28, 28,
-        29, 29, 30, 31, 31, 32, 32, 32, 32, 33, 33, 33, 34, 34, 35, 35, 35, 36, 36, 36, 36, 37, 38,
+    const CALLS: [u8; 50] = [
+        2, 6, 7, 8, 9, 14, 15, 16, 17, 18, 19, 19, 19, 20, 20, 21, 22, 23, 24, 25, 26, 27, 28, 28,
+        28, 29, 29, 30, 31, 31, 32, 32, 32, 32, 33, 33, 33, 34, 34, 35, 35, 35, 36, 36, 36, 36, 37,
+        38, 39, 39,
     ];
     let op = r.pick(&CALLS);
     let mut second = Vec::new();
@@ -483,7 +488,7 @@ pub fn any(r: &mut Rng) -> Case {
             let numbers = [eight(r.below(14) as u64), eight(r.below(6) as u64)].concat();
             (numbers, r.bytes(n))
         }
-        6 | 9 => {
+        6..=9 => {
             let u = shapes::unit(r);
             (vec![], shapes::maybe_damaged(r, u, 3))
         }
@@ -504,6 +509,13 @@ pub fn any(r: &mut Rng) -> Case {
         23 | 24 => {
             let size = size(r);
             (size_and_k(size, index(r)), shapes::item(r, size))
+        }
+        39 => {
+            let size = size(r);
+            let s = shapes::item(r, size);
+            let unit = r.below(s.len() + 2) as u64;
+            let k = if r.one_in(3) { 0 } else { unit };
+            (size_and_k(size, k), s)
         }
         25..=27 => {
             let s = shapes::stream(r);

@@ -48,6 +48,9 @@ fn sizes(calls: &mut Calls) {
             vec![],
         ));
         calls.push((23, vec![size], vec![0, 0, 0, 1, 9], vec![]));
+        for k in [0, 1, 3, 4, 5] {
+            calls.push((39, size_and_k(size, k), vec![0, 0, 0, 1, 9], vec![]));
+        }
         calls.push((30, vec![0, size], vec![9], vec![]));
         calls.push((31, vec![0, size], vec![0, 0, 0, 3, 0, 0x41, 9], vec![]));
         calls.push((31, vec![1, size], vec![0, 0, 0, 3, 0, 0x41, 9], vec![]));

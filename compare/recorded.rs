@@ -166,7 +166,7 @@ impl List {
             (&long.line(), "case too long\n"),
             (&together.line(), "case too long\n"),
             (&beyond, "case too long\n"),
-            (&none(39).line(), "39 no such call =abab\n"),
+            (&none(40).line(), "40 no such call =abab\n"),
             (&none(0).line(), "0 no such call =abab\n"),
             (&odd, "6 0 1 0 =\n"),
         ] {

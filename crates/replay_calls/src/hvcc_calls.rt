@@ -4,9 +4,8 @@ use hvcc::NextUnit;
 use replay_text::fields;
 use replay_text::shown;
 
-// `next_unit`: 1, where the unit lies and the place behind it, or 0 where there is none.
-fn next(stream: &[u8], from: usize, text: &mut [u8], at: usize) -> usize {
-    let r = hvcc::next_unit(stream, from);
+// The next unit: 1, where it lies and the place behind it, or 0 where there is none.
+fn next(r: NextUnit, text: &mut [u8], at: usize) -> usize {
     match r {
         NextUnit::Unit(a, behind) => shown::span(text, at, a, behind),
         NextUnit::End => shown::number(text, at, 0),
@@ -23,6 +22,7 @@ pub fn answer(op: u8, numbers: &[u8], s: &[u8], text: &mut [u8], at: usize) -> u
         24 => shown::part(text, at, hvcc::split_length_prefixed(s, size, k)),
         25 => shown::counted(text, at, hvcc::split_annex_b_count(s)),
         26 => shown::part(text, at, hvcc::split_annex_b(s, k)),
-        _ => next(s, k, text, at),
+        27 => next(hvcc::next_unit(s, k), text, at),
+        _ => next(hvcc::next_item_unit(s, size, k), text, at),
     }
 }

@@ -40,7 +40,7 @@ fn answer<'a>(
         6..=13 => nal_calls::answer(op, numbers, first, out, at),
         14..=17 => list_calls::answer(op, numbers, first, out, at),
         18..=22 => params_calls::answer(op, fill, numbers, first, lent, out, at),
-        23..=27 => hvcc_calls::answer(op, numbers, first, out, at),
+        23..=27 | 39 => hvcc_calls::answer(op, numbers, first, out, at),
         28..=31 | 35 => compact_calls::answer(op, numbers, first, lent, out, at),
         32..=34 => full_calls::answer(op, fill, numbers, first, lent, out, at),
         36..=38 => access_calls::answer(op, fill, numbers, first, second, lent, out, at),

@@ -6,3 +6,4 @@ pub mod SubProfileValues
 pub mod Whole
 pub mod Bounds
 pub mod Local
+pub mod Examples

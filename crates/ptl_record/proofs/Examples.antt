@@ -1,30 +1,14 @@
 -- A PTL that meets every premise of the round trip: that of document 01's worked record (profile 1, level 51, frame-only, one constraint byte).
 use Prim.Native.Nat.{ℕ, zero, suc, _<_, _^_}
 use mathlib.Core.Path.{_≡_, refl}
-use mathlib.Core.Bool.{true, false}
+use mathlib.Core.Bool.{false}
 use mathlib.Core.List.{[], _∷_}
 use native.Mathlib.Omega.{arith}
 use lib.ListN.{getD, replicate}
-use Rattle.ptl.specs.declared.VvcPtlRecord.{VvcPtlRecord}
+use Rattle.ptl.proofs.Examples.{ptlOfP}
 use Rattle.ptl_record.specs.Write.{withFlags, subProfiles, ptlBytes, ptlFits}
 use Rattle.ptl_record.proofs.AsWritten.{Canonical}
 use Rattle.ptl_record.proofs.RoundTrip.{Writable}
-
-abbrev pub worked : VvcPtlRecord
-worked = record {
-  «general_profile_idc» = 1;
-  «general_tier_flag» = false;
-  «general_level_idc» = 51;
-  «ptl_frame_only_constraint_flag» = true;
-  «ptl_multilayer_enabled_flag» = false;
-  «num_bytes_constraint_info» = 1;
-  «general_constraint_info» = replicate 63 0;
-  «num_sublayer_levels» = 0;
-  «sublayer_level_present_flag» = replicate 7 false;
-  «sublayer_level_idc» = replicate 7 0;
-  «num_sub_profiles» = 0;
-  «general_sub_profile_idc» = replicate 255 0;
-}
 
 all : {A : Type 0} (n i : ℕ) (z : A) → getD (replicate n z) i z ≡ z
 all zero i z = refl
@@ -34,11 +18,11 @@ all (suc n) (suc i) z = all n i z
 small : (n i : ℕ) → getD (replicate n 0) i 0 < 2 ^ 32
 small n i = let e = all {A = ℕ} n i 0 in omega arith
 
-pub worked-writable : Writable worked
+pub worked-writable : Writable ptlOfP
 unfolding ptlFits
 worked-writable = record { fits = refl; info-is = refl; subs-are = refl; subs-small = λ i. small 255 i }
 
-pub worked-canonical : Canonical worked 1
+pub worked-canonical : Canonical ptlOfP 1
 worked-canonical = record {
   info-is = refl;
   info-some = omega arith;
@@ -57,6 +41,6 @@ worked-canonical = record {
 }
 
 -- 01 02 33 80 00
-pub worked-bytes : ptlBytes worked 1 ≡ 1 ∷ 2 ∷ 51 ∷ 128 ∷ 0 ∷ []
+pub worked-bytes : ptlBytes ptlOfP 1 ≡ 1 ∷ 2 ∷ 51 ∷ 128 ∷ 0 ∷ []
 unfolding ptlBytes withFlags subProfiles
 worked-bytes = refl

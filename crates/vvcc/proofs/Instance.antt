@@ -19,7 +19,8 @@ use Rattle.ptl.specs.Ptl.{presentFlags, levels, withoutFlags, constraintBits, g
 use Rattle.params.specs.Heads.{window, spsHead, parseSps}
 use Rattle.compact.specs.Compact.{atEnd, compactRecord, oneArray, parseCompact}
 use Rattle.expand.specs.Expand.{Picture, havingType, without, firsts, grouped, multiLayerVps, ptlOfSets, expandedHead, expandUnits, toFull}
-use Rattle.vvcc.proofs.Worked.{P, Q, C, ptlOfP}
+use Rattle.ptl.proofs.Examples.{ptlOfP}
+use Rattle.vvcc.proofs.Worked.{P, Q, C}
 use Rattle.vvcc.specs.Still.{Bytes, Clean, AtMostOne, unitsIn, Still}
 
 -- bytes, by a test

@@ -1,9 +1,9 @@
 -- The starred worked bytes of document 01, as one table: each line computes from the definitions that the contracts cite.
 use Prim.Native.Nat.{ℕ}
 use mathlib.Core.Path.{_≡_, refl}
-use mathlib.Core.Bool.{true, false}
+use mathlib.Core.Bool.{false}
 use mathlib.Core.List.{List, [], _∷_, _++_}
-use lib.ListN.{length, replicate}
+use lib.ListN.{length}
 use Rattle.error.specs.Outcome.{Outcome, accept, refuse, andThen}
 use Rattle.error.specs.Parse.{value, refused, times, many, manyUpTo}
 use Rattle.boxes.specs.Bytes.{be, toBe, uint, bytes, chunk, toChunk, inside}
@@ -12,8 +12,7 @@ use Rattle.rbsp.specs.Rbsp.{drops, nextZeros, unescape, rbsp}
 use Rattle.rbsp.specs.Bits.{bitsAt, u, skip, align, zerosBeforeOne, ue}
 use Rattle.ptl.specs.Ptl.{presentFlags, levels, withoutFlags, constraintBits, generalConstraintsInfo, constraintBytes, profileTierLevel}
 use Rattle.params.specs.Heads.{window, spsHead, vpsPtl, parseSps, vpsFirstPtl}
-use Rattle.ptl.specs.declared.VvcPtlRecord.{VvcPtlRecord}
-use Rattle.params.specs.declared.SpsHead.{SpsHead}
+use Rattle.params.proofs.Examples.{headOfP}
 use Rattle.compact.specs.Compact.{CompactParsed, atEnd, compactRecord, oneArray, parseCompact}
 use Rattle.compact.specs.ItemData.{restore}
 use Rattle.compact.specs.declared.CompactVvcConfig.{CompactVvcConfig}
@@ -36,43 +35,6 @@ C = 0x60 ∷ 0x0B ∷ P ++ (0x03 ∷ Q)
 
 abbrev plain : ℕ → CompactVvcConfig
 plain size = record { «multi_layer_flag» = false; «length_size» = size }
-
--- profile 1, level 51, frame-only, one constraint byte
-abbrev pub ptlOfP : VvcPtlRecord
-ptlOfP = record {
-  «general_profile_idc» = 1;
-  «general_tier_flag» = false;
-  «general_level_idc» = 51;
-  «ptl_frame_only_constraint_flag» = true;
-  «ptl_multilayer_enabled_flag» = false;
-  «num_bytes_constraint_info» = 1;
-  «general_constraint_info» = replicate 63 0;
-  «num_sublayer_levels» = 0;
-  «sublayer_level_present_flag» = replicate 7 false;
-  «sublayer_level_idc» = replicate 7 0;
-  «num_sub_profiles» = 0;
-  «general_sub_profile_idc» = replicate 255 0;
-}
-
--- chroma 1, CTU 7, 16 by 8, depth 8
-abbrev pub headOfP : SpsHead
-headOfP = record {
-  «sps_id» = 0;
-  «vps_id» = 0;
-  «max_sublayers_minus1» = 0;
-  «chroma_format_idc» = 1;
-  «log2_ctu_size» = 7;
-  «ptl_present_flag» = true;
-  ptl = ptlOfP;
-  «pic_width» = 16;
-  «pic_height» = 8;
-  «conformance_window_flag» = false;
-  «conf_win_left_offset» = 0;
-  «conf_win_right_offset» = 0;
-  «conf_win_top_offset» = 0;
-  «conf_win_bottom_offset» = 0;
-  «bit_depth» = 8;
-}
 
 -- a read list expanded with chroma 1, depth 8, 16 by 8, and the full record of that
 abbrev written : Outcome (CompactParsed × List ℕ) → Outcome (List ℕ)

@@ -8,7 +8,6 @@ ghost use Prim.Native.Nat.{_+_, _≤_, _^_};
 ghost use lib.ListN.{length};
 ghost use lib.Seq.{sets};
 ghost use Rattle.boxes.specs.Bytes.{toBe};
-ghost use Rattle.ptl_record.specs.Write.{bit};
 ghost use Rattle.full.specs.Write.{ptlPart, headBytes, ptlPartFits, headFits};
 
 // Whether every field under the PTL flag fits its place.
@@ -78,19 +77,12 @@ fn put_ptl_part(out: &mut [u8], at: usize, h: VvcConfig) -> usize
     behind + 6
 }
 
-// 1 for a flag that is set.
-fn bit_of(b: bool) -> u8
-    ensures { λ r. ⌜ (r ≡ bit b) × (r ≤ 1) ⌝ }
-{
-    if b { 1 } else { 0 }
-}
-
 // Stores a head at the front of lent memory, and gives the place behind it; what lies past the end is left out.
 pub fn put_head(out: &mut [u8], h: VvcConfig) -> usize
     requires { ⌜ headFits h ≡ true ⌝ }
     ensures { λ r. ⌜ (r ≡ length (headBytes h)) × (now (out .exit) ≡ sets (now (out .entry)) 0 (headBytes h)) × (r ≤ 1104) ⌝ }
 {
-    let flag = bit_of(h.ptl_present_flag);
+    let flag = write::bit_of(h.ptl_present_flag);
     place::put(out, 0, 248 + (h.length_size - 1) * 2 + flag);
     if h.ptl_present_flag {
         return put_ptl_part(out, 1, h);

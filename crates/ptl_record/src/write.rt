@@ -29,7 +29,7 @@ pub fn ptl_fits(p: VvcPtlRecord) -> bool
 }
 
 // 1 for a flag that is set.
-fn bit_of(b: bool) -> u8
+pub fn bit_of(b: bool) -> u8
     ensures { λ r. ⌜ (r ≡ bit b) × (r ≤ 1) ⌝ }
 {
     if b { 1 } else { 0 }

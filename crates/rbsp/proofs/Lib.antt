@@ -7,3 +7,4 @@ pub mod Local
 pub mod Examples
 pub mod Readers
 pub mod ReaderCalls
+pub mod ReadsOfBits

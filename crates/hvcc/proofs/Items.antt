@@ -232,7 +232,7 @@ module _ (size : ℕ) (s : List ℕ) (p : ℕ) where
   read-left h (value a q) e = sym (left-step size s p a q h e)
   read-left h (refused n) e = sym (left-bad size s p n h e)
 
-  pub walk-step : walked size s (itemStep size s p) ≡ leftOf size s p
+  walk-step : walked size s (itemStep size s p) ≡ leftOf size s p
   walk-step =
       elim (decLe (length s) p) [
         | yes k ↦ ap (walked size s) (step-end size s p k) ∙ sym (left-end size s p k)
@@ -256,22 +256,24 @@ step-ahead size s p a next e =
     go (refused n) h f = let z : _≡_ {A = ℕ} 0 1 = cc in absurd (omega arith)
     go (value b q) h f =
         let n : _≡_ {A = Next} (record { unit = b; behind = q }) (record { unit = a; behind = next }) = cc in
-        let u = ap (λ (m : Next). m .unit) n in
         let r = unit-read size s p a next (h ∙ ap (λ (m : Next). value (m .unit) (m .behind)) n) in
         record { some = r .some; ahead = r .ahead; behind = r .next; inside = r .fits }
 
 module _ (size : ℕ) (s : List ℕ) (p : ℕ) (r : NextUnit) (said : nextOf r ≡ itemStep size s p) where
-  pub found-left : walked size s (nextOf r) ≡ leftOf size s p
+  found-left : walked size s (nextOf r) ≡ leftOf size s p
   found-left = ap (walked size s) said ∙ walk-step size s p
 
+  found-as : (x : NextUnit) → r ≡ x → leftOf size s p ≡ walked size s (nextOf x)
+  found-as x e = sym found-left ∙ ap (λ (y : NextUnit). walked size s (nextOf y)) e
+
   pub found-unit : (a : Span) (next : ℕ) → r ≡ N.Unit a next → Turn size s p a next
-  found-unit a next e = record { here = step-ahead size s p a next (sym said ∙ ap nextOf e); rest = sym found-left ∙ ap (λ (x : NextUnit). walked size s (nextOf x)) e }
+  found-unit a next e = record { here = step-ahead size s p a next (sym said ∙ ap nextOf e); rest = found-as (N.Unit a next) e }
 
   pub found-end : r ≡ N.End → leftOf size s p ≡ accept []
-  found-end e = sym found-left ∙ ap (λ (x : NextUnit). walked size s (nextOf x)) e
+  found-end e = found-as N.End e
 
   pub found-refusal : (e : Refusal) → r ≡ N.Refused e → leftOf size s p ≡ refuse (numberOf e)
-  found-refusal e w = sym found-left ∙ ap (λ (x : NextUnit). walked size s (nextOf x)) w
+  found-refusal e w = found-as (N.Refused e) w
 
 -- it lies ahead, if there is one
 pub found-onward : (size : ℕ) (s : List ℕ) (p : ℕ) (r : NextUnit) → nextOf r ≡ itemStep size s p → Onward s p r

@@ -1,5 +1,5 @@
 -- What an accepted head says of its numbers.
-use mathlib.Core.Path.{_≡_, refl, sym, _∙_, subst}
+use mathlib.Core.Path.{_≡_, refl, ap, sym, _∙_, subst}
 use mathlib.Core.Bool.{Bool, true, false, not}
 use mathlib.Core.List.{List, [], _∷_}
 use Prim.Native.Nat.{ℕ, zero, suc, _+_, _≤_, _<_}
@@ -10,9 +10,13 @@ use lib.Seq.{getD-drop}
 use borrow.Author.Tests.{ltb-false}
 use Rattle.error.specs.Logic.{if_then_else_}
 use Rattle.error.specs.Outcome.{accept}
-use Rattle.error.specs.Parse.{value, refuseIf}
+use Rattle.error.specs.Parse.{value, bind, refuseIf}
 use Rattle.rbsp.specs.Rbsp.{drops, nextZeros, unescape, rbsp}
 use Rattle.rbsp.specs.Bits.{u, isSet, align, ue}
+use Rattle.rbsp.specs.Answers.{parsed}
+use Rattle.rbsp.specs.declared.BitPosition.{BitPosition}
+use Rattle.rbsp.specs.declared.BitsRead.{BitsRead}
+use Rattle.rbsp.specs.declared.BitsRead.the-variants.{Value, Refused}
 use Rattle.rbsp.proofs.Choice.{if-elim}
 use Rattle.rbsp.proofs.Numbers.{u-read}
 use Rattle.ptl.specs.Ptl.{zeroPtl}
@@ -20,7 +24,7 @@ use Rattle.ptl.specs.declared.VvcPtlRecord.{VvcPtlRecord}
 use Rattle.ptl.proofs.Parts.{first}
 use Rattle.ptl.proofs.Bounds.{Below, Fits, ptl-fits}
 use Rattle.params.specs.Heads.{spsHead, vpsPtl, parseSps, vpsFirstPtl}
-use Rattle.params.specs.Sections.{ids, ptlWhere, size, windowWhere, depth, headOf}
+use Rattle.params.specs.Sections.{partBehind, ids, ptlStart, ptlWhere, size, windowWhere, depth, headOf}
 use Rattle.params.specs.declared.SpsHead.{SpsHead}
 use Rattle.params.specs.declared.sps.SpsIds.{SpsIds}
 use Rattle.params.proofs.SpsSections.{sps-sections}
@@ -56,6 +60,11 @@ ids-bounds s p i q e =
     let r₆ = u-read 1 s p₅ hasPtl p₆ h₆ in
     record { next = omega arith; sublayers = omega arith; chroma = omega arith; ctu-low = omega arith; ctu-high = omega arith }))))))
 
+-- so a PTL can be read behind them
+pub ids-start : (s : List ℕ) (r : BitsRead) (i : SpsIds) → partBehind r i ≡ ids s 0 → ptlStart r (i .«max_sublayers_minus1»)
+ids-start s (Value v q) i h = let d = ids-bounds s 0 i (q .0) (sym h) in (omega (arith, d .next), d .sublayers)
+ids-start s (Refused e) i h = tt
+
 -- the bit depth minus 8
 pub depth-bounds : (s : List ℕ) (p d q : ℕ) → depth s p ≡ value d q → d ≤ 8
 unfolding depth
@@ -64,6 +73,9 @@ depth-bounds s p d q e =
     first (ue s p₂) _ e₂ (λ v p₃ h₃ e₃. first (refuseIf (ltb 8 v) 14 s p₃) _ e₃ (λ _ p₄ h₄ e₄.
     let x : v ≡ d = cc in
     omega (arith, ltb-false 8 v (passed-test (ltb 8 v) 14 s p₃ h₄))))))
+
+pub depth-behind : (s : List ℕ) (prior r : BitsRead) {d : ℕ} {q : BitPosition} → parsed r ≡ bind (parsed prior) (λ _ p. depth s p) → r ≡ Value d q → d ≤ 8
+depth-behind s prior r {d} {q} h e = first (parsed prior) _ (sym h ∙ ap parsed e) (λ _ p _ k. depth-bounds s p d (q .0) k)
 
 -- ---- an SPS's head
 pub record SpsFits (h : SpsHead) : Type 0 where

@@ -1,22 +1,26 @@
 -- The SPS's head, the VPS up to its first PTL and an OPI's operating point, in the sections that the code reads one by one; laws say that they make
 -- up the whole.
+use mathlib.Core.Path.{_≡_}
 use mathlib.Core.Bool.{Bool, not}
-use Prim.Native.Nat.{ℕ, _+_}
+use Prim.Native.Nat.{ℕ, _+_, _%_, _≤_}
 use lib.Dec.{ltb, eqb}
 use Rattle.error.specs.Logic.{if_then_else_}
 use Rattle.error.specs.Parse.{Parsed, value, refused, bind, Parser, _>>=_, _>>_, give, refuseIf}
-use Rattle.error.specs.declared.Refusal.{Refusal}
-use Rattle.error.specs.declared.Refusal.the-variants.{BitsRunOut}
 use Rattle.rbsp.specs.Bits.{u, isSet, align, ue}
+use Rattle.rbsp.specs.Answers.{parsed}
+use Rattle.rbsp.specs.declared.BitsRead.{BitsRead}
+use Rattle.rbsp.specs.declared.BitsRead.the-variants as B
 use Rattle.ptl.specs.Ptl.{profileTierLevel, zeroPtl}
-use Rattle.ptl.specs.declared.PtlAnswer.{PtlAnswer}
-use Rattle.ptl.specs.declared.PtlAnswer.the-variants as A
 use Rattle.ptl.specs.declared.VvcPtlRecord.{VvcPtlRecord}
 use Rattle.params.specs.Heads.{Window, window, noWindow}
 use Rattle.params.specs.declared.SpsHead.{SpsHead}
 use Rattle.params.specs.declared.sps.SpsIds.{SpsIds}
 use Rattle.params.specs.declared.sps.SpsSize.{SpsSize}
 use Rattle.params.specs.declared.sps.ConfWindow.{ConfWindow}
+
+-- what a section's last read says with what stands beside it; on a refusal nothing is said of that
+abbrev pub partBehind : {A : Type 0} → BitsRead → A → Parsed A
+partBehind r a = bind (parsed r) (λ _ q. value a q)
 
 -- up to sps_ptl_dpb_hrd_params_present_flag: two bytes
 unfoldable pub ids : Parser SpsIds
@@ -35,6 +39,11 @@ ids = do
     «log2_ctu_size» = ctu + 5;
     «ptl_present_flag» = isSet hasPtl;
   })
+
+-- a PTL of s sublayers minus 1 can be read behind a read: it starts at a whole byte, and s has three bits
+abbrev pub ptlStart : BitsRead → ℕ → Type 0
+ptlStart (B.Value v q) s = (q .0 % 8 ≡ 0) × (s ≤ 7)
+ptlStart (B.Refused e) s = Unit {0}
 
 -- profile_tier_level( 1, s ) where the flag is set, all zeros where not
 abbrev pub ptlWhere : Bool → ℕ → Parser VvcPtlRecord
@@ -87,11 +96,6 @@ headOf i p z w d = record {
   «conf_win_bottom_offset» = w .bottom;
   «bit_depth» = d + 8;
 }
-
--- the refusal of a refused part; one that was read has none, and some refusal stands for that
-abbrev pub partRefusal : PtlAnswer → Refusal
-partRefusal (A.Read q) = BitsRunOut
-partRefusal (A.Refused e) = e
 
 -- the VPS up to vps_ptl_alignment_zero_bit: vps_max_sublayers_minus1, and the position at which the PTL starts
 unfoldable pub vpsFront : Parser ℕ

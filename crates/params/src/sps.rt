@@ -8,21 +8,23 @@ use ptl::PtlBits;
 use ptl::VvcPtlRecord;
 use rbsp::BitPosition;
 use rbsp::BitsRead;
+use rbsp::behind;
 use rbsp::bits;
 ghost use mathlib.Core.Path.{_≡_};
-ghost use Prim.Native.Nat.{_+_, _%_, _≤_, _<_};
+ghost use Prim.Native.Nat.{_+_, _≤_};
 ghost use lib.ListN.{length};
 ghost use Rattle.error.specs.Logic.{if_then_else_};
 ghost use Rattle.error.specs.Outcome.{refuse};
-ghost use Rattle.error.specs.Parse.{give};
+ghost use Rattle.error.specs.Parse.{bind, give};
 ghost use Rattle.error.specs.Refusals.{numberOf};
 ghost use Rattle.rbsp.specs.Rbsp.{rbsp};
 ghost use Rattle.rbsp.specs.Bits.{u, isSet};
 ghost use Rattle.rbsp.specs.Answers.{parsed};
+ghost use Rattle.ptl.specs.Ptl.{zeroPtl};
 ghost use Rattle.ptl.specs.Sections.{partOf};
-ghost use Rattle.params.specs.Heads.{window, noWindow, spsHead, zeroSps};
+ghost use Rattle.params.specs.Heads.{window, spsHead, zeroSps};
 ghost use Rattle.params.specs.Answers.{readOr, spsOf};
-ghost use Rattle.params.specs.Sections.{ids, ptlWhere, size, windowWhere, windowOf, depth, headOf, partRefusal};
+ghost use Rattle.params.specs.Sections.{partBehind, ids, ptlStart, ptlWhere, size, windowWhere, windowOf, depth, headOf};
 
 // The fields in front of the PTL.
 pub struct SpsIds {
@@ -34,8 +36,9 @@ pub struct SpsIds {
     pub ptl_present_flag: bool,
 }
 
+// A section's last read, which is refused where one of the section's is, and what was read.
 pub struct SpsIdsRead {
-    pub answer: PtlAnswer,
+    pub answer: BitsRead,
     pub part: SpsIds,
 }
 
@@ -47,7 +50,7 @@ pub struct SpsSize {
 }
 
 pub struct SpsSizeRead {
-    pub answer: PtlAnswer,
+    pub answer: BitsRead,
     pub part: SpsSize,
 }
 
@@ -60,223 +63,156 @@ pub struct ConfWindow {
 }
 
 pub struct ConfWindowRead {
-    pub answer: PtlAnswer,
+    pub answer: BitsRead,
     pub part: ConfWindow,
-}
-
-// The refusal of a refused part; of one that was read, which no caller asks for, 11.
-pub fn refusal(answer: PtlAnswer) -> Refusal
-    ensures { λ e. ⌜ e ≡ partRefusal answer ⌝ }
-{
-    match answer {
-        PtlAnswer::Refused(e) => e,
-        PtlAnswer::Read(_) => Refusal::BitsRunOut,
-    }
-}
-
-// The refusal of a read, with nothing beside it.
-fn no_ids(e: Refusal) -> SpsIdsRead
-    ensures { λ r. ⌜ r .answer ≡ PtlAnswer.Refused e ⌝ }
-{
-    let part = SpsIds {
-        sps_id: 0,
-        vps_id: 0,
-        max_sublayers_minus1: 0,
-        chroma_format_idc: 0,
-        log2_ctu_size: 0,
-        ptl_present_flag: false,
-    };
-    let answer = PtlAnswer::Refused(e);
-    SpsIdsRead { answer, part }
 }
 
 // The fields in front of the PTL, two bytes. Refusal: 11.
 fn read_ids(rbsp: &[u8], at: BitPosition) -> SpsIdsRead
     requires { ⌜ length (now rbsp) ≤ 1132 ⌝ }
-    ensures { λ r. ⌜ partOf (r .answer) (r .part) ≡ ids (now (rbsp .entry)) (at .0) ⌝ }
+    ensures { λ r. ⌜ partBehind (r .answer) (r .part) ≡ ids (now (rbsp .entry)) (at .0) ⌝ }
 {
-    let r1 = bits::read_bits(rbsp, at, 4);
-    let BitsRead::Value(id, p1) = r1 else {
-        return no_ids(bits::refusal(r1));
-    };
-    let r2 = bits::read_bits(rbsp, p1, 4);
-    let BitsRead::Value(vps, p2) = r2 else {
-        return no_ids(bits::refusal(r2));
-    };
-    let r3 = bits::read_bits(rbsp, p2, 3);
-    let BitsRead::Value(s, p3) = r3 else {
-        return no_ids(bits::refusal(r3));
-    };
-    let r4 = bits::read_bits(rbsp, p3, 2);
-    let BitsRead::Value(chroma, p4) = r4 else {
-        return no_ids(bits::refusal(r4));
-    };
-    let r5 = bits::read_bits(rbsp, p4, 2);
-    let BitsRead::Value(ctu, p5) = r5 else {
-        return no_ids(bits::refusal(r5));
-    };
-    let r6 = bits::read_bits(rbsp, p5, 1);
-    let BitsRead::Value(has_ptl, p6) = r6 else {
-        return no_ids(bits::refusal(r6));
-    };
+    let id = bits::read_bits(rbsp, at, 4);
+    let vps = behind::read_bits(rbsp, id, 4);
+    let s = behind::read_bits(rbsp, vps, 3);
+    let chroma = behind::read_bits(rbsp, s, 2);
+    let ctu = behind::read_bits(rbsp, chroma, 2);
+    let has_ptl = behind::read_bits(rbsp, ctu, 1);
     let part = SpsIds {
-        sps_id: id as u8,
-        vps_id: vps as u8,
-        max_sublayers_minus1: s as u8,
-        chroma_format_idc: chroma as u8,
-        log2_ctu_size: ctu as u8 + 5,
-        ptl_present_flag: has_ptl == 1,
+        sps_id: behind::number(id) as u8,
+        vps_id: behind::number(vps) as u8,
+        max_sublayers_minus1: behind::number(s) as u8,
+        chroma_format_idc: behind::number(chroma) as u8,
+        log2_ctu_size: behind::number(ctu) as u8 + 5,
+        ptl_present_flag: behind::number(has_ptl) == 1,
     };
-    let answer = PtlAnswer::Read(p6);
-    SpsIdsRead { answer, part }
+    SpsIdsRead {
+        answer: has_ptl,
+        part,
+    }
 }
 
-// The PTL where its flag is set, all zeros where not. Refusal: 11.
-fn read_ptl(rbsp: &[u8], at: BitPosition, present: bool, s: u8) -> PtlBits
-    requires { ⌜ (length (now rbsp) ≤ 1132) × (at .0 % 8 ≡ 0) × (s ≤ 7) ⌝ }
-    ensures { λ r. ⌜ partOf (r .answer) (r .ptl) ≡ ptlWhere present s (now (rbsp .entry)) (at .0) ⌝ }
+// An answer beside a PTL of zeros.
+fn without_ptl(answer: PtlAnswer) -> PtlBits
+    ensures { λ r. ⌜ r ≡ record { answer = answer; ptl = zeroPtl } ⌝ }
 {
-    if present {
-        return ptl::bits::parse_ptl(rbsp, at, s);
-    }
-    let answer = PtlAnswer::Read(at);
     let zeros = ptl::bits::zero_ptl();
     PtlBits { answer, ptl: zeros }
 }
 
-// sps_res_change_in_clvs_allowed_flag where resampling is enabled, no bits where not. Refusal: 11.
-fn read_res_change(rbsp: &[u8], at: BitPosition, resampling: u32) -> BitsRead
-    requires { ⌜ length (now rbsp) ≤ 1132 ⌝ }
-    ensures { λ r. ⌜ parsed r ≡ (if isSet resampling then u 1 else give 0) (now (rbsp .entry)) (at .0) ⌝ }
+// The PTL behind a read where its flag is set, all zeros where not. Refusals: that read's, then 11.
+fn read_ptl(rbsp: &[u8], prior: BitsRead, present: bool, s: u8) -> PtlBits
+    requires { ⌜ (length (now rbsp) ≤ 1132) × ptlStart prior s ⌝ }
+    ensures { λ r. ⌜ partOf (r .answer) (r .ptl) ≡ bind (parsed prior) (λ _ q. ptlWhere present s (now (rbsp .entry)) q) ⌝ }
 {
+    let BitsRead::Value(_, at) = prior else {
+        return without_ptl(PtlAnswer::Refused(bits::refusal(prior)));
+    };
+    if present {
+        return ptl::bits::parse_ptl(rbsp, at, s);
+    }
+    without_ptl(PtlAnswer::Read(at))
+}
+
+// The position behind a PTL, or its refusal, as a read of the number 0.
+fn behind_ptl(answer: PtlAnswer) -> BitsRead
+    ensures { λ r. ⌜ parsed r ≡ partOf answer 0 ⌝ }
+{
+    match answer {
+        PtlAnswer::Read(at) => BitsRead::Value(0, at),
+        PtlAnswer::Refused(e) => BitsRead::Refused(e),
+    }
+}
+
+// sps_res_change_in_clvs_allowed_flag where resampling is enabled, no bits where not. Refusals: the read's before it, then 11.
+fn read_res_change(rbsp: &[u8], prior: BitsRead, resampling: u32) -> BitsRead
+    requires { ⌜ length (now rbsp) ≤ 1132 ⌝ }
+    ensures { λ r. ⌜ parsed r ≡ bind (parsed prior) (λ _ q. (if isSet resampling then u 1 else give 0) (now (rbsp .entry)) q) ⌝ }
+{
+    let BitsRead::Value(_, at) = prior else {
+        return prior;
+    };
     if resampling == 1 {
         return bits::read_bits(rbsp, at, 1);
     }
     BitsRead::Value(0, at)
 }
 
-// The refusal of a read, with nothing beside it.
-fn no_size(e: Refusal) -> SpsSizeRead
-    ensures { λ r. ⌜ r .answer ≡ PtlAnswer.Refused e ⌝ }
-{
-    let part = SpsSize {
-        pic_width: 0,
-        pic_height: 0,
-        conformance_window_flag: false,
-    };
-    let answer = PtlAnswer::Refused(e);
-    SpsSizeRead { answer, part }
-}
-
-// The fields from the PTL to the window's flag. Refusals: 11, 12.
-fn read_size(rbsp: &[u8], at: BitPosition) -> SpsSizeRead
+// The fields from the PTL to the window's flag. Refusals: the read's before them, then 11, 12.
+fn read_size(rbsp: &[u8], prior: BitsRead) -> SpsSizeRead
     requires { ⌜ length (now rbsp) ≤ 1132 ⌝ }
-    ensures { λ r. ⌜ partOf (r .answer) (r .part) ≡ size (now (rbsp .entry)) (at .0) ⌝ }
+    ensures { λ r. ⌜ partBehind (r .answer) (r .part) ≡ bind (parsed prior) (λ _ q. size (now (rbsp .entry)) q) ⌝ }
 {
-    let r1 = bits::read_bits(rbsp, at, 1);
-    let BitsRead::Value(_, p1) = r1 else {
-        return no_size(bits::refusal(r1));
-    };
-    let r2 = bits::read_bits(rbsp, p1, 1);
-    let BitsRead::Value(resampling, p2) = r2 else {
-        return no_size(bits::refusal(r2));
-    };
-    let r3 = read_res_change(rbsp, p2, resampling);
-    let BitsRead::Value(_, p3) = r3 else {
-        return no_size(bits::refusal(r3));
-    };
-    let r4 = bits::exp_golomb(rbsp, p3);
-    let BitsRead::Value(pic_width, p4) = r4 else {
-        return no_size(bits::refusal(r4));
-    };
-    let r5 = bits::exp_golomb(rbsp, p4);
-    let BitsRead::Value(pic_height, p5) = r5 else {
-        return no_size(bits::refusal(r5));
-    };
-    let r6 = bits::read_bits(rbsp, p5, 1);
-    let BitsRead::Value(has_window, p6) = r6 else {
-        return no_size(bits::refusal(r6));
-    };
+    let gdr = behind::read_bits(rbsp, prior, 1);
+    let resampling = behind::read_bits(rbsp, gdr, 1);
+    let res_change = read_res_change(rbsp, resampling, behind::number(resampling));
+    let width = behind::exp_golomb(rbsp, res_change);
+    let height = behind::exp_golomb(rbsp, width);
+    let has_window = behind::read_bits(rbsp, height, 1);
     let part = SpsSize {
-        pic_width,
-        pic_height,
-        conformance_window_flag: has_window == 1,
+        pic_width: behind::number(width),
+        pic_height: behind::number(height),
+        conformance_window_flag: behind::number(has_window) == 1,
     };
-    let answer = PtlAnswer::Read(p6);
-    SpsSizeRead { answer, part }
+    SpsSizeRead {
+        answer: has_window,
+        part,
+    }
 }
 
-// An answer beside no window.
-fn no_window(answer: PtlAnswer) -> ConfWindowRead
-    ensures { λ r. ⌜ (r .answer ≡ answer) × (windowOf (r .part) ≡ noWindow) ⌝ }
+// The window's four offsets. Refusals: the read's before them, then 11, 12.
+fn read_offsets(rbsp: &[u8], prior: BitsRead) -> ConfWindowRead
+    requires { ⌜ length (now rbsp) ≤ 1132 ⌝ }
+    ensures { λ r. ⌜ partBehind (r .answer) (windowOf (r .part)) ≡ bind (parsed prior) (λ _ q. window (now (rbsp .entry)) q) ⌝ }
 {
+    let left = behind::exp_golomb(rbsp, prior);
+    let right = behind::exp_golomb(rbsp, left);
+    let top = behind::exp_golomb(rbsp, right);
+    let bottom = behind::exp_golomb(rbsp, top);
+    let part = ConfWindow {
+        left: behind::number(left),
+        right: behind::number(right),
+        top: behind::number(top),
+        bottom: behind::number(bottom),
+    };
+    ConfWindowRead {
+        answer: bottom,
+        part,
+    }
+}
+
+// The window where its flag is set, all zeros where not. Refusals: the read's before it, then 11, 12.
+fn read_window(rbsp: &[u8], prior: BitsRead, present: bool) -> ConfWindowRead
+    requires { ⌜ length (now rbsp) ≤ 1132 ⌝ }
+    ensures { λ r. ⌜ partBehind (r .answer) (windowOf (r .part)) ≡ bind (parsed prior) (λ _ q. windowWhere present (now (rbsp .entry)) q) ⌝ }
+{
+    if present {
+        return read_offsets(rbsp, prior);
+    }
     let part = ConfWindow {
         left: 0,
         right: 0,
         top: 0,
         bottom: 0,
     };
-    ConfWindowRead { answer, part }
-}
-
-// The window's four offsets. Refusals: 11, 12.
-fn read_offsets(rbsp: &[u8], at: BitPosition) -> ConfWindowRead
-    requires { ⌜ length (now rbsp) ≤ 1132 ⌝ }
-    ensures { λ r. ⌜ partOf (r .answer) (windowOf (r .part)) ≡ window (now (rbsp .entry)) (at .0) ⌝ }
-{
-    let r1 = bits::exp_golomb(rbsp, at);
-    let BitsRead::Value(left, p1) = r1 else {
-        return no_window(PtlAnswer::Refused(bits::refusal(r1)));
-    };
-    let r2 = bits::exp_golomb(rbsp, p1);
-    let BitsRead::Value(right, p2) = r2 else {
-        return no_window(PtlAnswer::Refused(bits::refusal(r2)));
-    };
-    let r3 = bits::exp_golomb(rbsp, p2);
-    let BitsRead::Value(top, p3) = r3 else {
-        return no_window(PtlAnswer::Refused(bits::refusal(r3)));
-    };
-    let r4 = bits::exp_golomb(rbsp, p3);
-    let BitsRead::Value(bottom, p4) = r4 else {
-        return no_window(PtlAnswer::Refused(bits::refusal(r4)));
-    };
-    let part = ConfWindow {
-        left,
-        right,
-        top,
-        bottom,
-    };
-    let answer = PtlAnswer::Read(p4);
-    ConfWindowRead { answer, part }
-}
-
-// The window where its flag is set, all zeros where not. Refusals: 11, 12.
-fn read_window(rbsp: &[u8], at: BitPosition, present: bool) -> ConfWindowRead
-    requires { ⌜ length (now rbsp) ≤ 1132 ⌝ }
-    ensures { λ r. ⌜ partOf (r .answer) (windowOf (r .part)) ≡ windowWhere present (now (rbsp .entry)) (at .0) ⌝ }
-{
-    if present {
-        return read_offsets(rbsp, at);
+    ConfWindowRead {
+        answer: prior,
+        part,
     }
-    no_window(PtlAnswer::Read(at))
 }
 
-// The bit depth minus 8, behind the subpictures' flag. Refusals in bit order: 11, 12, 13, 14.
-fn read_depth(rbsp: &[u8], at: BitPosition) -> BitsRead
+// The bit depth minus 8, behind the subpictures' flag. Refusals: the read's before it, then in bit order 11, 12, 13, 14.
+fn read_depth(rbsp: &[u8], prior: BitsRead) -> BitsRead
     requires { ⌜ length (now rbsp) ≤ 1132 ⌝ }
-    ensures { λ r. ⌜ parsed r ≡ depth (now (rbsp .entry)) (at .0) ⌝ }
+    ensures { λ r. ⌜ parsed r ≡ bind (parsed prior) (λ _ q. depth (now (rbsp .entry)) q) ⌝ }
 {
-    let r1 = bits::read_bits(rbsp, at, 1);
-    let BitsRead::Value(subpictures, p1) = r1 else {
-        return r1;
-    };
+    let r1 = behind::read_bits(rbsp, prior, 1);
+    let subpictures = behind::number(r1);
     if subpictures == 1 {
         return BitsRead::Refused(Refusal::Subpictures);
     }
-    let r2 = bits::exp_golomb(rbsp, p1);
-    let BitsRead::Value(depth, _) = r2 else {
-        return r2;
-    };
+    let r2 = behind::exp_golomb(rbsp, r1);
+    let depth = behind::number(r2);
     if 8 < depth {
         return BitsRead::Refused(Refusal::BitDepth);
     }
@@ -341,28 +277,17 @@ fn parse_rbsp(rbsp: &[u8]) -> SpsRead
     let r1 = read_ids(rbsp, BitPosition(0));
     let a1 = r1.answer;
     let ids = r1.part;
-    let PtlAnswer::Read(p1) = a1 else {
-        return no_sps(refusal(a1));
-    };
-    let r2 = read_ptl(rbsp, p1, ids.ptl_present_flag, ids.max_sublayers_minus1);
+    let r2 = read_ptl(rbsp, a1, ids.ptl_present_flag, ids.max_sublayers_minus1);
     let a2 = r2.answer;
+    let behind = behind_ptl(a2);
     let ptl_read = r2.ptl;
-    let PtlAnswer::Read(p2) = a2 else {
-        return no_sps(refusal(a2));
-    };
-    let r3 = read_size(rbsp, p2);
+    let r3 = read_size(rbsp, behind);
     let a3 = r3.answer;
     let size = r3.part;
-    let PtlAnswer::Read(p3) = a3 else {
-        return no_sps(refusal(a3));
-    };
-    let r4 = read_window(rbsp, p3, size.conformance_window_flag);
+    let r4 = read_window(rbsp, a3, size.conformance_window_flag);
     let a4 = r4.answer;
     let window = r4.part;
-    let PtlAnswer::Read(p4) = a4 else {
-        return no_sps(refusal(a4));
-    };
-    let r5 = read_depth(rbsp, p4);
+    let r5 = read_depth(rbsp, a4);
     let BitsRead::Value(depth, _) = r5 else {
         return no_sps(bits::refusal(r5));
     };

@@ -16,3 +16,8 @@ parsed (Refused e) = refused (numberOf e)
 abbrev pub refusalOf : BitsRead → Refusal
 refusalOf (Value v q) = BitsRunOut
 refusalOf (Refused e) = e
+
+-- the number of a read; a refused one has none, and 0 stands for that
+abbrev pub numberIn : BitsRead → ℕ
+numberIn (Value v q) = v
+numberIn (Refused e) = 0

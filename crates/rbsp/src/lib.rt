@@ -1,4 +1,5 @@
 // Emulation prevention removed from a payload, and bits read from what is left.
+pub mod behind;
 pub mod bits;
 pub mod fill;
 pub mod reader;

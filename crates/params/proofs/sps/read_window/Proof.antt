@@ -9,11 +9,8 @@ read-offsets-requires c κs = search needs
 returns : tie.Need-returns
 returns c = rw (c .before .if1 .taken) (c .read-offsets .ensures)
 
-no-window-requires : tie.Need-no-window-requires
-no-window-requires c κs = search needs
-
 returns-2 : tie.Need-returns-2
-returns-2 c = rw (c .before .if1 .left, c .no-window .ensures .0, c .no-window .ensures .1)
+returns-2 c = rw (c .if1 .left)
 
 pub read-window-spec : {M : Type 1} → statement M
-read-window-spec = tie.close (tie.spec read-offsets-requires returns no-window-requires returns-2)
+read-window-spec = tie.close (tie.spec read-offsets-requires returns returns-2)

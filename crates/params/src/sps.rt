@@ -5,7 +5,6 @@ use super::SpsRead;
 use error::Refusal;
 use ptl::PtlAnswer;
 use ptl::PtlBits;
-use ptl::VvcPtlRecord;
 use rbsp::BitPosition;
 use rbsp::BitsRead;
 use rbsp::behind;
@@ -100,24 +99,28 @@ fn without_ptl(answer: PtlAnswer) -> PtlBits
     PtlBits { answer, ptl: zeros }
 }
 
-// The PTL behind a read where its flag is set, all zeros where not. Refusals: that read's, then 11.
-fn read_ptl(rbsp: &[u8], prior: BitsRead, present: bool, s: u8) -> PtlBits
-    requires { ⌜ (length (now rbsp) ≤ 1132) × ptlStart prior s ⌝ }
-    ensures { λ r. ⌜ partOf (r .answer) (r .ptl) ≡ bind (parsed prior) (λ _ q. ptlWhere present s (now (rbsp .entry)) q) ⌝ }
+// The PTL behind the fields in front of it where its flag is set, all zeros where not. Refusals: theirs, then 11.
+fn read_ptl(rbsp: &[u8], ids: SpsIdsRead) -> PtlBits
+    requires { ⌜ (length (now rbsp) ≤ 1132) × ptlStart (ids .answer) (ids .part .«max_sublayers_minus1») ⌝ }
+    ensures { λ r. ⌜ partOf (r .answer) (r .ptl) ≡ bind (parsed (ids .answer)) (λ _ q.
+        ptlWhere (ids .part .«ptl_present_flag») (ids .part .«max_sublayers_minus1») (now (rbsp .entry)) q) ⌝ }
 {
+    let prior = ids.answer;
+    let part = ids.part;
     let BitsRead::Value(_, at) = prior else {
         return without_ptl(PtlAnswer::Refused(bits::refusal(prior)));
     };
-    if present {
-        return ptl::bits::parse_ptl(rbsp, at, s);
+    if part.ptl_present_flag {
+        return ptl::bits::parse_ptl(rbsp, at, part.max_sublayers_minus1);
     }
     without_ptl(PtlAnswer::Read(at))
 }
 
 // The position behind a PTL, or its refusal, as a read of the number 0.
-fn behind_ptl(answer: PtlAnswer) -> BitsRead
-    ensures { λ r. ⌜ parsed r ≡ partOf answer 0 ⌝ }
+fn behind_ptl(ptl: PtlBits) -> BitsRead
+    ensures { λ r. ⌜ parsed r ≡ partOf (ptl .answer) 0 ⌝ }
 {
+    let answer = ptl.answer;
     match answer {
         PtlAnswer::Read(at) => BitsRead::Value(0, at),
         PtlAnswer::Refused(e) => BitsRead::Refused(e),
@@ -182,11 +185,14 @@ fn read_offsets(rbsp: &[u8], prior: BitsRead) -> ConfWindowRead
 }
 
 // The window where its flag is set, all zeros where not. Refusals: the read's before it, then 11, 12.
-fn read_window(rbsp: &[u8], prior: BitsRead, present: bool) -> ConfWindowRead
+fn read_window(rbsp: &[u8], size: SpsSizeRead) -> ConfWindowRead
     requires { ⌜ length (now rbsp) ≤ 1132 ⌝ }
-    ensures { λ r. ⌜ partBehind (r .answer) (windowOf (r .part)) ≡ bind (parsed prior) (λ _ q. windowWhere present (now (rbsp .entry)) q) ⌝ }
+    ensures { λ r. ⌜ partBehind (r .answer) (windowOf (r .part)) ≡ bind (parsed (size .answer)) (λ _ q.
+        windowWhere (size .part .«conformance_window_flag») (now (rbsp .entry)) q) ⌝ }
 {
-    if present {
+    let prior = size.answer;
+    let seen = size.part;
+    if seen.conformance_window_flag {
         return read_offsets(rbsp, prior);
     }
     let part = ConfWindow {
@@ -246,10 +252,14 @@ pub fn no_sps(e: Refusal) -> SpsRead
 }
 
 // The head that the sections make up.
-fn head_of(ids: SpsIds, ptl: VvcPtlRecord, size: SpsSize, window: ConfWindow, depth: u32) -> SpsHead
+fn head_of(i: SpsIdsRead, p: PtlBits, z: SpsSizeRead, w: ConfWindowRead, depth: u32) -> SpsHead
     requires { ⌜ depth ≤ 8 ⌝ }
-    ensures { λ r. ⌜ r ≡ headOf ids ptl size (windowOf window) depth ⌝ }
+    ensures { λ r. ⌜ r ≡ headOf (i .part) (p .ptl) (z .part) (windowOf (w .part)) depth ⌝ }
 {
+    let ids = i.part;
+    let ptl = p.ptl;
+    let size = z.part;
+    let window = w.part;
     SpsHead {
         sps_id: ids.sps_id,
         vps_id: ids.vps_id,
@@ -274,22 +284,14 @@ fn parse_rbsp(rbsp: &[u8]) -> SpsRead
     requires { ⌜ length (now rbsp) ≤ 1132 ⌝ }
     ensures { λ r. ⌜ spsOf r ≡ readOr zeroSps (spsHead (now (rbsp .entry)) 0) ⌝ }
 {
-    let r1 = read_ids(rbsp, BitPosition(0));
-    let a1 = r1.answer;
-    let ids = r1.part;
-    let r2 = read_ptl(rbsp, a1, ids.ptl_present_flag, ids.max_sublayers_minus1);
-    let a2 = r2.answer;
-    let behind = behind_ptl(a2);
-    let ptl_read = r2.ptl;
-    let r3 = read_size(rbsp, behind);
-    let a3 = r3.answer;
-    let size = r3.part;
-    let r4 = read_window(rbsp, a3, size.conformance_window_flag);
-    let a4 = r4.answer;
-    let window = r4.part;
-    let r5 = read_depth(rbsp, a4);
-    let BitsRead::Value(depth, _) = r5 else {
-        return no_sps(bits::refusal(r5));
+    let ids = read_ids(rbsp, BitPosition(0));
+    let ptl_read = read_ptl(rbsp, ids);
+    let size = read_size(rbsp, behind_ptl(ptl_read));
+    let window = read_window(rbsp, size);
+    let behind_window = window.answer;
+    let r = read_depth(rbsp, behind_window);
+    let BitsRead::Value(depth, _) = r else {
+        return no_sps(bits::refusal(r));
     };
     let head = head_of(ids, ptl_read, size, window, depth);
     let answer = ParamsAnswer::Read;

@@ -17,7 +17,7 @@ read-ids-requires : tie.Need-read-ids-requires
 read-ids-requires c κs = search needs
 
 read-ptl-requires : tie.Need-read-ptl-requires
-read-ptl-requires c κs = (c .before .before .before .pre, ids-start _ (c .before .read-ids .result .answer) (c .before .read-ids .result .part) (c .before .read-ids .ensures))
+read-ptl-requires c κs = (c .before .before .pre, ids-start _ (c .read-ids .result .answer) (c .read-ids .result .part) (c .read-ids .ensures))
 
 behind-ptl-requires : tie.Need-behind-ptl-requires
 behind-ptl-requires c κs = search needs
@@ -29,10 +29,10 @@ read-window-requires : tie.Need-read-window-requires
 read-window-requires c κs = search needs
 
 read-depth-requires : tie.Need-read-depth-requires
-read-depth-requires c κs = c .before .before .before .before .before .before .before .before .before .before .pre
+read-depth-requires c κs = search needs
 
-enum-known-r5 : tie.Need-enum-known-r5
-enum-known-r5 c = search needs
+enum-known-r : tie.Need-enum-known-r
+enum-known-r c = search needs
 
 enum-told : tie.Need-enum-told
 enum-told c = search needs
@@ -44,32 +44,35 @@ no-sps-requires : tie.Need-no-sps-requires
 no-sps-requires c κs = search needs
 
 -- the sections' answers make up the head
-sections : (c : tie.After-read-depth) → spsHead (c .before .before .before .before .before .before .before .before .before .before .before .args .rbsp .now) 0
-    ≡ bind (parsed (c .read-depth .result)) (λ _ q. value (headOf (c .before .before .before .before .before .before .before .before .before .read-ids .result .part) (c .before .before .before .before .before .before .before .read-ptl .result .ptl) (c .before .before .before .before .read-size .result .part) (windowOf (c .before .before .read-window .result .part)) (numberIn (c .read-depth .result))) q)
+sections : (c : tie.After-read-depth) → spsHead (c .before .before .before .before .before .before .before .args .rbsp .now) 0
+    ≡ bind (parsed (c .read-depth .result)) (λ _ q. value (headOf (c .before .before .before .before .before .read-ids .result .part) (c .before .before .before .before .read-ptl .result .ptl) (c .before .before .read-size .result .part) (windowOf (c .before .read-window .result .part)) (numberIn (c .read-depth .result))) q)
 sections c =
-    let k4 = c .before .before in
-    let k3 = k4 .before .before in
-    let k2 = k3 .before .before in
-    let k1 = k2 .before .before .before in
+    let k5 = c .before in
+    let k4 = k5 .before in
+    let k3 = k4 .before in
+    let k2 = k3 .before in
+    let k1 = k2 .before in
     let r1 = k1 .read-ids .result in
-    let r2 = k2 .before .read-ptl .result in
-    let r3 = k3 .read-size .result in
-    let r4 = k4 .read-window .result in
+    let r2 = k2 .read-ptl .result in
+    let r4 = k4 .read-size .result in
+    let r5 = k5 .read-window .result in
     sps-sections _ _
     ∙ part-on (r1 .answer) (r1 .part) _ (k1 .read-ids .ensures)
-    ∙ part-onward (r1 .answer) (k2 .behind-ptl .result) _ (r2 .ptl) _ (behind-part (k2 .behind-ptl .result) (r2 .answer) (r2 .ptl) (k2 .behind-ptl .ensures) ∙ k2 .before .read-ptl .ensures)
-    ∙ part-onward (k2 .behind-ptl .result) (r3 .answer) _ (r3 .part) _ (k3 .read-size .ensures)
-    ∙ part-onward (r3 .answer) (r4 .answer) _ _ _ (k4 .read-window .ensures)
-    ∙ onward (r4 .answer) (c .read-depth .result) _ _ (c .read-depth .ensures)
+    ∙ part-onward (r1 .answer) (k3 .behind-ptl .result) _ (r2 .ptl) _ (behind-part (k3 .behind-ptl .result) (r2 .answer) (r2 .ptl) (k3 .behind-ptl .ensures) ∙ k2 .read-ptl .ensures)
+    ∙ part-onward (k3 .behind-ptl .result) (r4 .answer) _ (r4 .part) _ (k4 .read-size .ensures)
+    ∙ part-onward (r4 .answer) (r5 .answer) _ _ _ (k5 .read-window .ensures)
+    ∙ onward (r5 .answer) (c .read-depth .result) _ _ (c .read-depth .ensures)
 
 returns : tie.Need-returns
 returns c = c .no-sps .ensures ∙ sym (ap (readOr zeroSps) (sections (c .before .before .before .before) ∙ ended _ refl (c .before .before .enum-told .given .1) (c .before .refusal .ensures)))
 
 head-of-requires : tie.Need-head-of-requires
-head-of-requires c κs = depth-behind _ (c .before .before .before .before .before .read-window .result .answer) (c .before .before .before .read-depth .result) (c .before .before .before .read-depth .ensures) (c .before .r5 .given .1)
+head-of-requires c κs =
+    let k = c .before .before .before in
+    depth-behind _ (k .before .read-window .result .answer) (k .read-depth .result) (k .read-depth .ensures) (c .before .r .given .1)
 
 returns-2 : tie.Need-returns-2
-returns-2 c = rw (c .head-of .ensures, sections (c .before .before .before .before), c .before .before .r5 .given .1)
+returns-2 c = rw (c .head-of .ensures, sections (c .before .before .before .before), c .before .before .r .given .1)
 
 pub parse-rbsp-spec : {M : Type 1} → statement M
-parse-rbsp-spec = tie.close (tie.spec read-ids-requires read-ptl-requires behind-ptl-requires read-size-requires read-window-requires read-depth-requires enum-known-r5 enum-told refusal-requires no-sps-requires returns head-of-requires returns-2)
+parse-rbsp-spec = tie.close (tie.spec read-ids-requires read-ptl-requires behind-ptl-requires read-size-requires read-window-requires read-depth-requires enum-known-r enum-told refusal-requires no-sps-requires returns head-of-requires returns-2)

@@ -24,8 +24,8 @@ returns c = rw (c .without-ptl .ensures, c .before .refusal .ensures, c .before 
 
 parse-ptl-requires : tie.Need-parse-ptl-requires
 parse-ptl-requires c κs =
-    let k = subst (λ p. ptlStart p (c .before .before .before .before .before .args .s)) (c .before .before .prior .given .1) (c .before .before .before .before .before .pre .1) in
-    (omega (arith, c .before .before .before .before .before .pre .0), k .0, k .1)
+    let k = subst (λ p. ptlStart p (c .before .before .before .before .before .before .args .ids .part .«max_sublayers_minus1»)) (c .before .before .prior .given .1) (c .before .before .before .before .before .before .pre .1) in
+    (omega (arith, c .before .before .before .before .before .before .pre .0), k .0, k .1)
 
 returns-2 : tie.Need-returns-2
 returns-2 c = rw (c .before .before .before .prior .given .1, c .before .if1 .taken) (ptl-part (c .parse-ptl .result) _ (c .parse-ptl .ensures))

@@ -76,12 +76,13 @@ hands-first : {A B : Type 0} (f : A → B) (z : B) (o : Outcome A) → handsBack
 hands-first f z (accept a) = refl
 hands-first f z (refuse e) = refl
 
--- an accepted record: the arrays that were read, whose list is as long as reading says
+-- an accepted record: the head and arrays that were read, and their list, as long as reading says
 pub record ReadAs (s : List ℕ) (r : FullParsed) (list : List ℕ) : Type 0 where
   pub what : VvcConfig × List (Array Span)
   pub behind : ℕ
   pub reads : vvcRecord s 0 ≡ value what behind
-  pub same : length list ≡ length (encode (heldArrays s (what .1)))
+  pub head : r .head ≡ what .0
+  pub same : list ≡ encode (heldArrays s (what .1))
   pub long : r .listLength ≡ length list
 
 parsed-as : (s : List ℕ) (x : Parsed (VvcConfig × List (Array Span))) → vvcRecord s 0 ≡ x → (r : FullParsed) (list : List ℕ) → fullParsed s x ≡ accept (r, list) → ReadAs s r list
@@ -89,8 +90,15 @@ parsed-as s (refused e) w r list h = let z : _≡_ {A = ℕ} 0 1 = cc in absurd 
 parsed-as s (value (head, arrays) p) w r list h =
     let parsed : FullParsed = record { head = head; consumed = p; listLength = length (encode (heldArrays s arrays)) } in
     let y : _≡_ {A = FullParsed × List ℕ} (parsed, encode (heldArrays s arrays)) (r, list) = cc in
-    let l = ap (λ (v : FullParsed × List ℕ). length (v .1)) y in
-    record { what = (head, arrays); behind = p; reads = w; same = sym l; long = sym (ap (λ (v : FullParsed × List ℕ). v .0 .listLength) y) ∙ l }
+    let l = ap (λ (v : FullParsed × List ℕ). v .1) y in
+    record {
+      what = (head, arrays);
+      behind = p;
+      reads = w;
+      head = sym (ap (λ (v : FullParsed × List ℕ). v .0 .head) y);
+      same = sym l;
+      long = sym (ap (λ (v : FullParsed × List ℕ). v .0 .listLength) y) ∙ ap length l;
+    }
 
 pub read-as : (s : List ℕ) (r : FullParsed) (list : List ℕ) → parseFull s ≡ accept (r, list) → ReadAs s r list
 unfolding parseFull

@@ -1,3 +1,2 @@
 mod Given
-mod Beside
-mod ScratchBound
+pub mod Beside

@@ -1,0 +1,5 @@
+pub mod Reading
+pub mod FullRecord
+pub mod Outputs
+pub mod Assembled
+pub mod AccessUnit

@@ -1,0 +1,34 @@
+-- How many bytes always suffice for what a call for C writes, and what it then answers.
+use Prim.Native.Nat.{ℕ, _+_, _*_, _/_, _%_, _≤_}
+use mathlib.Core.Path.{_≡_}
+use mathlib.Core.Bool.{Bool}
+use mathlib.Core.List.{List}
+use lib.Dec.{eqb}
+use lib.ListN.{length, getD}
+use Rattle.error.specs.Logic.{if_then_else_}
+use Rattle.error.specs.Outcome.{Outcome, accept, andThen}
+use Rattle.vvcc_c.specs.Exports.{writtenAnswer, writtenGiven}
+
+-- 2.5 times a length
+abbrev pub twoAndAHalf : ℕ → ℕ
+twoAndAHalf n = 5 * n / 2
+
+-- the prefix size of a full record (LengthSizeMinusOne)
+abbrev pub prefixSize : List ℕ → ℕ
+prefixSize rec = getD rec 0 0 / 2 % 4 + 1
+
+-- `vvcc_access_unit`: the scratch for a full record's unit list
+abbrev pub scratchRoom : List ℕ → ℕ
+scratchRoom rec = 4 * length rec
+
+-- and the stream of the record and an item, whether the prefix size is 4 or not
+abbrev pub streamRoomWith : Bool → List ℕ → List ℕ → ℕ
+streamRoomWith four rec item = 2 * length rec + (if four then length item else twoAndAHalf (length item))
+
+abbrev pub streamRoom : List ℕ → List ℕ → ℕ
+streamRoom rec item = streamRoomWith (eqb (prefixSize rec) 4) rec item
+
+-- n bytes suffice for a result: it is no longer, and in an output of so many bytes the answer is the result's length or its refusal
+pub record Suffices (n : ℕ) (o : Outcome (List ℕ)) : Type 0 where
+  pub long : (b : List ℕ) → o ≡ accept b → length b ≤ n
+  pub answer : (out : List ℕ) → n ≤ length out → writtenGiven o out .0 ≡ writtenAnswer (andThen o (λ b. accept (length b)))

@@ -2,10 +2,10 @@
 use Prim.Native.Nat.{ℕ, _+_, _*_, _^_, _≤_}
 use mathlib.Core.Path.{_≡_, refl, sym, ap, _∙_}
 use mathlib.Core.Bool.{Bool, true, false}
-use mathlib.Core.List.{List, [], _∷_, map}
+use mathlib.Core.List.{List, [], _∷_, _++_, map}
 use mathlib.Core.Option.{Option}
 use native.Mathlib.Omega.{arith}
-use lib.ListN.{length, drop, length-map, length-take}
+use lib.ListN.{length, drop, length-append, length-map, length-take}
 use Rattle.error.specs.Logic.{if_then_else_}
 use Rattle.error.specs.Outcome.{Outcome, accept, refuse, andThen}
 use Rattle.error.specs.Parse.{Parsed, value, refused, many, outcome}
@@ -18,10 +18,13 @@ use Rattle.unit_list.proofs.Encode.{units-encode}
 use Rattle.unit_list.proofs.Accepted.{accepted}
 use Rattle.hvcc.specs.Item.{itemUnit}
 use Rattle.hvcc.specs.Answers.{leftOf}
+use Rattle.hvcc.specs.Stream.{annexB}
 use Rattle.hvcc.proofs.Items.{unit-read, unit-advances}
 use Rattle.full.specs.declared.VvcConfig.{VvcConfig}
-use Rattle.access_unit.specs.AccessUnit.{targetOf, keeps, kept, assemble}
+use Rattle.access_unit.specs.AccessUnit.{targetOf, keeps, kept, startCode, assemble}
 use Rattle.access_unit.specs.Inside.{keptLeft, lengths, Gathered, gather, sizesOf}
+use Rattle.access_unit.proofs.Sums.{lengths-append}
+use Rattle.access_unit.proofs.Streams.{stream-length}
 use Rattle.access_unit.proofs.Gathering.{gathered}
 use Rattle.access_unit.proofs.Answering.{assemble-unknown, assemble-known}
 use Rattle.lengths.proofs.Outputs.{both}
@@ -30,6 +33,12 @@ use Rattle.lengths.proofs.Outputs.{both}
 abbrev pub streamed : List (List ℕ) → ℕ
 streamed us = 4 * length us + lengths us
 
+-- the stream of units and of one more
+pub stream-more : (us : List (List ℕ)) (u : List ℕ) → length (annexB startCode (us ++ (u ∷ []))) ≡ streamed us + (4 + length u)
+unfolding lengths
+stream-more us u = omega (arith, stream-length (us ++ (u ∷ [])), length-append us (u ∷ []), lengths-append us (u ∷ []))
+
+-- units that lie in s
 pub held-room : (s : List ℕ) (us : List Span) → streamed (map (held s) us) ≤ room 4 us
 unfolding room lengths
 held-room s [] = omega arith

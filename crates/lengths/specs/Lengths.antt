@@ -13,6 +13,21 @@ use Rattle.vvcc_c.specs.Exports.{writtenAnswer, writtenGiven}
 abbrev pub twoAndAHalf : ℕ → ℕ
 twoAndAHalf n = 5 * n / 2
 
+-- multi_layer_flag, the first bit of a compact record
+abbrev pub multiLayer : List ℕ → Bool
+multiLayer C = eqb (getD C 0 0 / 128) 1
+
+-- `vvcc_still_record`: the full record of a compact record C
+abbrev pub recordRoom : List ℕ → ℕ
+recordRoom C = 1100 + 5 * length C
+
+-- `vvcc_still_stream`: the stream of a compact record C and stored bytes S, whether C's multi-layer flag is set or not
+abbrev pub stillRoomWith : Bool → List ℕ → List ℕ → ℕ
+stillRoomWith layers C S = 4 * length C + (if layers then twoAndAHalf (length S) else length S + 6)
+
+abbrev pub stillRoom : List ℕ → List ℕ → ℕ
+stillRoom C S = stillRoomWith (multiLayer C) C S
+
 -- the prefix size of a full record (LengthSizeMinusOne)
 abbrev pub prefixSize : List ℕ → ℕ
 prefixSize rec = getD rec 0 0 / 2 % 4 + 1

@@ -32,7 +32,7 @@ use Rattle.vvcc.proofs.Lengths.{head-long, arrays-long}
 use Rattle.stills.specs.Inside.{ReadFrom, ExpandedFrom, Plain, streamExpanded}
 
 -- what full write accepts is the record's bytes
-written-bytes : (h : VvcConfig) (xs : List (Array (List ℕ))) (b : List ℕ) → writeFull h xs ≡ accept b → fullBytes h xs ≡ b
+pub written-bytes : (h : VvcConfig) (xs : List (Array (List ℕ))) (b : List ℕ) → writeFull h xs ≡ accept b → fullBytes h xs ≡ b
 unfolding writeFull
 written-bytes h xs b e = go (eqb (h .«length_size») 3) (recordFits h xs) e
   where
@@ -61,7 +61,7 @@ module _ (c : CompactVvcConfig) (list : List ℕ) (from : ReadFrom c list) where
   all-short : Every (λ u. length u ≤ 255) us
   all-short = every-of (λ u. length u ≤ 255) us (λ k h. facts .short k)
 
-  types : Every (λ u. typeOr31 u ≤ 31) us
+  pub types : Every (λ u. typeOr31 u ≤ 31) us
   types = every-of (λ u. typeOr31 u ≤ 31) us (λ k h. type-small (getD us k []) (facts .bytes k))
 
   pub list-short : length list ≤ 8554
@@ -115,7 +115,7 @@ module _ (c : CompactVvcConfig) (list : List ℕ) (from : ReadFrom c list) where
           some = omega (arith, length-map (u .spans) (held arrays), grouped-count us, facts .two);
         }
 
-    written : serializeFull head arrays ≡ writeFull head (grouped us)
+    pub written : serializeFull head arrays ≡ writeFull head (grouped us)
     unfolding serializeFull
     written = rw (decode-encode (grouped us) list-lent (grouped-sound us types), held-encode (grouped us) list-lent)
 
@@ -135,7 +135,8 @@ module _ (c : CompactVvcConfig) (list : List ℕ) (from : ReadFrom c list) where
           length-append (headBytes head ++ (length (grouped us) ∷ [])) (arraysBytes (grouped us)),
           length-append (headBytes head) (length (grouped us) ∷ []),
           head-long c pic (expanded .ptl) (expanded .writable),
-          arrays-long (grouped us) (every-grouped us (λ u. length u ≤ 255) all-short),
+          arrays-long (grouped us),
+          units-long 2 (unitsOf (grouped us)) (every-grouped us (λ u. length u ≤ 255) all-short),
           grouped-few us,
           grouped-count us,
           facts .most,

@@ -29,7 +29,7 @@ use Rattle.full.specs.declared.VvcConfig.{VvcConfig}
 use Rattle.full.proofs.HeadRoundTrip.{Writable, withPtl}
 use Rattle.full.proofs.RecordRoundTrip.{read-written}
 use Rattle.expand.specs.Expand.{Picture, grouped, expandedHead}
-use Rattle.expand.proofs.GroupedFits.{Every, Groupable, grouped-fit, grouped-sound, grouped-few, grouped-count, every-grouped, grouped-long}
+use Rattle.expand.proofs.GroupedFits.{Every, Groupable, grouped-fit, grouped-sound, grouped-few, grouped-count, every-grouped, units-long, grouped-long}
 use Rattle.access_unit.specs.AccessUnit.{startCode, assemble}
 use Rattle.access_unit.proofs.OneUnit.{one-assembled}
 use Rattle.vvcc.specs.Still.{Clean}
@@ -104,7 +104,8 @@ module _ (c : CompactVvcConfig) (pic : Picture) (ptl : VvcPtlRecord) (us : List 
         length-append (headBytes head ++ (length (grouped us) ∷ [])) (arraysBytes (grouped us)),
         length-append (headBytes head) (length (grouped us) ∷ []),
         head-long c pic ptl (k .ptl-ok),
-        arrays-long (grouped us) (every-grouped us (λ u. length u ≤ 255) (k .units .short)),
+        arrays-long (grouped us),
+        units-long 2 (unitsOf (grouped us)) (every-grouped us (λ u. length u ≤ 255) (k .units .short)),
         grouped-few us,
         grouped-count us,
       )

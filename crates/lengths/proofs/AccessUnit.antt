@@ -19,10 +19,12 @@ use Rattle.unit_list.proofs.Accepted.{sound-held}
 use Rattle.full.specs.Read.{FullParsed, parseFull}
 use Rattle.access_unit.specs.AccessUnit.{assemble}
 use Rattle.vvcc.specs.Still.{Bytes}
+use Rattle.vvcc.proofs.Expansion.{then-accept}
 use Rattle.vvcc_c.specs.Exports.{readBeside, streamBeside}
 use Rattle.lengths.specs.Lengths.{prefixSize, scratchRoom, streamRoomWith, streamRoom, Suffices}
 use Rattle.lengths.proofs.FullRecord.{full-read}
-use Rattle.lengths.proofs.Outputs.{suffices, both, lent-accepted}
+use Rattle.lengths.proofs.Refusals.{beside-not-short}
+use Rattle.lengths.proofs.Outputs.{suffices, lent-accepted}
 use Rattle.lengths.proofs.Assembled.{streamed, held-room, encoded-units, assembled-parts}
 
 module _ (rec item : List ℕ) where
@@ -68,18 +70,19 @@ module _ (rec item : List ℕ) where
             let p = assembled-parts (r .head) list item tols b a in
             omega (arith, p .most, listed-long r list e (p .units) (p .listed))
 
-    -- whatever the scratch
-    pub stream-suffices : (scratch : List ℕ) → Suffices (streamRoom rec item) (streamBeside rec item tols scratch)
-    unfolding streamBeside
-    stream-suffices scratch = suffices (streamRoom rec item) (streamBeside rec item tols scratch) long
-      where
-        fitted : (c : Bool) (o : Outcome (List ℕ)) (b : List ℕ) → (if c then o else refuse 20) ≡ accept b → o ≡ accept b
-        fitted true o b e = e
-        fitted false o b e = let z : _≡_ {A = ℕ} 0 1 = cc in absurd (omega arith)
+    fitted : (c : Bool) (o : Outcome (List ℕ)) (b : List ℕ) → (if c then o else refuse 20) ≡ accept b → o ≡ accept b
+    fitted true o b e = e
+    fitted false o b e = let z : _≡_ {A = ℕ} 0 1 = cc in absurd (omega arith)
 
-        long : (b : List ℕ) → streamBeside rec item tols scratch ≡ accept b → length b ≤ streamRoom rec item
-        long b e =
-            let x = both (readBeside rec item) _ b e in
-            let r = x .value .0 in
-            let list = x .value .1 in
-            assembled-long r list b (read-beside r list (x .first)) (fitted (leb (length list) (length scratch)) (assemble (r .head) list item tols) b (x .then))
+    -- the stream is no longer whatever the scratch, and with enough scratch no 20 is said
+    module _ (scratch : List ℕ) where
+      pub stream-long : (b : List ℕ) → streamBeside rec item tols scratch ≡ accept b → length b ≤ streamRoom rec item
+      unfolding streamBeside
+      stream-long b e =
+          let x = then-accept (readBeside rec item) _ b e in
+          let r = x .0 .0 in
+          let list = x .0 .1 in
+          assembled-long r list b (read-beside r list (x .1)) (fitted (leb (length list) (length scratch)) (assemble (r .head) list item tols) b (x .2))
+
+      pub stream-suffices : scratchRoom rec ≤ length scratch → Suffices (streamRoom rec item) (streamBeside rec item tols scratch)
+      stream-suffices enough = suffices (streamRoom rec item) (streamBeside rec item tols scratch) (rw (scratch-enough scratch tols enough) (beside-not-short rec item tols)) stream-long

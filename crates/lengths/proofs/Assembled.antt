@@ -27,7 +27,7 @@ use Rattle.access_unit.proofs.Sums.{lengths-append}
 use Rattle.access_unit.proofs.Streams.{stream-length}
 use Rattle.access_unit.proofs.Gathering.{gathered}
 use Rattle.access_unit.proofs.Answering.{assemble-unknown, assemble-known}
-use Rattle.lengths.proofs.Outputs.{both}
+use Rattle.vvcc.proofs.Expansion.{then-accept}
 
 -- so many bytes units have behind start codes of four bytes
 abbrev pub streamed : List (List ℕ) → ℕ
@@ -48,7 +48,7 @@ held-room s (a ∷ us) = omega (arith, held-room s us, length-take (a .len) (dro
 
 -- a list with units was not too long
 list-lent : (list : List ℕ) (us : List Span) → listUnits list ≡ accept us → length list ≤ 2 ^ 30
-list-lent list us e = let x = both (decode list) (λ xs. accept (unitsOf xs)) us e in accepted list (x .value) (x .first) .lent
+list-lent list us e = let x = then-accept (decode list) (λ xs. accept (unitsOf xs)) us e in accepted list (x .0) (x .1) .lent
 
 -- those of an encoded list are those of its arrays
 pub encoded-units : (xs : List (Array (List ℕ))) → Sound xs → (us : List Span) → listUnits (encode xs) ≡ accept us → map (held (encode xs)) us ≡ unitsOf xs

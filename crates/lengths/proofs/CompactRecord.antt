@@ -1,5 +1,5 @@
 -- What the length of a compact record says of its units, and what its first bit says.
-use Prim.Native.Nat.{ℕ, _+_, _*_, _/_, _%_}
+use Prim.Native.Nat.{ℕ, _+_, _*_, _/_, _%_, _≤_}
 use mathlib.Core.Path.{_≡_, ap, _∙_}
 use mathlib.Core.Bool.{Bool, true, false, not, _&&_}
 use mathlib.Core.List.{List, [], _∷_}
@@ -20,7 +20,9 @@ use Rattle.compact.specs.Inside.{firstByte}
 use Rattle.compact.specs.declared.CompactVvcConfig.{CompactVvcConfig}
 use Rattle.compact.proofs.Facts.{CompactFacts}
 use Rattle.access_unit.specs.Inside.{lengths}
-use Rattle.lengths.specs.Lengths.{multiLayer}
+use Rattle.vvcc.proofs.Units.{every-of}
+use Rattle.vvcc.proofs.Lengths.{units-long}
+use Rattle.lengths.specs.Lengths.{longestCompact, multiLayer}
 use Rattle.lengths.proofs.Reading.{Gives, gives-value, gives-any, gives-bind, gives-uint}
 
 -- units behind lengths of w bytes
@@ -53,6 +55,11 @@ module _ (C : List ℕ) where
   module _ (r : CompactParsed) (list : List ℕ) (f : CompactFacts C r list) where
     pub compact-long : length C ≡ 1 + length (f .units) + lengths (f .units)
     compact-long = omega (arith, written-long (r .config) (f .units) C (f .written), encoded-long 1 (f .units))
+
+    -- a record that reads has at most 33 units of 255 bytes
+    pub compact-longest : length C ≤ longestCompact
+    compact-longest =
+        omega (arith, written-long (r .config) (f .units) C (f .written), units-long 1 (f .units) (every-of (λ u. length u ≤ 255) (f .units) (λ k h. f .short k)), f .most)
 
     pub flag-is : r .config .«multi_layer_flag» ≡ multiLayer C
     flag-is = gives-compact .at (r .config, f .spans) (length C) (f .whole)

@@ -1,4 +1,5 @@
 pub mod Reading
+pub mod Refusals
 pub mod FullRecord
 pub mod Outputs
 pub mod Assembled

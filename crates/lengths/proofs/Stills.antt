@@ -22,6 +22,7 @@ use Rattle.expand.specs.Expand.{Picture, FullHead, grouped, expandedHead, toFul
 use Rattle.access_unit.specs.AccessUnit.{startCode, assemble}
 use Rattle.access_unit.specs.Inside.{lengths}
 use Rattle.vvcc.specs.Still.{Bytes}
+use Rattle.vvcc.proofs.Expansion.{then-accept}
 use Rattle.vvcc.proofs.Lengths.{head-long, arrays-long}
 use Rattle.stills.specs.Stills.{stillRecord, anyPicture, streamWith, stillStream}
 use Rattle.stills.specs.Inside.{ReadFrom, streamExpanded, stepsTried, unitsStream}
@@ -29,7 +30,8 @@ use Rattle.stills.proofs.Grouped.{grouped-sound, grouped-few, grouped-count}
 use Rattle.stills.proofs.Lists.{Ready, written-bytes, facts, us, types, expanded, written, ready}
 use Rattle.stills.proofs.Steps.{stream-layers, stream-plain}
 use Rattle.lengths.specs.Lengths.{multiLayer, recordRoom, stillRoomWith, stillRoom, Suffices}
-use Rattle.lengths.proofs.Outputs.{suffices, both, lent-accepted}
+use Rattle.lengths.proofs.Refusals.{record-not-short, stream-not-short}
+use Rattle.lengths.proofs.Outputs.{suffices, lent-accepted}
 use Rattle.lengths.proofs.Assembled.{streamed, stream-more, encoded-units, assembled-parts}
 use Rattle.lengths.proofs.Grouped.{grouped-less}
 use Rattle.lengths.proofs.CompactRecord.{encoded-long, compact-long, flag-is}
@@ -99,9 +101,9 @@ module _ (C : List ℕ) (all : Bytes C) (r : CompactParsed) (list : List ℕ) (e
     -- full write and restore accepted
     went : accept tt ≡ stepsTried c (full .head) arrays S
     went =
-        let p = both (serializeFull (full .head) arrays) (λ _. andThen (restore c S) (λ item. assemble (full .head) arrays item tols)) b (sym (is-ready .steps S tols) ∙ f) in
-        let q = both (restore c S) (λ item. assemble (full .head) arrays item tols) b (p .then) in
-        rw (p .first, q .first)
+        let p = then-accept (serializeFull (full .head) arrays) (λ _. andThen (restore c S) (λ item. assemble (full .head) arrays item tols)) b (sym (is-ready .steps S tols) ∙ f) in
+        let q = then-accept (restore c S) (λ item. assemble (full .head) arrays item tols) b (p .2) in
+        rw (p .1, q .1)
 
     layers-long : c .«multi_layer_flag» ≡ true → length b ≤ stillRoomWith true C S
     layers-long s =
@@ -111,11 +113,11 @@ module _ (C : List ℕ) (all : Bytes C) (r : CompactParsed) (list : List ℕ) (e
     plain-long : c .«multi_layer_flag» ≡ false → length b ≤ stillRoomWith false C S
     plain-long s =
         let p = sym (stream-plain c (full .head) arrays S tols is-ready went lent s) ∙ f in
-        let q = both (listUnits arrays) _ b (lent-accepted (toChunk (c .«length_size») (stillUnit S)) (unitsStream arrays S) b p .1) in
-        let vs = map (held arrays) (q .value) in
-        let y : annexB startCode (vs ++ (stillUnit S ∷ [])) ≡ b = cc (q .then) in
+        let q = then-accept (listUnits arrays) _ b (lent-accepted (toChunk (c .«length_size») (stillUnit S)) (unitsStream arrays S) b p .1) in
+        let vs = map (held arrays) (q .0) in
+        let y : annexB startCode (vs ++ (stillUnit S ∷ [])) ≡ b = cc (q .2) in
         let l = ap length y in
-        omega (arith, l, stream-more vs (stillUnit S), listed-long (q .value) (q .first))
+        omega (arith, l, stream-more vs (stillUnit S), listed-long (q .0) (q .1))
 
     still-long : length b ≤ stillRoom C S
     still-long = go (multiLayer C) (flag-is C r list (facts c list from))
@@ -127,15 +129,15 @@ module _ (C : List ℕ) (all : Bytes C) (r : CompactParsed) (list : List ℕ) (e
 module _ (C : List ℕ) (all : Bytes C) where
   pub record-suffices : (pic : Picture) → Suffices (recordRoom C) (stillRecord C pic)
   unfolding stillRecord
-  record-suffices pic = suffices (recordRoom C) (stillRecord C pic) (λ b e.
-      let p = both (parseCompact C) _ b e in
-      let q = both (toFull (p .value .0 .config) pic (p .value .1)) _ b (p .then) in
-      record-long C all (p .value .0) (p .value .1) (p .first) pic (q .value .0) (q .value .1) (q .first) b (q .then))
+  record-suffices pic = suffices (recordRoom C) (stillRecord C pic) (record-not-short C pic) (λ b e.
+      let p = then-accept (parseCompact C) _ b e in
+      let q = then-accept (toFull (p .0 .0 .config) pic (p .0 .1)) _ b (p .2) in
+      record-long C all (p .0 .0) (p .0 .1) (p .1) pic (q .0 .0) (q .0 .1) (q .1) b (q .2))
 
   pub still-suffices : (S : List ℕ) (tols : Option ℕ) → Suffices (stillRoom C S) (stillStream C S tols)
   unfolding stillStream streamWith
-  still-suffices S tols = suffices (stillRoom C S) (stillStream C S tols) (λ b e.
+  still-suffices S tols = suffices (stillRoom C S) (stillStream C S tols) (stream-not-short C S tols) (λ b e.
       let l = lent-accepted S _ b e in
-      let p = both (parseCompact C) _ b (l .1) in
-      let q = both (toFull (p .value .0 .config) anyPicture (p .value .1)) _ b (p .then) in
-      still-long C all (p .value .0) (p .value .1) (p .first) anyPicture (q .value .0) (q .value .1) (q .first) S tols (l .0) b (q .then))
+      let p = then-accept (parseCompact C) _ b (l .1) in
+      let q = then-accept (toFull (p .0 .0 .config) anyPicture (p .0 .1)) _ b (p .2) in
+      still-long C all (p .0 .0) (p .0 .1) (p .1) anyPicture (q .0 .0) (q .0 .1) (q .1) S tols (l .0) b (q .2))

@@ -1,4 +1,4 @@
--- How many bytes always suffice for what a call for C writes, and what it then answers.
+-- How many bytes always suffice for what a call for C writes, and what it then answers (include/vvcc.h says the same in words).
 use Prim.Native.Nat.{ℕ, _+_, _*_, _/_, _%_, _≤_}
 use mathlib.Core.Path.{_≡_}
 use mathlib.Core.Bool.{Bool}
@@ -16,6 +16,10 @@ twoAndAHalf n = 5 * n / 2
 -- multi_layer_flag, the first bit of a compact record
 abbrev pub multiLayer : List ℕ → Bool
 multiLayer C = eqb (getD C 0 0 / 128) 1
+
+-- no longer compact record reads: 33 units of 255 bytes
+abbrev pub longestCompact : ℕ
+longestCompact = 1 + 33 * 256
 
 -- `vvcc_still_record`: the full record of a compact record C
 abbrev pub recordRoom : List ℕ → ℕ
@@ -43,7 +47,8 @@ streamRoomWith four rec item = 2 * length rec + (if four then length item else t
 abbrev pub streamRoom : List ℕ → List ℕ → ℕ
 streamRoom rec item = streamRoomWith (eqb (prefixSize rec) 4) rec item
 
--- n bytes suffice for a result: it is no longer, and in an output of so many bytes the answer is the result's length or its refusal
+-- n bytes suffice for a result: it is no longer, and in an output of so many bytes the answer is the result's length or its refusal, and not 20
 pub record Suffices (n : ℕ) (o : Outcome (List ℕ)) : Type 0 where
   pub long : (b : List ℕ) → o ≡ accept b → length b ≤ n
   pub answer : (out : List ℕ) → n ≤ length out → writtenGiven o out .0 ≡ writtenAnswer (andThen o (λ b. accept (length b)))
+  pub not-short : (out : List ℕ) → n ≤ length out → writtenGiven o out .0 .refusal ≡ 20 → ⊥

@@ -37,7 +37,7 @@ use Rattle.stills.proofs.Lists.{Ready}
 -- ### a step tried on an output of any length
 
 -- a refusal, but not 20
-abbrev NotShort : {A : Type 0} → Outcome A → Type 0
+abbrev pub NotShort : {A : Type 0} → Outcome A → Type 0
 NotShort (accept a) = Unit {0}
 NotShort (refuse n) = n ≡ 20 → ⊥
 
@@ -45,14 +45,14 @@ NotShort (refuse n) = n ≡ 20 → ⊥
 abbrev pub done : {A : Type 0} → Outcome A → Outcome (Unit {0})
 done o = andThen o (λ _. accept tt)
 
-not-short-lent : {A : Type 0} (s : List ℕ) (o : Outcome A) → NotShort o → NotShort (lentInput s o)
+pub not-short-lent : {A : Type 0} (s : List ℕ) (o : Outcome A) → NotShort o → NotShort (lentInput s o)
 not-short-lent s o h = go (leb (length s) (2 ^ 30))
   where
     go : (b : Bool) → NotShort (if b then o else refuse 23)
     go true = h
     go false = λ e. omega arith
 
-not-short-if : {A : Type 0} (b : Bool) (n : ℕ) (o : Outcome A) → (n ≡ 20 → ⊥) → NotShort o → NotShort (if b then refuse n else o)
+pub not-short-if : {A : Type 0} (b : Bool) (n : ℕ) (o : Outcome A) → (n ≡ 20 → ⊥) → NotShort o → NotShort (if b then refuse n else o)
 not-short-if true n o h k = h
 not-short-if false n o h k = k
 
@@ -64,7 +64,7 @@ write-not-short h xs = not-short-if (eqb (h .«length_size») 3) 3 _ (λ e. omeg
     go true = tt
     go false = λ e. omega arith
 
-serialize-not-short : (h : VvcConfig) (list : List ℕ) → NotShort (serializeFull h list)
+pub serialize-not-short : (h : VvcConfig) (list : List ℕ) → NotShort (serializeFull h list)
 unfolding serializeFull decode
 serialize-not-short h list = go (decode list) (not-short-lent list (outcomeOr 21 (unitList list 0)) (read (unitList list 0)))
   where
@@ -76,7 +76,7 @@ serialize-not-short h list = go (decode list) (not-short-lent list (outcomeOr 21
     go (accept xs) k = write-not-short h (heldArrays list xs)
     go (refuse n) k = k
 
-restore-not-short : (c : CompactVvcConfig) (S : List ℕ) → NotShort (restore c S)
+pub restore-not-short : (c : CompactVvcConfig) (S : List ℕ) → NotShort (restore c S)
 unfolding restore
 restore-not-short c S = not-short-lent S _ (go (c .«multi_layer_flag»))
   where

@@ -23,7 +23,7 @@ use Rattle.vvcc.specs.Still.{Bytes}
 use Rattle.vvcc.proofs.Ptls.{sps-ptl, vps-ptl}
 
 -- an accepted step behind another: both were accepted
-then-accept : {A B : Type 0} (o : Outcome A) (f : A → Outcome B) (b : B) → andThen o f ≡ accept b → (a : A) × (o ≡ accept a) × (f a ≡ accept b)
+pub then-accept : {A B : Type 0} (o : Outcome A) (f : A → Outcome B) (b : B) → andThen o f ≡ accept b → (a : A) × (o ≡ accept a) × (f a ≡ accept b)
 then-accept (accept a) f b e = (a, refl, e)
 then-accept (refuse n) f b e = let z : _≡_ {A = ℕ} 0 1 = cc in absurd (omega arith)
 

@@ -26,7 +26,7 @@ use Rattle.vvcc.proofs.Expansion.{then-accept}
 use Rattle.vvcc.proofs.Lengths.{head-long, arrays-long}
 use Rattle.stills.specs.Stills.{stillRecord, anyPicture, streamWith, stillStream}
 use Rattle.stills.specs.Inside.{ReadFrom, streamExpanded, stepsTried, unitsStream}
-use Rattle.stills.proofs.Grouped.{grouped-sound, grouped-few, grouped-count}
+use Rattle.expand.proofs.GroupedFits.{grouped-sound, grouped-few, grouped-count}
 use Rattle.stills.proofs.Lists.{Ready, written-bytes, facts, us, types, expanded, written, ready}
 use Rattle.stills.proofs.Steps.{stream-layers, stream-plain}
 use Rattle.lengths.specs.Lengths.{multiLayer, recordRoom, stillRoomWith, stillRoom, Suffices}
@@ -55,10 +55,10 @@ module _ (C : List ℕ) (all : Bytes C) (r : CompactParsed) (list : List ℕ) (e
   long = compact-long C r list (facts c list from)
 
   few : length (grouped units) ≤ length units
-  few = grouped-few units (facts c list from .most) (facts c list from .short) (types c list from)
+  few = grouped-few units
 
   count : length groups ≡ length units
-  count = grouped-count units (facts c list from .most) (facts c list from .short) (types c list from)
+  count = grouped-count units
 
   -- ### the record
   record-long : (b : List ℕ) → serializeFull (full .head) arrays ≡ accept b → length b ≤ recordRoom C
@@ -89,7 +89,7 @@ module _ (C : List ℕ) (all : Bytes C) (r : CompactParsed) (list : List ℕ) (e
   listed-long : (vs : List Span) → listUnits arrays ≡ accept vs → streamed (map (held arrays) vs) + 4 ≤ 4 * length C
   listed-long vs f =
       let k = expanded c list from pic full arrays x in
-      let sound = grouped-sound units (facts c list from .most) (facts c list from .short) (types c list from) in
+      let sound = grouped-sound units (types c list from) in
       let g = encoded-units (grouped units) sound vs (subst (λ (l : List ℕ). listUnits l ≡ accept vs) (k .is-list) f) in
       let m : streamed (map (held arrays) vs) ≡ streamed groups = ap (λ (l : List ℕ). streamed (map (held l) vs)) (k .is-list) ∙ ap streamed g in
       omega (arith, m, count, grouped-less units, long)

@@ -8,3 +8,4 @@ pub mod Examples
 pub mod Readers
 pub mod ReaderCalls
 pub mod ReadsOfBits
+pub mod Walking

@@ -24,7 +24,6 @@ use denote.Builtin.{u8, usize}
 use denote.Ref.{RefT, NamedLft}
 use denote.Slice.{sliceVal, ShrSlice, shr-slice-copy}
 use denote.Steps.{only, owned, nothing}
-use denote.Enum.Laws as EL
 use denote.Struct.Laws as LL
 use denote.Triple.Statement.{Contract}
 use denote.Triple.Spec.{tripleOf}
@@ -33,18 +32,13 @@ use denote.Triple.Clauses.{ensured, lasts}
 use Rattle.rbsp.specs.Bits.{u, ue}
 use Rattle.rbsp.specs.Reader.{skipping, Stepped, AlignedFrom}
 use Rattle.rbsp.specs.declared.BitPosition.{BitPosition}
-use Rattle.rbsp.specs.declared.BitsRead.{BitsRead}
 use Rattle.rbsp.specs.declared.reader.BitReader.{BitReader}
 use Rattle.rbsp.specs.declared.reader.ReaderStep.{ReaderStep}
-use Rattle.rbsp.proofs.BitsRead as Answer
-use Rattle.rbsp.proofs.BitsRead.Laws as Answer′
-use Rattle.rbsp.proofs.BitPosition as Position
-use Rattle.rbsp.proofs.BitPosition.Laws as Position′
 use Rattle.rbsp.proofs.reader.BitReader as Reader
 use Rattle.rbsp.proofs.reader.BitReader.Laws as Reader′
 use Rattle.rbsp.proofs.reader.ReaderStep as Step
 use Rattle.rbsp.proofs.reader.ReaderStep.Laws as Step′
-use Rattle.rbsp.proofs.Readers.{answerVal, stepVal, lifetime, OwnReader}
+use Rattle.rbsp.proofs.Readers.{stepVal, lifetime, OwnReader}
 use Rattle.rbsp.proofs.reader.BitReader.new as new
 use Rattle.rbsp.proofs.reader.BitReader.u as u′
 use Rattle.rbsp.proofs.reader.BitReader.ue as ue′
@@ -63,13 +57,6 @@ AtStart s d = (d .src ≡ s) × (d .pos .0 ≡ 0)
 -- a reader over s has as few bytes as s
 pub few-over : (s : RefT (List ℕ)) (d : BitReader) → d .src ≡ s → length (s .now) ≤ 2 ^ 30 → length (d .src .now) ≤ 2 ^ 30
 few-over s d e few = subst⁻¹ (λ (x : RefT (List ℕ)). length (x .now) ≤ 2 ^ 30) e few
-
--- ---- the machine values of a position and of an answer
-pub position-val : (p : BitPosition) (w : Val) → Is Position.the-row p (w ∷ []) → w ≡ Position′.lowered p
-position-val p w is = ap only (LL.tells Position.the-type Position′.the-laws p _ is)
-
-pub answer-val : (a : BitsRead) (w : Val) → Is Answer.the-row a (w ∷ []) → w ≡ answerVal a
-answer-val a w is = ap only (EL.tells Answer.the-type Answer′.the-laws a _ is)
 
 -- ---- a reader and a step in a local, whose type has the lifetime erased: their machine values, and that these have the types
 pub reader-val : (ℓ : NamedLft) (d : BitReader) (w : Val) → Is (Reader.the-row ℓ) d (w ∷ []) → w ≡ Reader′.lowered d

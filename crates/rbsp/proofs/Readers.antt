@@ -1,6 +1,6 @@
 -- What a bit reader and a step of it own, taken apart and put together, for the walks of the functions over them. The slice is
 -- shared, so what a reader owns can be had twice; the rest of it is facts on numbers.
-use mathlib.Core.Path.{_≡_, ap, subst, _∙_, refl}
+use mathlib.Core.Path.{_≡_, ap, _∙_, refl}
 use mathlib.Core.Bool.{Bool, true, false, _&&_}
 use mathlib.Core.List.{[], _∷_}
 use Prim.Native.Nat.{ℕ}
@@ -23,7 +23,7 @@ use denote.Builtin.{u8}
 use denote.Ref.{NamedLft, now}
 use denote.Signature.{namedLft}
 use denote.Slice.{sliceVal, ShrSlice}
-use denote.Steps.{owned, nothing}
+use denote.Steps.{only, owned, nothing}
 use denote.Enum.Laws as EL
 use denote.Struct.Laws as LL
 use denote.Struct.Rest.{all-own, rest, own-open, own-out, own-put, own-shut}
@@ -69,11 +69,12 @@ AnswerIs a = Is Answer.the-row a (answerVal a ∷ [])
 abbrev pub PositionIs : BitPosition → Type 0
 PositionIs p = Is Position.the-row p (Position′.lowered p ∷ [])
 
-pub answer-is : (a : BitsRead) (w : Val) → Is Answer.the-row a (w ∷ []) → AnswerIs a
-answer-is a w is = subst (Is Answer.the-row a) (EL.tells Answer.the-type Answer′.the-laws a _ is) is
+-- the machine value of either
+pub position-val : (p : BitPosition) (w : Val) → Is Position.the-row p (w ∷ []) → w ≡ Position′.lowered p
+position-val p w is = ap only (LL.tells Position.the-type Position′.the-laws p _ is)
 
-pub position-is : (p : BitPosition) (w : Val) → Is Position.the-row p (w ∷ []) → PositionIs p
-position-is p w is = subst (Is Position.the-row p) (LL.tells Position.the-type Position′.the-laws p _ is) is
+pub answer-val : (a : BitsRead) (w : Val) → Is Answer.the-row a (w ∷ []) → w ≡ answerVal a
+answer-val a w is = ap only (EL.tells Answer.the-type Answer′.the-laws a _ is)
 
 -- ---- the reader's lifetime 'a in a signature, and its type there
 abbrev pub lifetime : Lfts 1 → NamedLft
@@ -85,9 +86,6 @@ Row κs = Reader.the-row (lifetime κs)
 -- that a reader has its machine value, and the parts of a step theirs
 abbrev pub ReaderIs : NamedLft → BitReader → Type 0
 ReaderIs ℓ d = Is (Reader.the-row ℓ) d (Reader′.lowered d ∷ [])
-
-pub reader-is : (ℓ : NamedLft) (d : BitReader) (w : Val) → Is (Reader.the-row ℓ) d (w ∷ []) → ReaderIs ℓ d
-reader-is ℓ d w is = subst (Is (Reader.the-row ℓ) d) (LL.tells (Reader.the-type ℓ) (Reader′.the-laws ℓ) d _ is) is
 
 pub parts-are : (ℓ : NamedLft) (t : ReaderStep) (w : Val) → Is (Step.the-row ℓ) t (w ∷ []) → AnswerIs (t .answer) × ReaderIs ℓ (t .reader)
 parts-are ℓ t w is = let parts = LL.owed (Step.the-type ℓ) (Step′.the-laws ℓ) t _ is in (parts .0, parts .1 .0)

@@ -37,35 +37,27 @@ use denote.Triple.Walked.{says, needs, Stays, stay-none-slice, walkOf, goes-none
 use denote.Exit.{yes}
 use denote.Triple.Clauses.{ensured, lasts}
 use Rattle.error.specs.Outcome.{accept}
-use Rattle.rbsp.specs.Bits.{u, ue}
 use Rattle.rbsp.specs.Answers.{parsed}
-use Rattle.rbsp.specs.Reader.{skipping, Stepped}
 use Rattle.rbsp.specs.declared.BitsRead.{BitsRead}
 use Rattle.rbsp.specs.declared.reader.BitReader.{BitReader}
-use Rattle.rbsp.specs.declared.reader.ReaderStep.{ReaderStep}
 use Rattle.rbsp.proofs.BitsRead as Answer
 use Rattle.rbsp.proofs.BitsRead.Laws as Answer′
 use Rattle.rbsp.proofs.reader.BitReader as Reader
 use Rattle.rbsp.proofs.reader.BitReader.Laws as Reader′
 use Rattle.rbsp.proofs.reader.ReaderStep as Step
-use Rattle.rbsp.proofs.reader.ReaderStep.Laws as Step′
 use Rattle.rbsp.proofs.Readers.{answerVal, stepVal, AnswerIs, lifetime, parts-are, OwnReader, answer-typed, hands-on}
 use Rattle.rbsp.proofs.Walking.{gave, leave}
 use Rattle.rbsp.proofs.ReaderCalls as calls
-use Rattle.rbsp.proofs.ReaderCalls.{valOf, AtStart, few-over, reader-val, step-val, reader-typed, held-typed}
-use Rattle.rbsp.proofs.reader.BitReader.new as new
+use Rattle.rbsp.proofs.ReaderCalls.{valOf, few-over, reader-val, step-val, reader-typed, held-typed}
 use Rattle.rbsp.proofs.reader.BitReader.new.Symbol as new-def
 use Rattle.rbsp.proofs.reader.BitReader.new.Symbol.{name as #new}
 use Rattle.rbsp.proofs.reader.BitReader.new.Met as new-thm
-use Rattle.rbsp.proofs.reader.BitReader.u as u′
 use Rattle.rbsp.proofs.reader.BitReader.u.Symbol as u-def
 use Rattle.rbsp.proofs.reader.BitReader.u.Symbol.{name as #u}
 use Rattle.rbsp.proofs.reader.BitReader.u.Met as u-thm
-use Rattle.rbsp.proofs.reader.BitReader.skip as skip′
 use Rattle.rbsp.proofs.reader.BitReader.skip.Symbol as skip-def
 use Rattle.rbsp.proofs.reader.BitReader.skip.Symbol.{name as #skip}
 use Rattle.rbsp.proofs.reader.BitReader.skip.Met as skip-thm
-use Rattle.rbsp.proofs.reader.BitReader.ue as ue′
 use Rattle.rbsp.proofs.reader.BitReader.ue.Symbol as ue-def
 use Rattle.rbsp.proofs.reader.BitReader.ue.Symbol.{name as #ue}
 use Rattle.rbsp.proofs.reader.BitReader.ue.Met as ue-thm

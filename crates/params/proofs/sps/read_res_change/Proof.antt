@@ -1,6 +1,5 @@
 -- `read_res_change` reads a bit exactly where the flag is 1.
 use borrow.Author.Tests.{eq-eqb, ne-eqb}
-use mathlib.Core.Path.{refl}
 use Rattle.rbsp.proofs.Chain.{read-behind}
 use borrow.Author.Needs.{needs}
 use Rattle.params.proofs.sps.read_res_change.Statement.{statement}

@@ -37,13 +37,10 @@ use denote.Triple.Table.{entered, cited}
 use denote.Triple.Walked.{says, needs, Stays, stay-none-slice, walkOf, goes-none-slice, Walks, ends-at, walked, walk-meets}
 use denote.Exit.{yes}
 use denote.Triple.Clauses.{ensured, lasts}
-use Rattle.rbsp.specs.Bits.{u}
 use Rattle.rbsp.specs.Answers.{parsed}
-use Rattle.rbsp.specs.Reader.{skipping, Stepped, AlignedFrom}
 use Rattle.rbsp.specs.declared.BitsRead.{BitsRead}
 use Rattle.rbsp.specs.declared.BitPosition.{BitPosition}
 use Rattle.rbsp.specs.declared.reader.BitReader.{BitReader}
-use Rattle.rbsp.specs.declared.reader.ReaderStep.{ReaderStep}
 use Rattle.rbsp.proofs.BitsRead as Answer
 use Rattle.rbsp.proofs.BitsRead.Laws as Answer′
 use Rattle.rbsp.proofs.BitPosition as Position
@@ -51,28 +48,22 @@ use Rattle.rbsp.proofs.BitPosition.Laws as Position′
 use Rattle.rbsp.proofs.reader.BitReader as Reader
 use Rattle.rbsp.proofs.reader.BitReader.Laws as Reader′
 use Rattle.rbsp.proofs.reader.ReaderStep as Step
-use Rattle.rbsp.proofs.reader.ReaderStep.Laws as Step′
-use Rattle.rbsp.proofs.Readers.{answerVal, stepVal, AnswerIs, PositionIs, lifetime, parts-are, OwnReader, answer-typed, position-typed, hands-on}
+use Rattle.rbsp.proofs.Readers.{answerVal, stepVal, AnswerIs, PositionIs, position-val, answer-val, lifetime, parts-are, OwnReader, answer-typed, position-typed, hands-on}
 use Rattle.rbsp.proofs.Walking.{gave, leave}
 use Rattle.rbsp.proofs.ReaderCalls as calls
-use Rattle.rbsp.proofs.ReaderCalls.{valOf, AtStart, few-over, reader-val, step-val, position-val, answer-val, reader-typed, held-typed}
-use Rattle.rbsp.proofs.reader.BitReader.new as new
+use Rattle.rbsp.proofs.ReaderCalls.{valOf, few-over, reader-val, step-val, reader-typed, held-typed}
 use Rattle.rbsp.proofs.reader.BitReader.new.Symbol as new-def
 use Rattle.rbsp.proofs.reader.BitReader.new.Symbol.{name as #new}
 use Rattle.rbsp.proofs.reader.BitReader.new.Met as new-thm
-use Rattle.rbsp.proofs.reader.BitReader.u as u′
 use Rattle.rbsp.proofs.reader.BitReader.u.Symbol as u-def
 use Rattle.rbsp.proofs.reader.BitReader.u.Symbol.{name as #u}
 use Rattle.rbsp.proofs.reader.BitReader.u.Met as u-thm
-use Rattle.rbsp.proofs.reader.BitReader.skip as skip′
 use Rattle.rbsp.proofs.reader.BitReader.skip.Symbol as skip-def
 use Rattle.rbsp.proofs.reader.BitReader.skip.Symbol.{name as #skip}
 use Rattle.rbsp.proofs.reader.BitReader.skip.Met as skip-thm
-use Rattle.rbsp.proofs.reader.BitReader.align as align′
 use Rattle.rbsp.proofs.reader.BitReader.align.Symbol as align-def
 use Rattle.rbsp.proofs.reader.BitReader.align.Symbol.{name as #align}
 use Rattle.rbsp.proofs.reader.BitReader.align.Met as align-thm
-use Rattle.rbsp.proofs.reader.BitReader.bit_position as position′
 use Rattle.rbsp.proofs.reader.BitReader.bit_position.Symbol as position-def
 use Rattle.rbsp.proofs.reader.BitReader.bit_position.Symbol.{name as #position}
 use Rattle.rbsp.proofs.reader.BitReader.bit_position.Met as position-thm

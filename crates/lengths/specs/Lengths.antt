@@ -1,4 +1,5 @@
--- How many bytes always suffice for what a call for C writes, and what it then answers (include/vvcc.h says the same in words).
+-- How many bytes always suffice for what a call for C writes, and what it then answers (include/vvcc.h says the same in words). The theorems, for
+-- records that are lists of bytes: proofs/Stills.antt and proofs/AccessUnit.antt.
 use Prim.Native.Nat.{ℕ, _+_, _*_, _/_, _%_, _≤_}
 use mathlib.Core.Path.{_≡_}
 use mathlib.Core.Bool.{Bool}

@@ -21,7 +21,7 @@ use Rattle.compact.specs.declared.CompactVvcConfig.{CompactVvcConfig}
 use Rattle.compact.proofs.Facts.{CompactFacts}
 use Rattle.access_unit.specs.Inside.{lengths}
 use Rattle.vvcc.proofs.Units.{every-of}
-use Rattle.vvcc.proofs.Lengths.{units-long}
+use Rattle.expand.proofs.GroupedFits.{units-long}
 use Rattle.lengths.specs.Lengths.{longestCompact, multiLayer}
 use Rattle.lengths.proofs.Reading.{Gives, gives-value, gives-any, gives-bind, gives-uint}
 

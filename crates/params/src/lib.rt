@@ -4,6 +4,7 @@ pub mod opi;
 pub mod sps;
 pub mod vps;
 
+use error::LARGEST_INPUT;
 use error::Refusal;
 use nal::NAL_SPS;
 use nal::NAL_VPS;
@@ -68,7 +69,7 @@ impl SpsHead {
     pub fn parse_nal(nal: &[u8]) -> SpsRead
         ensures { λ r. ⌜ spsOf r ≡ spsGiven (now (nal .entry)) ⌝ }
     {
-        if 0x4000_0000 < nal.len() {
+        if LARGEST_INPUT < nal.len() {
             return sps::no_sps(Refusal::InputTooLong);
         }
         if header::type_or_31(nal) != NAL_SPS {
@@ -109,7 +110,7 @@ impl SpsHead {
 pub fn vps_first_ptl(nal: &[u8]) -> PtlRead
     ensures { λ r. ⌜ ptlOf r ≡ ptlGiven (now (nal .entry)) ⌝ }
 {
-    if 0x4000_0000 < nal.len() {
+    if LARGEST_INPUT < nal.len() {
         return vps::no_ptl(Refusal::InputTooLong);
     }
     if header::type_or_31(nal) != NAL_VPS {
@@ -122,7 +123,7 @@ pub fn vps_first_ptl(nal: &[u8]) -> PtlRead
 pub fn opi_ols_idx(nal: &[u8]) -> OlsIdx
     ensures { λ r. ⌜ olsIdxOf r ≡ olsIdxGiven (now (nal .entry)) ⌝ }
 {
-    if 0x4000_0000 < nal.len() {
+    if LARGEST_INPUT < nal.len() {
         return OlsIdx::Refused(Refusal::InputTooLong);
     }
     if nal.len() < 2 {

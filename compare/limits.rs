@@ -282,9 +282,10 @@ fn ends(calls: &mut Calls) {
             calls.push((op, vec![], vec![0x25, 0xfb, 0x9d][..n].to_vec(), vec![]));
         }
     }
-    // an array of type 31 and one of 32; a full writer's array that does not fit, and another behind it
-    for t in [31, 32] {
-        calls.push((14, vec![], vec![1, 0, 0, 0, 2, 1, t], vec![]));
+    // arrays too short, of type 31 and of 32; a full writer's array that does not fit, and another behind it
+    let arrays: [&[u8]; 4] = [&[0], &[1, 0], &[2, 1, 31], &[2, 1, 32]];
+    for array in arrays {
+        calls.push((14, vec![], [&[1, 0, 0, 0], array].concat(), vec![]));
     }
     let two = [12, 16].map(|t| VvcNalArray::new(true, t, vec![]));
     calls.push((
@@ -293,6 +294,12 @@ fn ends(calls: &mut Calls) {
         list_bytes(&two),
         vec![],
     ));
+    // items of one unit that is a still, and that is too short or has another layer, type or temporal id
+    let units: [&[u8]; 5] = [&[0], &[0, 0x41], &[1, 0x41], &[0, 0x49], &[0, 0x42]];
+    for unit in units {
+        let item = [&[unit.len() as u8], unit].concat();
+        calls.push((31, vec![0, 1], item, vec![]));
+    }
     calls.push((32, vec![], vec![0xfe, 1], vec![]));
     calls.push((32, vec![], vec![0xfe, 2, 0x8c, 0, 1, 5], vec![]));
 }

@@ -2,7 +2,8 @@
 
 use crate::answers::{answer, head_of, line};
 use crate::case::{hex_onto, Case};
-use crate::reading::{list, list_bytes};
+use crate::longest;
+use crate::reading::{list, list_bytes, LARGEST};
 use original::boxes::Reader;
 use original::vvcc::{self, CompactVvcConfig, VvcConfig, VvcNalArray};
 use std::io::{BufRead, BufReader, Write};
@@ -203,6 +204,13 @@ fn of_the_standards() -> Vec<(&'static str, Case, String)> {
 /// Prints both tables.
 pub fn print(replay: &str) -> bool {
     std::panic::set_hook(Box::new(|_| {}));
+    let long = Case::new(6, vec![], vec![0; LARGEST + 1]);
+    let said = vvcc::nal_unit_type(&long.first);
+    let line = longest::answer_of(&long);
+    println!(
+        "`nal_unit_type` of 2^30 + 1 bytes: the original {said:?}, `replay` `{}`\n",
+        line.trim_end()
+    );
     let first = table(replay, entries());
     println!();
     let second = table(replay, of_the_standards());

@@ -3,6 +3,7 @@
 
 mod answers;
 mod case;
+#[cfg(not(counted))]
 mod differences;
 mod generator;
 mod limits;
@@ -207,6 +208,7 @@ fn main() {
     let number = |i: usize| words.get(i).map(|w| w.parse::<u64>().expect("a number"));
     let good = match words.first().map(String::as_str) {
         Some("answers") => answer_all(),
+        #[cfg(not(counted))]
         Some("differences") => differences::print(&words[1]),
         Some("longest") => {
             let (mut n, mut differ, mut table) = (0, 0, Table::new());

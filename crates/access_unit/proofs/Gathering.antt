@@ -2,7 +2,6 @@
 use Prim.Native.Nat.{ℕ, suc, _+_, _^_, _≤_, _<_}
 use mathlib.Core.Path.{_≡_, refl, sym, ap, _∙_}
 use mathlib.Core.Bool.{Bool, true, false}
-use mathlib.Core.Logic.{_⊎_}
 use mathlib.Core.List.{List, [], _∷_, map}
 use mathlib.Core.Option.{Option}
 use native.Mathlib.Omega.{arith}
@@ -18,11 +17,11 @@ use Rattle.unit_list.specs.UnitList.{Array, decode, unitsOf}
 use Rattle.unit_list.specs.Answers.{listUnits}
 use Rattle.unit_list.proofs.Accepted.{accepted}
 use Rattle.unit_list.proofs.Accepted as U
-use Rattle.hvcc.specs.Answers.{leftOf}
-use Rattle.hvcc.specs.Item.{splitItem}
-use Rattle.hvcc.proofs.Items.{split-sound, split-lent, split-apart, items-size, items-left}
-use Rattle.hvcc.proofs.Spans.{apart-sum}
-use Rattle.hvcc.proofs.Spans as H
+use Rattle.split.specs.Answers.{leftOf}
+use Rattle.split.specs.Item.{outside, splitItem}
+use Rattle.split.proofs.Items.{split-sound, split-lent, split-apart, items-outside, items-left}
+use Rattle.split.proofs.Spans.{apart-sum}
+use Rattle.split.proofs.Spans as H
 use Rattle.access_unit.specs.AccessUnit.{keeps, leading, kept}
 use Rattle.access_unit.specs.Inside.{keptLeft, lengths, itemSum, listSum, Gathered, someGathered, gather, sizesOf, bothSums, sizesWith}
 use Rattle.access_unit.specs.declared.sizes.UnitSum.{UnitSum}
@@ -75,8 +74,8 @@ item-few size target item split e =
 
 -- the item's units, kept and summed, beside the list's
 module _ (size : ℕ) (target : Option ℕ) (item : List ℕ) (v : UnitSum) (lent : length item ≤ 2 ^ 30) where
-  pub sizes-size : (size ≡ 0) ⊎ (4 < size) → refuse 4 ≡ sizesWith size target item v
-  sizes-size h = sym (rw (split-lent size item lent ∙ items-size size item h))
+  pub sizes-outside : outside size ≡ true → refuse 4 ≡ sizesWith size target item v
+  sizes-outside h = sym (rw (split-lent size item lent ∙ items-outside size item h))
 
   pub sizes-left : 0 < size → size ≤ 4 → (o : Outcome UnitSum) → o ≡ andThen (keptLeft size target item 0) (λ ks. accept (itemSum item ks))
       → andThen o (bothSums v) ≡ sizesWith size target item v

@@ -1,33 +1,24 @@
 -- Laws of the kept units of an item: what leads among them, and the walk over them.
-use Prim.Native.Nat.{ℕ, _≤_}
+use Prim.Native.Nat.{ℕ}
 use mathlib.Core.Path.{_≡_, refl, sym, ap, _∙_}
 use mathlib.Core.Bool.{Bool, true, false, _||_}
-use mathlib.Core.Logic.{⊎-elim}
 use mathlib.Core.List.{List, [], _∷_, _++_}
 use mathlib.Core.Option.{Option}
 use native.Mathlib.Omega.{arith}
 use lib.Dec.{eqb}
 use lib.ListN.{length, take, drop}
 use lib.Seq.{take-append-seam, drop-append-seam}
-use types.Run.{OneOf}
-use denote.Enum.Declared.{tagOf}
 use Rattle.error.specs.Logic.{if_then_else_}
 use Rattle.error.specs.Outcome.{Outcome, accept, refuse, andThen}
-use Rattle.error.specs.Refusals.{numberOf}
-use Rattle.error.specs.declared.Refusal.{Refusal}
 use Rattle.boxes.specs.Parts.{held}
 use Rattle.boxes.specs.Walk.{more}
 use Rattle.boxes.specs.declared.Span.{Span}
 use Rattle.boxes.proofs.Walk.{total}
 use Rattle.nal.specs.Header.{typeOr31}
-use Rattle.params.specs.Heads.{opiOlsIdx}
-use Rattle.hvcc.specs.Answers.{leftOf, UnitAhead, Onward, nextOf, itemStep}
-use Rattle.hvcc.specs.declared.NextUnit.{NextUnit}
-use Rattle.hvcc.specs.declared.NextUnit.the-variants as N
-use Rattle.hvcc.proofs.NextUnit.{the-type}
-use Rattle.hvcc.proofs.Items.{found-end, found-refusal}
+use Rattle.opi.specs.Opi.{opiOlsIdx}
+use Rattle.split.specs.Answers.{leftOf}
 use Rattle.access_unit.specs.AccessUnit.{agrees, isOpi, keeps, mayLead, leading, following, kept}
-use Rattle.access_unit.specs.Inside.{keptLeft, keptStepped}
+use Rattle.access_unit.specs.Inside.{keptLeft}
 
 -- a unit that is dropped is an OPI, which may lead
 either : (b c d : Bool) → (if b then c else true) ≡ false → (d || b) ≡ true
@@ -84,12 +75,6 @@ module _ (item : List ℕ) where
 
 -- ### the walk
 
--- what a step found lies behind every earlier place too
-pub onward-earlier : (item : List ℕ) (p q : ℕ) → p ≤ q → (r : NextUnit) → Onward item q r → Onward item p r
-onward-earlier item p q h (N.Unit a next) f = record { some = f .some; ahead = omega arith; behind = f .behind; inside = f .inside }
-onward-earlier item p q h N.End f = tt
-onward-earlier item p q h (N.Refused e) f = tt
-
 module _ (size : ℕ) (target : Option ℕ) (item : List ℕ) where
   module _ (p : ℕ) (a : Span) (q : ℕ) (rest : leftOf size item p ≡ more a (leftOf size item q)) where
     over : (b : Bool) → keeps target (held item a) ≡ b
@@ -111,14 +96,6 @@ module _ (size : ℕ) (target : Option ℕ) (item : List ℕ) where
     pub over-dropped : keeps target (held item a) ≡ false → keptLeft size target item p ≡ keptLeft size target item q
     over-dropped e = over false e
 
-  -- a step that found no unit says the same of the kept units
-  pub over-none : (p : ℕ) (r : NextUnit) → OneOf (1 ∷ 2 ∷ []) (tagOf the-type r) → nextOf r ≡ itemStep size item p
-      → keptStepped size target item r ≡ keptLeft size target item p
-  unfolding keptLeft kept
-  over-none p (N.Unit a next) k e = absurd (⊎-elim (λ h. omega arith) (λ h. omega arith) k)
-  over-none p N.End k e = rw (found-end size item p N.End e refl)
-  over-none p (N.Refused x) k e = rw (found-refusal size item p (N.Refused x) e x refl)
-
   -- where nothing is left, or a refusal, so it is of the kept units
   pub over-end : (p : ℕ) → leftOf size item p ≡ accept [] → keptLeft size target item p ≡ accept []
   unfolding keptLeft kept
@@ -128,24 +105,12 @@ module _ (size : ℕ) (target : Option ℕ) (item : List ℕ) where
   unfolding keptLeft kept
   over-refused p n e = rw e
 
-  -- a turn of the walk: the kept unit found from place p on, in front of those behind it
-  pub record KeptTurn (p : ℕ) (a : Span) (next : ℕ) : Type 0 where
-    pub here : UnitAhead item p a next
-    pub rest : keptLeft size target item p ≡ more a (keptLeft size target item next)
-
-  module _ (p : ℕ) (r : NextUnit) (said : (keptStepped size target item r ≡ keptLeft size target item p) × Onward item p r) where
-    pub kept-found : (a : Span) (next : ℕ) → r ≡ N.Unit a next → KeptTurn p a next
-    kept-found a next e = record { here = rw e at (said .1); rest = sym (said .0) ∙ ap (keptStepped size target item) e }
-
-    pub kept-end : r ≡ N.End → keptLeft size target item p ≡ accept []
-    kept-end e = sym (said .0) ∙ ap (keptStepped size target item) e
-
-    pub kept-refused : (e : Refusal) → r ≡ N.Refused e → keptLeft size target item p ≡ refuse (numberOf e)
-    kept-refused e w = sym (said .0) ∙ ap (keptStepped size target item) w
-
-  -- a step that found no unit: there is none
-  pub kept-none : (p : ℕ) (r : NextUnit) → keptStepped size target item r ≡ keptLeft size target item p → OneOf (1 ∷ 2 ∷ []) (tagOf the-type r)
-      → total (keptLeft size target item p) ≡ 0
-  kept-none p (N.Unit a next) e k = absurd (⊎-elim (λ h. omega arith) (λ h. omega arith) k)
-  kept-none p N.End e k = ap total (sym e)
-  kept-none p (N.Refused x) e k = ap total (sym e)
+  -- no unit is left, so no kept one is
+  pub over-nothing : (p : ℕ) → total (leftOf size item p) ≡ 0 → total (keptLeft size target item p) ≡ 0
+  unfolding keptLeft kept
+  over-nothing p e = go (leftOf size item p) e
+    where
+      go : (o : Outcome (List Span)) → total o ≡ 0 → total (andThen o (λ xs. accept (kept item target xs))) ≡ 0
+      go (accept []) e = refl
+      go (accept (a ∷ xs)) e = absurd (omega arith)
+      go (refuse n) e = refl

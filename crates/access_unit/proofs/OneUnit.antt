@@ -12,9 +12,9 @@ use Rattle.boxes.specs.Walk.{countFound}
 use Rattle.boxes.specs.declared.Span.{Span}
 use Rattle.nal.specs.Header.{typeOr31}
 use Rattle.unit_list.specs.Answers.{listUnits}
-use Rattle.hvcc.specs.Item.{splitItem}
-use Rattle.hvcc.specs.Stream.{annexB}
-use Rattle.hvcc.proofs.Items.{split-sound}
+use Rattle.split.specs.Item.{splitItem}
+use Rattle.split.specs.Stream.{annexB}
+use Rattle.split.proofs.Items.{split-sound}
 use Rattle.full.specs.declared.VvcConfig.{VvcConfig}
 use Rattle.access_unit.specs.AccessUnit.{targetOf, keeps, mayLead, leading, following, kept, Source, ofList, ofItem, arranged, notEmpty, accessUnit, heldIn, startCode, assemble}
 use Rattle.access_unit.proofs.Order.{held-list}

@@ -1,5 +1,5 @@
--- Laws of the access unit's order: its definition by what was gathered, its stream in three parts, and unit k.
-use Prim.Native.Nat.{ℕ, zero, suc, _+_, _*_, _-_, _^_, _≤_, _<_}
+-- Laws of the access unit's order: its definition by what was gathered, and its stream in three parts.
+use Prim.Native.Nat.{ℕ, _+_, _*_, _^_}
 use mathlib.Core.Path.{_≡_, refl, sym, ap, _∙_}
 use mathlib.Core.Bool.{Bool, true, false}
 use mathlib.Core.List.{List, [], _∷_, _++_, map, map-append}
@@ -7,16 +7,15 @@ use mathlib.Core.Option.{Option}
 use native.Mathlib.Omega.{arith}
 use native.Mathlib.Decide.{decLe}
 use lib.Dec.{eqb}
-use lib.ListN.{length, getD, length-append, length-map, List·getD-append, List·getD-eq-default}
-use lib.Seq.{getD-append-add}
+use lib.ListN.{length, length-append, length-map}
 use borrow.Author.Tests.{eq-eqb, ne-eqb, le-leb, lt-leb}
 use Rattle.error.specs.Logic.{if_then_else_}
 use Rattle.error.specs.Outcome.{Outcome, accept, refuse, andThen}
-use Rattle.boxes.specs.Parts.{held, nowhere}
+use Rattle.boxes.specs.Parts.{held}
 use Rattle.boxes.specs.declared.Span.{Span}
 use Rattle.unit_list.specs.Answers.{listUnits}
-use Rattle.hvcc.specs.Item.{splitItem}
-use Rattle.hvcc.specs.Stream.{annexB}
+use Rattle.split.specs.Item.{splitItem}
+use Rattle.split.specs.Stream.{annexB}
 use Rattle.full.specs.declared.VvcConfig.{VvcConfig}
 use Rattle.access_unit.specs.AccessUnit.{targetOf, leading, following, kept, Source, ofList, ofItem, arranged, notEmpty, accessUnit, heldIn, startCode, assemble}
 use Rattle.access_unit.specs.Inside.{lengths, Gathered, someGathered, gather, inOrder, sources, bytesAt, gatheredBytes}
@@ -134,73 +133,3 @@ module _ (list item : List ℕ) where
         ∙ ap lengths (sym (map-append (held item) lead rest))
         ∙ ap (λ (us : List Span). lengths (map (held item) us)) (leads-and-follows item (g .kept)) in
         omega arith
-
--- ### unit k
-
-getD-mapped : (f : Span → Source) (us : List Span) (k : ℕ) (d : Source) → k < length us → getD (map f us) k d ≡ f (getD us k nowhere)
-getD-mapped f [] k d h = absurd (omega arith)
-getD-mapped f (a ∷ us) zero d h = refl
-getD-mapped f (a ∷ us) (suc k) d h = getD-mapped f us k d (omega arith)
-
-module _ (item : List ℕ) (g : Gathered) (k : ℕ) where
-  kept-length : length (leading item (g .kept)) + length (following item (g .kept)) ≡ length (g .kept)
-  kept-length = sym (length-append (leading item (g .kept)) (following item (g .kept))) ∙ ap length (leads-and-follows item (g .kept))
-
-  -- among those that lead, in the list, behind it, and past the last
-  pub source-leading : k < length (leading item (g .kept)) → ofItem (getD (g .kept) k nowhere) ≡ getD (inOrder item g) k (ofList nowhere)
-  unfolding inOrder
-  source-leading h =
-      let l = length-map (leading item (g .kept)) ofItem in
-      let e : getD (g .kept) k nowhere ≡ getD (leading item (g .kept)) k nowhere =
-      ap (λ (us : List Span). getD us k nowhere) (sym (leads-and-follows item (g .kept))) ∙ List·getD-append (leading item (g .kept)) (following item (g .kept)) nowhere k h in
-      sym (
-      List·getD-append (map ofItem (leading item (g .kept))) (map ofList (g .units) ++ map ofItem (following item (g .kept))) (ofList nowhere) k (omega arith)
-      ∙ getD-mapped ofItem (leading item (g .kept)) k (ofList nowhere) h
-      ∙ ap ofItem (sym e))
-
-  module _ (behind : length (leading item (g .kept)) ≤ k) where
-    past-leading : getD (inOrder item g) k (ofList nowhere)
-        ≡ getD (map ofList (g .units) ++ map ofItem (following item (g .kept))) (k - length (leading item (g .kept))) (ofList nowhere)
-    unfolding inOrder
-    past-leading =
-        let l = length-map (leading item (g .kept)) ofItem in
-        let e : k ≡ length (map ofItem (leading item (g .kept))) + (k - length (leading item (g .kept))) = omega arith in
-        ap (λ (n : ℕ). getD (map ofItem (leading item (g .kept)) ++ (map ofList (g .units) ++ map ofItem (following item (g .kept)))) n (ofList nowhere)) e
-        ∙ getD-append-add (map ofItem (leading item (g .kept))) (map ofList (g .units) ++ map ofItem (following item (g .kept))) (k - length (leading item (g .kept))) (ofList nowhere)
-
-    pub source-listed : k - length (leading item (g .kept)) < length (g .units)
-        → ofList (getD (g .units) (k - length (leading item (g .kept))) nowhere) ≡ getD (inOrder item g) k (ofList nowhere)
-    source-listed h =
-        let l = length-map (g .units) ofList in
-        sym (
-        past-leading
-        ∙ List·getD-append (map ofList (g .units)) (map ofItem (following item (g .kept))) (ofList nowhere) (k - length (leading item (g .kept))) (omega arith)
-        ∙ getD-mapped ofList (g .units) (k - length (leading item (g .kept))) (ofList nowhere) h)
-
-    pub source-following : length (g .units) ≤ k - length (leading item (g .kept)) → k - length (g .units) < length (g .kept)
-        → ofItem (getD (g .kept) (k - length (g .units)) nowhere) ≡ getD (inOrder item g) k (ofList nowhere)
-    source-following h i =
-        let n = length (g .units) in
-        let m = length (leading item (g .kept)) in
-        let j = k - m - n in
-        let x = kept-length in
-        let l = length-map (g .units) ofList in
-        let e : k - m ≡ length (map ofList (g .units)) + j = omega arith in
-        let f : k - n ≡ m + j = omega arith in
-        let a : getD (g .kept) (k - n) nowhere ≡ getD (following item (g .kept)) j nowhere =
-        ap (λ (us : List Span). getD us (k - n) nowhere) (sym (leads-and-follows item (g .kept)))
-        ∙ ap (λ (i : ℕ). getD (leading item (g .kept) ++ following item (g .kept)) i nowhere) f
-        ∙ getD-append-add (leading item (g .kept)) (following item (g .kept)) j nowhere in
-        sym (
-        past-leading
-        ∙ ap (λ (i : ℕ). getD (map ofList (g .units) ++ map ofItem (following item (g .kept))) i (ofList nowhere)) e
-        ∙ getD-append-add (map ofList (g .units)) (map ofItem (following item (g .kept))) j (ofList nowhere)
-        ∙ getD-mapped ofItem (following item (g .kept)) j (ofList nowhere) (omega arith)
-        ∙ ap ofItem (sym a))
-
-    pub source-past : length (g .units) ≤ k - length (leading item (g .kept)) → length (g .kept) ≤ k - length (g .units)
-        → ofList nowhere ≡ getD (inOrder item g) k (ofList nowhere)
-    source-past h i =
-        let x = kept-length in
-        let l = order-length item g in
-        sym (List·getD-eq-default (inOrder item g) (ofList nowhere) {n = k} (omega arith))

@@ -16,7 +16,7 @@ use Rattle.boxes.specs.Walk.{more}
 use Rattle.boxes.specs.declared.Span.{Span}
 use Rattle.boxes.proofs.Walk.{after, after-nil, done-more, done-end, done-refused}
 use Rattle.unit_list.proofs.Accepted.{held-long}
-use Rattle.hvcc.proofs.Items.{Turn}
+use Rattle.split.proofs.Items.{Turn}
 use Rattle.access_unit.specs.AccessUnit.{keeps, mayLead, leading}
 use Rattle.access_unit.specs.Inside.{keptLeft, lengths, adding, addingKept, itemSum, listSum}
 use Rattle.access_unit.proofs.KeptUnits.{over-kept, over-dropped}

@@ -13,10 +13,10 @@ use Rattle.error.specs.Refusals.{numberOf}
 use Rattle.error.specs.declared.Refusal.{Refusal}
 use Rattle.boxes.proofs.Lent.{lent-within}
 use Rattle.nal.specs.Header.{typeOr31}
-use Rattle.params.specs.Heads.{opiOlsIdx}
-use Rattle.params.specs.Answers.{olsIdxOf, olsIdxGiven}
-use Rattle.params.specs.declared.OlsIdx.{OlsIdx}
-use Rattle.params.specs.declared.OlsIdx.the-variants as O
+use Rattle.opi.specs.Opi.{opiOlsIdx}
+use Rattle.opi.specs.Answers.{olsIdxOf, olsIdxGiven}
+use Rattle.opi.specs.declared.OlsIdx.{OlsIdx}
+use Rattle.opi.specs.declared.OlsIdx.the-variants as O
 use Rattle.full.specs.declared.VvcConfig.{VvcConfig}
 use Rattle.access_unit.specs.AccessUnit.{targetOf, agrees, keeps, mayLead}
 use Rattle.access_unit.specs.Answers.{tolsOf}

@@ -11,9 +11,9 @@ use Rattle.boxes.specs.Parts.{held}
 use Rattle.boxes.specs.declared.Span.{Span}
 use Rattle.nal.specs.Header.{typeOr31}
 use Rattle.unit_list.specs.Answers.{listUnits}
-use Rattle.params.specs.Heads.{opiOlsIdx}
-use Rattle.hvcc.specs.Item.{splitItem}
-use Rattle.hvcc.specs.Stream.{annexB}
+use Rattle.opi.specs.Opi.{opiOlsIdx}
+use Rattle.split.specs.Item.{splitItem}
+use Rattle.split.specs.Stream.{annexB}
 use Rattle.full.specs.declared.VvcConfig.{VvcConfig}
 
 -- "The target is the caller's, else the head's operating point when its PTL flag is set, else none."

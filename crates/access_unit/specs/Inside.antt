@@ -1,25 +1,20 @@
--- What the functions inside this crate say: the kept units of an item, an access unit measured, stored and searched.
-use Prim.Native.Nat.{ℕ, _+_, _^_, _≤_, _<_}
-use mathlib.Core.Path.{_≡_}
+-- What the functions of this crate and those above it say: the kept units of an item, an access unit measured, in order and as a stream.
+use Prim.Native.Nat.{ℕ, _+_, _^_, _≤_}
 use mathlib.Core.Bool.{Bool, _&&_}
 use mathlib.Core.List.{List, [], _∷_, _++_, map}
 use mathlib.Core.Option.{Option}
 use lib.Dec.{eqb}
-use lib.ListN.{length, take, drop}
-use lib.Seq.{sets}
+use lib.ListN.{length}
 use Rattle.error.specs.Logic.{if_then_else_}
 use Rattle.error.specs.Outcome.{Outcome, accept, refuse, andThen, lentInput}
 use Rattle.error.specs.Steps.{_>>=_}
 use Rattle.error.specs.Refusals.{numberOf}
 use Rattle.boxes.specs.Parts.{held}
-use Rattle.boxes.specs.Walk.{more}
 use Rattle.boxes.specs.declared.Span.{Span}
 use Rattle.unit_list.specs.Answers.{listUnits}
-use Rattle.hvcc.specs.Answers.{leftOf}
-use Rattle.hvcc.specs.Item.{splitItem}
-use Rattle.hvcc.specs.Stream.{annexB}
-use Rattle.hvcc.specs.declared.NextUnit.{NextUnit}
-use Rattle.hvcc.specs.declared.NextUnit.the-variants as N
+use Rattle.split.specs.Answers.{leftOf}
+use Rattle.split.specs.Item.{splitItem}
+use Rattle.split.specs.Stream.{annexB}
 use Rattle.access_unit.specs.AccessUnit.{mayLead, keeps, leading, following, kept, Source, ofList, ofItem, heldIn, startCode}
 use Rattle.access_unit.specs.declared.sizes.UnitSum.{UnitSum}
 use Rattle.access_unit.specs.declared.sizes.Summed.{Summed}
@@ -27,9 +22,6 @@ use Rattle.access_unit.specs.declared.sizes.Summed.the-variants as S
 use Rattle.access_unit.specs.declared.sizes.Sizes.{Sizes}
 use Rattle.access_unit.specs.declared.sizes.Measured.{Measured}
 use Rattle.access_unit.specs.declared.sizes.Measured.the-variants as M
-use Rattle.access_unit.specs.declared.stream.Places.{Places}
-use Rattle.access_unit.specs.declared.source.UnitPlace.{UnitPlace}
-use Rattle.access_unit.specs.declared.source.UnitPlace.the-variants as U
 
 -- a prefix size and a place from which the units of an item may be walked
 pub record Walks (size : ℕ) (item : List ℕ) (p : ℕ) : Type 0 where
@@ -41,12 +33,6 @@ pub record Walks (size : ℕ) (item : List ℕ) (p : ℕ) : Type 0 where
 -- the kept units of an item from a place on: in byte order 1 and 5
 unfoldable pub keptLeft : ℕ → Option ℕ → List ℕ → ℕ → Outcome (List Span)
 keptLeft size target item p = andThen (leftOf size item p) (λ xs. accept (kept item target xs))
-
--- what a step to the next kept unit says of those from the place that it started from
-abbrev pub keptStepped : ℕ → Option ℕ → List ℕ → NextUnit → Outcome (List Span)
-keptStepped size target item (N.Unit a next) = more a (keptLeft size target item next)
-keptStepped size target item N.End = accept []
-keptStepped size target item (N.Refused e) = refuse (numberOf e)
 
 -- ### measured
 
@@ -127,69 +113,13 @@ inOrder item g = map ofItem (leading item (g .kept)) ++ (map ofList (g .units) +
 abbrev pub sources : ℕ → Option ℕ → List ℕ → List ℕ → Outcome (List Source)
 sources size target list item = andThen (gather size target list item) (λ g. accept (inOrder item g))
 
--- the unit at a place
-abbrev pub sourceOf : UnitPlace → Source
-sourceOf (U.OfList a) = ofList a
-sourceOf (U.OfItem a) = ofItem a
-
--- a unit lies inside the list or the item that it is of
-abbrev pub SourceFits : List ℕ → List ℕ → UnitPlace → Type 0
-SourceFits list item (U.OfList a) = a .start + a .len ≤ length list
-SourceFits list item (U.OfItem a) = a .start + a .len ≤ length item
-
--- an item has a kept unit number k
-pub record HasKept (size : ℕ) (target : Option ℕ) (item : List ℕ) (k : ℕ) : Type 0 where
-  pub units : List Span
-  pub found : keptLeft size target item 0 ≡ accept units
-  pub within : k < length units
-
--- ### stored
+-- ### the stream
 
 -- the stream of the units at spans of s
 abbrev pub bytesAt : List ℕ → List Span → List ℕ
 bytesAt s us = annexB startCode (map (held s) us)
 
--- the same of units that were found
-abbrev pub foundBytes : List ℕ → Outcome (List Span) → List ℕ
-foundBytes s (accept us) = bytesAt s us
-foundBytes s (refuse e) = []
-
--- units were found, and from a place of the output on there is room for their stream
-pub record PutsAll (s : List ℕ) (o : Outcome (List Span)) (out : List ℕ) (to : ℕ) : Type 0 where
-  pub units : List Span
-  pub found : o ≡ accept units
-  pub room : to + length (bytesAt s units) ≤ length out
-
--- the first n of those that were found, and those behind them
-abbrev pub firstOf : ℕ → Outcome (List Span) → Outcome (List Span)
-firstOf n o = andThen o (λ us. accept (take n us))
-
-abbrev pub restOf : ℕ → Outcome (List Span) → Outcome (List Span)
-restOf n o = andThen o (λ us. accept (drop n us))
-
--- there are n kept units from a place of an item on, and room for their stream
-pub record PutsFirst (size : ℕ) (target : Option ℕ) (item : List ℕ) (p n : ℕ) (out : List ℕ) (to : ℕ) : Type 0 where
-  pub walks : Walks size item p
-  pub units : List Span
-  pub found : keptLeft size target item p ≡ accept units
-  pub enough : n ≤ length units
-  pub room : to + length (bytesAt item (take n units)) ≤ length out
-
--- the stream of the first n kept units from a place of an item on was stored, and the places stand behind them
-pub record FirstPut (size : ℕ) (target : Option ℕ) (item : List ℕ) (p n : ℕ) (out : List ℕ) (to : ℕ) (r : Places) (after : List ℕ) : Type 0 where
-  pub within : r .item ≤ length item
-  pub next : keptLeft size target item (r .item) ≡ restOf n (keptLeft size target item p)
-  pub behind : r .out ≡ to + length (foundBytes item (firstOf n (keptLeft size target item p)))
-  pub stored : after ≡ sets out to (foundBytes item (firstOf n (keptLeft size target item p)))
-
 -- the stream of an access unit
 abbrev pub gatheredBytes : List ℕ → List ℕ → Outcome Gathered → List ℕ
 gatheredBytes list item (accept g) = annexB startCode (map (heldIn list item) (inOrder item g))
 gatheredBytes list item (refuse e) = []
-
--- an access unit was measured, and there is room for its stream
-pub record PutsStream (size : ℕ) (target : Option ℕ) (list item : List ℕ) (sizes : Sizes) (out : List ℕ) : Type 0 where
-  pub parts : Gathered
-  pub found : gather size target list item ≡ accept parts
-  pub sized : sizes ≡ sizesOf list item parts
-  pub room : length (gatheredBytes list item (accept parts)) ≤ length out

@@ -1,23 +1,21 @@
-// For this crate's calls: the units of an item that are kept, one after another.
+// For this crate and those further down: which units of an item are kept.
 use super::Target;
 use boxes::Span;
 use boxes::place;
 use full::VvcConfig;
-use hvcc::NextUnit;
-use hvcc::walk;
 use nal::NAL_OPI;
 use nal::header;
-use params::OlsIdx;
+use opi::OlsIdx;
+use split::NextUnit;
+use split::walk;
 ghost use mathlib.Core.Path.{_≡_};
 ghost use mathlib.Core.Option.{some};
 ghost use Prim.Native.Nat.{_+_, _≤_, _^_};
 ghost use lib.ListN.{length};
 ghost use Rattle.boxes.specs.Parts.{held};
 ghost use Rattle.nal.specs.Header.{typeOr31};
-ghost use Rattle.hvcc.specs.Answers.{Onward};
 ghost use Rattle.access_unit.specs.AccessUnit.{targetOf, agrees, keeps};
 ghost use Rattle.access_unit.specs.Answers.{tolsOf};
-ghost use Rattle.access_unit.specs.Inside.{Walks, keptLeft, keptStepped};
 
 // The target: the caller's, else the head's operating point when its PTL flag is set, else none.
 pub fn target_of(head: VvcConfig, tols: Target) -> Target
@@ -49,7 +47,7 @@ pub fn opi_kept(unit: &[u8], target: Target) -> bool
     requires { ⌜ (typeOr31 (now unit) ≡ 12) × (length (now unit) ≤ 2 ^ 30) ⌝ }
     ensures { λ r. ⌜ r ≡ keeps (tolsOf target) (now (unit .entry)) ⌝ }
 {
-    match params::opi_ols_idx(unit) {
+    match opi::opi_ols_idx(unit) {
         OlsIdx::Present(idx) => agrees_with(target, idx),
         OlsIdx::Absent => true,
         OlsIdx::Refused(_) => true,
@@ -66,22 +64,4 @@ pub fn kept_at(item: &[u8], a: Span, target: Target) -> bool
         return opi_kept(unit, target);
     }
     true
-}
-
-// The next unit from a place of an item on that is kept, past those that are dropped.
-pub fn next_kept(item: &[u8], size: usize, target: Target, from: usize) -> NextUnit
-    requires { ⌜ Walks size (now item) from ⌝ }
-    ensures { λ r. ⌜ (keptStepped size (tolsOf target) (now (item .entry)) r ≡ keptLeft size (tolsOf target) (now (item .entry)) from) × Onward (now (item .entry)) from r ⌝ }
-{
-    let mut at = from;
-    loop {
-        let step = walk::item_step(item, size, at);
-        let NextUnit::Unit(a, next) = step else {
-            return step;
-        };
-        if kept_at(item, a, target) {
-            return step;
-        }
-        at = next;
-    }
 }

@@ -1,15 +1,15 @@
-// For this crate's calls: how many units an access unit has from list and item, and how many bytes they hold.
+// For this crate and those further down: how many units an access unit has from list and item, and how many bytes they hold.
 use super::Target;
 use super::kept;
 use boxes::Span;
 use boxes::place;
 use error::LARGEST_INPUT;
 use error::Refusal;
-use hvcc::NextUnit;
-use hvcc::walk as items;
 use nal::NAL_AUD;
 use nal::NAL_OPI;
 use nal::header;
+use split::NextUnit;
+use split::walk as items;
 use unit_list::ListCursor;
 use unit_list::ListStart;
 use unit_list::ListStep;
@@ -150,7 +150,7 @@ fn measure_item(item: &[u8], length_size: u8, target: Target, listed: UnitSum) -
     requires { ⌜ (length (now item) ≤ 2 ^ 30) × (listed .count + listed .lengths ≤ 2 ^ 30) ⌝ }
     ensures { λ r. ⌜ measuredOf r ≡ sizesWith «length_size» (tolsOf target) (now (item .entry)) listed ⌝ }
 {
-    if length_size == 0 || 4 < length_size {
+    if items::outside(length_size) {
         return Measured::Refused(Refusal::PrefixSize);
     }
     let summed = item_sum(item, place::wide(length_size), target);

@@ -14,7 +14,7 @@ use Rattle.boxes.proofs.Sets.{sets-append}
 use Rattle.unit_list.specs.UnitList.{encodeUnits}
 use Rattle.unit_list.proofs.Encode.{length-toChunk}
 use Rattle.unit_list.proofs.Accepted.{held-long}
-use Rattle.compact.specs.Inside.{unitBytes, foundBytes, Copies}
+use Rattle.compact.specs.Units.{unitBytes, foundBytes, Copies}
 
 -- a unit inside s behind its length, alone and in front of others
 module _ (w : ℕ) (s : List ℕ) (a : Span) (inside : a .start + a .len ≤ length s) where

@@ -20,12 +20,12 @@ use Rattle.unit_list.proofs.Arrays.{be-one, sound-none, sound-more}
 use Rattle.unit_list.proofs.Encode.{UnitsRead, units-encode}
 use Rattle.unit_list.proofs.Accepted.{held-long}
 use Rattle.compact.specs.Compact.{compactRecord, CompactParsed, oneArray, parsedWith, parseCompact, allAtMost, compactBytes, serializeCompact}
-use Rattle.compact.specs.Inside.{unitBytes, recordUnits, configOf, firstByte}
+use Rattle.compact.specs.Units.{unitBytes, recordUnits, configOf, firstByte}
 use Rattle.compact.specs.declared.CompactVvcConfig.{CompactVvcConfig}
 use Rattle.compact.proofs.Copying.{room-more}
-use Rattle.compact.proofs.RecordUnits.{list-long}
+use Rattle.compact.proofs.OneArray.{list-long}
 use Rattle.compact.proofs.RecordRead.{times-length, parse-too-long, parse-empty, parse-short, parse-over, parse-given, record-given}
-use Rattle.compact.proofs.ListUnits.{bytes-given}
+use Rattle.compact.proofs.RecordBytes.{bytes-given}
 
 -- every element is a byte
 abbrev pub AllBytes : List ℕ → Type 0

@@ -1,8 +1,5 @@
 pub mod Copying
-pub mod RecordUnits
+pub mod OneArray
 pub mod RecordRead
-pub mod ListUnits
-pub mod Stills
+pub mod RecordBytes
 pub mod Facts
-pub mod Restored
-pub mod Examples

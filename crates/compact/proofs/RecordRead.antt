@@ -14,9 +14,9 @@ use Rattle.boxes.proofs.Fields.{uint-there, uint-short}
 use Rattle.boxes.proofs.Lent.{lent-too-long}
 use Rattle.unit_list.proofs.Arrays.{be-one}
 use Rattle.compact.specs.Compact.{atEnd, compactRecord, oneArray, parsedWith, parseCompact}
-use Rattle.compact.specs.Inside.{unitBytes, recordUnits, configOf}
+use Rattle.compact.specs.Units.{unitBytes, recordUnits, configOf}
 use Rattle.compact.specs.declared.CompactVvcConfig.{CompactVvcConfig}
-use Rattle.compact.proofs.RecordUnits.{list-long}
+use Rattle.compact.proofs.OneArray.{list-long}
 
 -- as many things are read as are asked for
 length-bind : {A : Type 0} (n : ℕ) (a : A) (y : Parsed (List A)) (us : List A) (q : ℕ)

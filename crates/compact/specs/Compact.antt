@@ -12,7 +12,7 @@ use Rattle.boxes.specs.Parts.{held}
 use Rattle.boxes.specs.declared.Span.{Span}
 use Rattle.unit_list.specs.UnitList.{encode, encodeUnits}
 use Rattle.unit_list.specs.Answers.{listUnits}
-use Rattle.hvcc.specs.Item.{outside}
+use Rattle.split.specs.Item.{outside}
 use Rattle.compact.specs.declared.CompactVvcConfig.{CompactVvcConfig}
 
 -- "Nothing may follow": 7 where bytes are left over

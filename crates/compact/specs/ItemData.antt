@@ -11,7 +11,7 @@ use Rattle.boxes.specs.Bytes.{toChunk}
 use Rattle.boxes.specs.Parts.{held}
 use Rattle.boxes.specs.declared.Span.{Span}
 use Rattle.nal.specs.Header.{unitType, layerId, temporalIdPlus1, nalHeader}
-use Rattle.hvcc.specs.Item.{outside, itemUnits}
+use Rattle.split.specs.Item.{outside, itemUnits}
 use Rattle.compact.specs.declared.CompactVvcConfig.{CompactVvcConfig}
 
 -- the unit that stored bytes are the payload of: IDR_N_LP, layer 0, temporal id plus 1 being 1, which is 00 41

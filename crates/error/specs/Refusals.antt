@@ -1,30 +1,30 @@
 -- The number of each refusal (document 01, "Refusals, operation by operation").
 use Prim.Native.Nat.{ℕ}
 use Rattle.error.specs.declared.Refusal.{Refusal}
-use Rattle.error.specs.declared.Refusal.the-variants.{Truncated, ConstraintLengthZero, PrefixSizeThree, PrefixSize, ZeroLengthUnit, UnitTooLongForPrefix, BytesLeftOver, CompactUnitCount, CompactUnitTooLong, WrongUnitType, BitsRunOut, CodeTooLong, Subpictures, BitDepth, SeveralLayers, NoVps, NoSps, NoPtl, NothingToWrite, BufferTooShort, UnitList, FieldTooWide, InputTooLong, NotOneStill}
+use Rattle.error.specs.declared.Refusal.the-variants as R
 
 abbrev pub numberOf : Refusal → ℕ
-numberOf Truncated = 1
-numberOf ConstraintLengthZero = 2
-numberOf PrefixSizeThree = 3
-numberOf PrefixSize = 4
-numberOf ZeroLengthUnit = 5
-numberOf UnitTooLongForPrefix = 6
-numberOf BytesLeftOver = 7
-numberOf CompactUnitCount = 8
-numberOf CompactUnitTooLong = 9
-numberOf WrongUnitType = 10
-numberOf BitsRunOut = 11
-numberOf CodeTooLong = 12
-numberOf Subpictures = 13
-numberOf BitDepth = 14
-numberOf SeveralLayers = 15
-numberOf NoVps = 16
-numberOf NoSps = 17
-numberOf NoPtl = 18
-numberOf NothingToWrite = 19
-numberOf BufferTooShort = 20
-numberOf UnitList = 21
-numberOf FieldTooWide = 22
-numberOf InputTooLong = 23
-numberOf NotOneStill = 24
+numberOf R.Truncated = 1
+numberOf R.ConstraintLengthZero = 2
+numberOf R.PrefixSizeThree = 3
+numberOf R.PrefixSize = 4
+numberOf R.ZeroLengthUnit = 5
+numberOf R.UnitTooLongForPrefix = 6
+numberOf R.BytesLeftOver = 7
+numberOf R.CompactUnitCount = 8
+numberOf R.CompactUnitTooLong = 9
+numberOf R.WrongUnitType = 10
+numberOf R.BitsRunOut = 11
+numberOf R.CodeTooLong = 12
+numberOf R.Subpictures = 13
+numberOf R.BitDepth = 14
+numberOf R.SeveralLayers = 15
+numberOf R.NoVps = 16
+numberOf R.NoSps = 17
+numberOf R.NoPtl = 18
+numberOf R.NothingToWrite = 19
+numberOf R.BufferTooShort = 20
+numberOf R.UnitList = 21
+numberOf R.FieldTooWide = 22
+numberOf R.InputTooLong = 23
+numberOf R.NotOneStill = 24

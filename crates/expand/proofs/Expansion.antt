@@ -15,9 +15,11 @@ use Rattle.unit_list.specs.Answers.{listUnits}
 use Rattle.compact.specs.declared.CompactVvcConfig.{CompactVvcConfig}
 use Rattle.full.specs.Read.{zeroHead}
 use Rattle.full.specs.declared.VvcConfig.{VvcConfig}
-use Rattle.expand.specs.Expand.{FullHead, Picture, grouped, expandUnits, toFull}
+use Rattle.grouping.specs.Grouping.{grouped}
+use Rattle.expand.specs.Expand.{FullHead, Picture, expandUnits, toFull}
 use Rattle.expand.specs.Answers.{expandedGiven}
-use Rattle.expand.specs.Inside.{withUnits, heldUnits}
+use Rattle.grouping.specs.Units.{heldUnits}
+use Rattle.expand.specs.Inside.{withUnits}
 
 -- what a call hands back: the answer with the head, and what the output then holds
 abbrev pub Given : Type 0

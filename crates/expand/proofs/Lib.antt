@@ -1,9 +1,3 @@
-pub mod Grouping
-pub mod GroupedFits
-pub mod Walks
-pub mod OfType
-pub mod FirstAppearance
-pub mod ArrayWalk
-pub mod Opening
+pub mod WrittenGroups
 pub mod SetsRead
 pub mod Expansion

@@ -10,14 +10,17 @@ use Rattle.error.specs.Steps.{orRefuse}
 use Rattle.error.specs.declared.Refusal.{Refusal}
 use Rattle.ptl.specs.Ptl.{zeroPtl}
 use Rattle.ptl.specs.declared.VvcPtlRecord.{VvcPtlRecord}
-use Rattle.params.specs.Heads.{parseSps, vpsFirstPtl}
-use Rattle.params.specs.Answers.{readOf, ptlOf, ptlGiven}
+use Rattle.sps.specs.Sps.{parseSps}
+use Rattle.vps.specs.Vps.{vpsFirstPtl}
+use Rattle.params.specs.Answers.{readOf}
+use Rattle.vps.specs.Answers.{ptlOf, ptlGiven}
 use Rattle.params.specs.declared.ParamsAnswer.{ParamsAnswer}
 use Rattle.params.specs.declared.ParamsAnswer.the-variants as P
-use Rattle.params.specs.declared.PtlRead.{PtlRead}
-use Rattle.params.specs.declared.SpsHead.{SpsHead}
+use Rattle.vps.specs.declared.PtlRead.{PtlRead}
+use Rattle.sps.specs.declared.SpsHead.{SpsHead}
 use Rattle.compact.specs.declared.CompactVvcConfig.{CompactVvcConfig}
-use Rattle.expand.specs.Expand.{havingType, first, multiLayerVps, ptlOfSets, expandUnits, Picture, expandedHead}
+use Rattle.grouping.specs.Grouping.{havingType, first}
+use Rattle.expand.specs.Expand.{multiLayerVps, ptlOfSets, expandUnits, Picture, expandedHead}
 use Rattle.expand.specs.Inside.{ptlOrZeros, firstVpsPtl, firstSpsPtl, setsPtl, withUnits}
 
 -- ### a value beside an answer

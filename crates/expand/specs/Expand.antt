@@ -1,50 +1,21 @@
 -- The full record that a compact record stands for (ISO/IEC 23008-12 Amd 2 L.4.3.3.4).
 use Prim.Native.Nat.{ℕ, _-_, min}
 use mathlib.Core.Bool.{Bool, true, false}
-use mathlib.Core.List.{List, [], _∷_, map}
-use mathlib.Core.Option.{Option, none, some}
-use lib.Dec.{eqb}
+use mathlib.Core.List.{List, map}
 use lib.ListN.{length}
 use Rattle.error.specs.Logic.{if_then_else_}
 use Rattle.error.specs.Outcome.{Outcome, accept}
 use Rattle.error.specs.Steps.{_>>=_, _>>_, orRefuse}
 use Rattle.boxes.specs.Parts.{held}
-use Rattle.nal.specs.Header.{typeOr31}
-use Rattle.unit_list.specs.UnitList.{Array, encode}
+use Rattle.unit_list.specs.UnitList.{encode}
 use Rattle.unit_list.specs.Answers.{listUnits}
-use Rattle.params.specs.Heads.{parseSps, vpsFirstPtl}
+use Rattle.sps.specs.Sps.{parseSps}
+use Rattle.vps.specs.Vps.{vpsFirstPtl}
 use Rattle.ptl.specs.declared.VvcPtlRecord.{VvcPtlRecord}
-use Rattle.params.specs.declared.SpsHead.{SpsHead}
+use Rattle.sps.specs.declared.SpsHead.{SpsHead}
+use Rattle.grouping.specs.Grouping.{havingType, first, grouped}
 use Rattle.compact.specs.declared.CompactVvcConfig.{CompactVvcConfig}
 use Rattle.full.specs.declared.VvcConfig.{VvcConfig}
-
--- the units of a type, in their order
-unfoldable pub havingType : ℕ → List (List ℕ) → List (List ℕ)
-havingType t [] = []
-havingType t (u ∷ us) = if eqb (typeOr31 u) t then u ∷ havingType t us else havingType t us
-
--- without a number
-unfoldable pub without : ℕ → List ℕ → List ℕ
-without t [] = []
-without t (x ∷ xs) = if eqb x t then without t xs else x ∷ without t xs
-
--- each number once, by its first appearance
-unfoldable pub firsts : List ℕ → List ℕ
-firsts [] = []
-firsts (t ∷ ts) = t ∷ without t (firsts ts)
-
--- the array of a type
-abbrev pub group : List (List ℕ) → ℕ → Array (List ℕ)
-group us t = record { complete = 1; unitType = t; units = havingType t us }
-
--- "Units grouped by type (31 when byte 1 is absent), groups by first appearance, order kept inside, complete 1."
-unfoldable pub grouped : List (List ℕ) → List (Array (List ℕ))
-grouped us = map (group us) (firsts (map typeOr31 us))
-
--- the first unit of a type
-abbrev pub first : {A : Type 0} → List A → Option A
-first [] = none
-first (u ∷ us) = some u
 
 -- "with the flag set, 16 no VPS, then its refusals"
 unfoldable pub multiLayerVps : Bool → List (List ℕ) → Outcome (Unit {0})

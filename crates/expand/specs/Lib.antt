@@ -1,4 +1,3 @@
 pub mod Expand
 pub mod Answers
 pub mod Inside
-pub mod Order

@@ -4,7 +4,6 @@ use full::VvcConfig;
 use ptl::VvcPtlRecord;
 ghost use mathlib.Core.Path.{_≡_};
 ghost use Prim.Native.Nat.{_-_, min};
-ghost use Rattle.full.specs.Read.{zeroHead};
 ghost use Rattle.expand.specs.Expand.{expandedHead};
 
 // A width or height, cut at 65,535.
@@ -25,26 +24,6 @@ fn depth_minus8(bit_depth: u8) -> u8
         return 0;
     }
     bit_depth - 8
-}
-
-// A head of zeros.
-pub fn zero_head() -> VvcConfig
-    ensures { λ r. ⌜ r ≡ zeroHead ⌝ }
-{
-    let zeros = ptl::bits::zero_ptl();
-    VvcConfig {
-        length_size: 0,
-        ptl_present_flag: false,
-        ols_idx: 0,
-        num_sublayers: 0,
-        constant_frame_rate: 0,
-        chroma_format_idc: 0,
-        bit_depth_minus8: 0,
-        native_ptl: zeros,
-        max_picture_width: 0,
-        max_picture_height: 0,
-        avg_frame_rate: 0,
-    }
 }
 
 // The head that a compact record with this PTL expands to, for a picture as the caller knows it.

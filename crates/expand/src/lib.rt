@@ -1,12 +1,11 @@
 // Expansion of a compact record into the head and unit list of a full one.
-pub mod groups;
 pub mod head;
 pub mod parameter_sets;
-pub mod units;
 
 use compact::CompactVvcConfig;
 use error::Refusal;
 use full::VvcConfig;
+use grouping::units;
 use params::ParamsAnswer;
 use unit_list::ListCursor;
 use unit_list::ListStart;
@@ -16,7 +15,8 @@ ghost use Rattle.error.specs.Refusals.{numberOf};
 ghost use Rattle.full.specs.Read.{zeroHead};
 ghost use Rattle.expand.specs.Expand.{expandUnits, toFull};
 ghost use Rattle.expand.specs.Answers.{expandedOf, expandedGiven};
-ghost use Rattle.expand.specs.Inside.{Readable, unitsAt, withUnits};
+ghost use Rattle.grouping.specs.Units.{Readable, unitsAt};
+ghost use Rattle.expand.specs.Inside.{withUnits};
 
 // What a compact record expands to: so many bytes of the output are the unit list.
 pub enum ExpandAnswer {
@@ -34,7 +34,7 @@ pub struct Expanded {
 fn refused(e: Refusal) -> Expanded
     ensures { λ r. ⌜ expandedOf r ≡ (refuse (numberOf e), zeroHead) ⌝ }
 {
-    let zeros = head::zero_head();
+    let zeros = full::plain_head(0);
     let answer = ExpandAnswer::Refused(e);
     Expanded {
         answer,
@@ -47,11 +47,11 @@ fn put_expanded(full_head: VvcConfig, list: &[u8], c: ListCursor, out: &mut [u8]
     requires { ⌜ Readable (now list) c ⌝ }
     ensures { λ r. ⌜ (expandedOf r, now (out .exit)) ≡ expandedGiven (withUnits «full_head» (unitsAt (now (list .entry)) c)) (now (out .entry)) ⌝ }
 {
-    let len = 1 + groups::groups_len(list, c);
+    let len = 1 + grouping::groups::groups_len(list, c);
     if out.len() < len {
         return refused(Refusal::BufferTooShort);
     }
-    groups::put_list(list, c, out);
+    grouping::groups::put_list(list, c, out);
     let answer = ExpandAnswer::List(len);
     Expanded {
         answer,

@@ -1,20 +1,22 @@
 // For this crate's calls: the PTL that the parameter sets of a list give.
-use super::units;
-use super::units::FirstUnit;
 use boxes::place;
 use error::Refusal;
+use grouping::units;
+use grouping::units::FirstUnit;
 use nal::NAL_SPS;
 use nal::NAL_VPS;
 use params::ParamsAnswer;
-use params::PtlRead;
-use params::SpsHead;
-use params::vps;
+use sps::SpsHead;
 use unit_list::ListCursor;
+use vps::PtlRead;
+use vps::first_ptl;
 ghost use mathlib.Core.Path.{_≡_};
 ghost use Rattle.error.specs.Refusals.{numberOf};
-ghost use Rattle.params.specs.Answers.{readOf, ptlOf};
+ghost use Rattle.params.specs.Answers.{readOf};
+ghost use Rattle.vps.specs.Answers.{ptlOf};
 ghost use Rattle.expand.specs.Expand.{multiLayerVps, ptlOfSets};
-ghost use Rattle.expand.specs.Inside.{Readable, unitsAt, ptlOrZeros, firstVpsPtl, firstSpsPtl, setsPtl};
+ghost use Rattle.grouping.specs.Units.{Readable, unitsAt};
+ghost use Rattle.expand.specs.Inside.{ptlOrZeros, firstVpsPtl, firstSpsPtl, setsPtl};
 
 // The first PTL of the first VPS behind a cursor. Refusals: `missing` where there is no VPS, and the VPS's.
 fn vps_ptl(list: &[u8], c: ListCursor, missing: Refusal) -> PtlRead
@@ -23,10 +25,10 @@ fn vps_ptl(list: &[u8], c: ListCursor, missing: Refusal) -> PtlRead
 {
     let first = units::first_having(list, c, NAL_VPS);
     let FirstUnit::At(a) = first else {
-        return vps::no_ptl(missing);
+        return first_ptl::no_ptl(missing);
     };
     let unit = place::part(list, a);
-    params::vps_first_ptl(unit)
+    vps::vps_first_ptl(unit)
 }
 
 // With the flag set the first VPS has to read. Refusals: 16, the VPS's.
@@ -61,7 +63,7 @@ fn sps_ptl(list: &[u8], c: ListCursor) -> PtlRead
 {
     let first = units::first_having(list, c, NAL_SPS);
     let FirstUnit::At(a) = first else {
-        return vps::no_ptl(Refusal::NoSps);
+        return first_ptl::no_ptl(Refusal::NoSps);
     };
     let unit = place::part(list, a);
     let read = SpsHead::parse_nal(unit);
@@ -69,7 +71,7 @@ fn sps_ptl(list: &[u8], c: ListCursor) -> PtlRead
     let sps = read.head;
     match answer {
         ParamsAnswer::Read => ptl_of_sets(sps, list, c),
-        ParamsAnswer::Refused(e) => vps::no_ptl(e),
+        ParamsAnswer::Refused(e) => first_ptl::no_ptl(e),
     }
 }
 
@@ -81,6 +83,6 @@ pub fn sets_ptl(multi_layer_flag: bool, list: &[u8], c: ListCursor) -> PtlRead
     let answer = multi_layer_vps(multi_layer_flag, list, c);
     match answer {
         ParamsAnswer::Read => sps_ptl(list, c),
-        ParamsAnswer::Refused(e) => vps::no_ptl(e),
+        ParamsAnswer::Refused(e) => first_ptl::no_ptl(e),
     }
 }

@@ -18,7 +18,7 @@ use Rattle.ptl_record.specs.Write.{bit, ptlBytes, ptlFits}
 use Rattle.full.specs.Read.{plainHead, headWithPtl, vvcHead}
 use Rattle.full.specs.Write.{ptlPart, headBytes, ptlPartFits, headFits}
 use Rattle.full.specs.declared.VvcConfig.{VvcConfig}
-use Rattle.full.proofs.ArraysRoundTrip.{byte-there, number-there}
+use Rattle.record_arrays.proofs.ArraysRoundTrip.{byte-there, number-there}
 
 -- every field of a head is as wide as its type in the code
 pub record Wide (h : VvcConfig) : Type 0 where

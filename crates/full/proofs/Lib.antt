@@ -1,3 +1,2 @@
-pub mod ArraysRoundTrip
 pub mod HeadRoundTrip
 pub mod RecordRoundTrip

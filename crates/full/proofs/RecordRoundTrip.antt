@@ -13,14 +13,15 @@ use Rattle.error.specs.Parse.{value}
 use Rattle.nal.proofs.StartCodes.{and-true}
 use Rattle.unit_list.specs.UnitList.{Array, encode}
 use Rattle.unit_list.proofs.Arrays.{Sound}
+use Rattle.record_arrays.specs.Write.{arraysBytes, arraysFit}
 use Rattle.ptl.specs.declared.VvcPtlRecord.{VvcPtlRecord}
 use Rattle.full.specs.Read.{vvcRecord, parseFull}
 use Rattle.ptl_record.specs.AsWritten.{asWritten}
 use Rattle.ptl_record.proofs.AsWritten.{Canonical, kept}
 use Rattle.ptl_record.proofs.RoundTrip as P
-use Rattle.full.specs.Write.{headBytes, ptlPartFits, headFits, arraysBytes, arraysFit, fullBytes, recordFits, writeFull}
+use Rattle.full.specs.Write.{headBytes, ptlPartFits, headFits, fullBytes, recordFits, writeFull}
 use Rattle.full.specs.declared.VvcConfig.{VvcConfig}
-use Rattle.full.proofs.ArraysRoundTrip.{placedArrays, arrays-read, arrays-held, byte-there}
+use Rattle.record_arrays.proofs.ArraysRoundTrip.{placedArrays, arrays-read, arrays-held, byte-there}
 use Rattle.full.proofs.HeadRoundTrip.{Wide, ReadsAs, small, withPtl, Writable, readBack, head-read}
 
 module _ (h : VvcConfig) (q : VvcPtlRecord) (xs : List (Array (List ℕ))) (w : Writable h q) (sound : Sound xs) (fits : recordFits h xs ≡ true) where

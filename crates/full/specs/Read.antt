@@ -1,16 +1,17 @@
 -- The full record read (ISO/IEC 14496-15 11.2.4.2, VvcDecoderConfigurationRecord). Reserved bits are ignored.
 use Prim.Native.Nat.{ℕ, _+_, _/_, _%_}
-use mathlib.Core.Bool.{Bool, true, false, _||_}
+use mathlib.Core.Bool.{true, false}
 use mathlib.Core.List.{List}
 use lib.Dec.{eqb}
 use lib.ListN.{length}
 use Rattle.error.specs.Logic.{if_then_else_}
 use Rattle.error.specs.Outcome.{Outcome, accept, refuse, lentInput}
 use Rattle.error.specs.Parse.{Parsed, value, refused, Parser, _>>=_, _>>_, give, refuseIf, times}
-use Rattle.boxes.specs.Bytes.{uint, chunk}
+use Rattle.boxes.specs.Bytes.{uint}
 use Rattle.boxes.specs.declared.Span.{Span}
-use Rattle.rbsp.specs.Bits.{isSet}
+use Rattle.bit_reader.specs.Bits.{isSet}
 use Rattle.unit_list.specs.UnitList.{Array, encode, heldArrays}
+use Rattle.record_arrays.specs.Read.{recordArray}
 use Rattle.ptl.specs.Ptl.{zeroPtl}
 use Rattle.ptl_record.specs.Read.{vvcPtlRecord}
 use Rattle.full.specs.declared.VvcConfig.{VvcConfig}
@@ -63,18 +64,6 @@ vvcHead = do
   b ← uint 1  -- reserved 5, LengthSizeMinusOne 2, ptl_present_flag 1
   refuseIf (eqb (b / 2 % 4) 2) 3  -- size 3
   if isSet (b % 2) then headWithPtl (b / 2 % 4 + 1) else give (plainHead (b / 2 % 4 + 1))
-
--- OPI and DCI arrays have no count: they hold one unit
-abbrev pub holdsOne : ℕ → Bool
-holdsOne t = eqb t 12 || eqb t 13
-
--- one array of the record
-unfoldable pub recordArray : Parser (Array Span)
-recordArray = do
-  b ← uint 1  -- array_completeness 1, reserved 2, NAL_unit_type 5
-  n ← if holdsOne (b % 32) then give 1 else uint 2  -- num_nalus
-  units ← times n (chunk 2)  -- nal_unit_length, nal_unit
-  give (record { complete = b / 128; unitType = b % 32; units = units })
 
 unfoldable pub vvcRecord : Parser (VvcConfig × List (Array Span))
 vvcRecord = do

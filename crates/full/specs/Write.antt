@@ -7,9 +7,9 @@ use lib.ListN.{length}
 use Rattle.error.specs.Logic.{if_then_else_}
 use Rattle.error.specs.Outcome.{Outcome, accept, refuse, andThen}
 use Rattle.boxes.specs.Bytes.{toBe}
-use Rattle.unit_list.specs.UnitList.{Array, decode, encodeUnits, heldArrays}
+use Rattle.unit_list.specs.UnitList.{Array, decode, heldArrays}
+use Rattle.record_arrays.specs.Write.{arraysBytes, arraysFit}
 use Rattle.ptl_record.specs.Write.{bit, ptlBytes, ptlFits}
-use Rattle.full.specs.Read.{holdsOne}
 use Rattle.full.specs.declared.VvcConfig.{VvcConfig}
 
 -- what stands under ptl_present_flag
@@ -28,17 +28,6 @@ headBytes h =
     ((248 + (h .«length_size» - 1) * 2 + bit (h .«ptl_present_flag»)) ∷ [])
     ++ (if h .«ptl_present_flag» then ptlPart h else [])
 
--- array_completeness 1, 00, NAL_unit_type 5; "unit count 16 (none for 12 and 13)"; units with 16-bit lengths
-unfoldable pub arrayBytes : Array (List ℕ) → List ℕ
-arrayBytes a =
-    ((a .complete * 128 + a .unitType) ∷ [])
-    ++ (if holdsOne (a .unitType) then [] else toBe 2 (length (a .units)))
-    ++ encodeUnits 2 (a .units)
-
-unfoldable pub arraysBytes : List (Array (List ℕ)) → List ℕ
-arraysBytes [] = []
-arraysBytes (a ∷ xs) = arrayBytes a ++ arraysBytes xs
-
 -- the record
 unfoldable pub fullBytes : VvcConfig → List (Array (List ℕ)) → List ℕ
 fullBytes h xs = headBytes h ++ (length xs ∷ []) ++ arraysBytes xs
@@ -53,19 +42,6 @@ ptlPartFits h =
 unfoldable pub headFits : VvcConfig → Bool
 headFits h =
     leb 1 (h .«length_size») && (leb (h .«length_size») 4 && (if h .«ptl_present_flag» then ptlPartFits h else true))
-
-unfoldable pub unitsFit : List (List ℕ) → Bool
-unitsFit [] = true
-unitsFit (u ∷ us) = leb (length u) 65535 && unitsFit us
-
--- "65,535 units, a unit above 65,535 bytes, type 12 or 13 without exactly one unit"
-unfoldable pub arrayFits : Array (List ℕ) → Bool
-arrayFits a =
-    leb (length (a .units)) 65535 && (unitsFit (a .units) && (if holdsOne (a .unitType) then eqb (length (a .units)) 1 else true))
-
-unfoldable pub arraysFit : List (Array (List ℕ)) → Bool
-arraysFit [] = true
-arraysFit (a ∷ xs) = arrayFits a && arraysFit xs
 
 -- every field fits its place: else 22
 unfoldable pub recordFits : VvcConfig → List (Array (List ℕ)) → Bool

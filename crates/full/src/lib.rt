@@ -1,5 +1,8 @@
 // The full record: its head, and what it is as bytes.
 use ptl::VvcPtlRecord;
+use ptl::bits;
+ghost use mathlib.Core.Path.{_≡_};
+ghost use Rattle.full.specs.Read.{plainHead};
 
 // VvcDecoderConfigurationRecord of ISO/IEC 14496-15 11.2.4 without its arrays, which stand in a unit list beside it.
 // Without the PTL flag the fields under it are 0.
@@ -15,4 +18,24 @@ pub struct VvcConfig {
     pub max_picture_width: u16,
     pub max_picture_height: u16,
     pub avg_frame_rate: u16,
+}
+
+// For the crates further down: a head without the PTL flag. With 0 it is the head of zeros that stands beside a refusal.
+pub fn plain_head(length_size: u8) -> VvcConfig
+    ensures { λ r. ⌜ r ≡ plainHead «length_size» ⌝ }
+{
+    let ptl = bits::zero_ptl();
+    VvcConfig {
+        length_size: length_size,
+        ptl_present_flag: false,
+        ols_idx: 0,
+        num_sublayers: 0,
+        constant_frame_rate: 0,
+        chroma_format_idc: 0,
+        bit_depth_minus8: 0,
+        native_ptl: ptl,
+        max_picture_width: 0,
+        max_picture_height: 0,
+        avg_frame_rate: 0,
+    }
 }

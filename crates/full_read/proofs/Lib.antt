@@ -1,4 +1,2 @@
 pub mod Heads
-pub mod Repeated
-pub mod RecordArrays
 pub mod Given

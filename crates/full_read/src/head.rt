@@ -3,16 +3,14 @@ use boxes::place;
 use error::Refusal;
 use full::VvcConfig;
 use ptl::VvcPtlRecord;
-use ptl::bits;
 use ptl_record::PtlRecordAnswer;
-use ptl_record::read;
 ghost use mathlib.Core.Path.{_≡_};
 ghost use Prim.Native.Nat.{_+_, _≤_, _^_};
 ghost use lib.ListN.{length};
 ghost use Rattle.error.specs.Parse.{refused as refusedBy};
 ghost use Rattle.error.specs.Refusals.{numberOf};
 ghost use Rattle.boxes.specs.Bytes.{be};
-ghost use Rattle.full.specs.Read.{plainHead, vvcHead, headWithPtl};
+ghost use Rattle.full.specs.Read.{vvcHead, headWithPtl};
 ghost use Rattle.full_read.specs.Inside.{headOf, orZeroHead, headFields, sizesBehind};
 
 // A head and the place behind it, or a refusal with a head of zeros.
@@ -26,31 +24,11 @@ pub struct HeadRead {
     pub head: VvcConfig,
 }
 
-// A head without the PTL flag.
-pub fn plain_head(size: u8) -> VvcConfig
-    ensures { λ r. ⌜ r ≡ plainHead size ⌝ }
-{
-    let ptl = bits::zero_ptl();
-    VvcConfig {
-        length_size: size,
-        ptl_present_flag: false,
-        ols_idx: 0,
-        num_sublayers: 0,
-        constant_frame_rate: 0,
-        chroma_format_idc: 0,
-        bit_depth_minus8: 0,
-        native_ptl: ptl,
-        max_picture_width: 0,
-        max_picture_height: 0,
-        avg_frame_rate: 0,
-    }
-}
-
 // A refusal, with zeros.
 fn refused(e: Refusal) -> HeadRead
     ensures { λ r. ⌜ headOf r ≡ orZeroHead (refusedBy (numberOf e)) ⌝ }
 {
-    let head = plain_head(0);
+    let head = full::plain_head(0);
     let answer = HeadAnswer::Refused(e);
     HeadRead {
         answer: answer,
@@ -108,7 +86,7 @@ fn read_with_ptl(s: &[u8], size: u8) -> HeadRead
         return refused(Refusal::Truncated);
     }
     let w = place::number(s, 1, 2);
-    let ptl_read = read::read_ptl(s, 4, (w / 16 % 8) as u8);
+    let ptl_read = ptl_record_read::read::read_ptl(s, 4, (w / 16 % 8) as u8);
     let answer = ptl_read.answer;
     let ptl = ptl_read.ptl;
     match answer {
@@ -134,7 +112,7 @@ pub fn read_head(s: &[u8]) -> HeadRead
     if first % 2 == 1 {
         return read_with_ptl(s, size);
     }
-    let head = plain_head(size);
+    let head = full::plain_head(size);
     let answer = HeadAnswer::Read(1);
     HeadRead {
         answer: answer,

@@ -1,10 +1,9 @@
 -- Laws of the bytes of a head: its parts stored one behind the other, and its length.
-use Prim.Native.Nat.{ℕ, _+_, _-_, _*_, _/_, _%_, _≤_}
-use mathlib.Core.Path.{_≡_, ap, _∙_, subst}
+use Prim.Native.Nat.{ℕ, _+_, _-_, _*_, _≤_}
+use mathlib.Core.Path.{_≡_, sym, ap, _∙_, subst}
 use mathlib.Core.Bool.{Bool, true, false}
-use mathlib.Core.List.{List, [], _∷_, _++_}
+use mathlib.Core.List.{List, [], _∷_, _++_, append-assoc}
 use native.Mathlib.Omega.{arith}
-use native.Mathlib.Numerals.{add-one}
 use lib.ListN.{length, set, length-append}
 use lib.Seq.{sets}
 use borrow.Author.Tests.{leb-true, le-leb}
@@ -17,10 +16,14 @@ use Rattle.ptl_record.proofs.Writing.{sets-then}
 use Rattle.full.specs.Write.{ptlPart, headBytes, ptlPartFits, headFits}
 use Rattle.full.specs.declared.VvcConfig.{VvcConfig}
 
--- a number of two bytes, stored byte by byte
-pub two-stored : (d : List ℕ) (at v : ℕ) → set (set d at (v / 256 % 256)) (at + 1) (v % 256) ≡ sets d at (toBe 2 v)
-unfolding toBe
-two-stored d at v = rw (add-one at)
+-- three numbers of two bytes, stored one behind the other
+pub picture-stored : (d : List ℕ) (at x y z : ℕ) → sets (sets (sets d at (toBe 2 x)) (at + 2) (toBe 2 y)) (at + 4) (toBe 2 z) ≡ sets d at ((toBe 2 x ++ toBe 2 y) ++ toBe 2 z)
+picture-stored d at x y z =
+    let a = length-toBe 2 x in
+    let b = length-toBe 2 y in
+    let l = length-append (toBe 2 x) (toBe 2 y) in
+    ap (λ (v : List ℕ). sets v (at + 4) (toBe 2 z)) (sets-then d at (at + 2) (toBe 2 x) (toBe 2 y) (omega arith))
+    ∙ sets-then d at (at + 4) (toBe 2 x ++ toBe 2 y) (toBe 2 z) (omega arith)
 
 -- the first two fields as one number
 abbrev pub word : VvcConfig → ℕ
@@ -51,21 +54,16 @@ module _ (h : VvcConfig) where
 
   -- the parts under the flag, stored one behind the other
   pub part-stored : (d : List ℕ) (at behind : ℕ) → behind ≡ at + 3 + length P
-      → sets (sets (sets (sets (set (sets d at W) (at + 2) (h .«bit_depth_minus8» * 32 + 31)) (at + 3) P) behind X) (behind + 2) Y) (behind + 4) Z ≡ sets d at (ptlPart h)
+      → sets (sets (set (sets d at W) (at + 2) (h .«bit_depth_minus8» * 32 + 31)) (at + 3) P) behind ((X ++ Y) ++ Z) ≡ sets d at (ptlPart h)
   unfolding ptlPart
   part-stored d at behind e =
       let w = length-toBe 2 (word h) in
-      let x = length-toBe 2 (h .«max_picture_width») in
-      let y = length-toBe 2 (h .«max_picture_height») in
       let l₁ = length-append W D in
       let l₂ = length-append (W ++ D) P in
-      let l₃ = length-append ((W ++ D) ++ P) X in
-      let l₄ = length-append (((W ++ D) ++ P) ++ X) Y in
-      ap (λ (v : List ℕ). sets (sets (sets (sets v (at + 3) P) behind X) (behind + 2) Y) (behind + 4) Z) (sets-then d at (at + 2) W D (omega arith))
-      ∙ ap (λ (v : List ℕ). sets (sets (sets v behind X) (behind + 2) Y) (behind + 4) Z) (sets-then d at (at + 3) (W ++ D) P (omega arith))
-      ∙ ap (λ (v : List ℕ). sets (sets v (behind + 2) Y) (behind + 4) Z) (sets-then d at behind ((W ++ D) ++ P) X (omega arith))
-      ∙ ap (λ (v : List ℕ). sets v (behind + 4) Z) (sets-then d at (behind + 2) (((W ++ D) ++ P) ++ X) Y (omega arith))
-      ∙ sets-then d at (behind + 4) ((((W ++ D) ++ P) ++ X) ++ Y) Z (omega arith)
+      ap (λ (v : List ℕ). sets (sets v (at + 3) P) behind ((X ++ Y) ++ Z)) (sets-then d at (at + 2) W D (omega arith))
+      ∙ ap (λ (v : List ℕ). sets v behind ((X ++ Y) ++ Z)) (sets-then d at (at + 3) (W ++ D) P (omega arith))
+      ∙ sets-then d at behind ((W ++ D) ++ P) ((X ++ Y) ++ Z) (omega arith)
+      ∙ ap (sets d at) (sym (append-assoc ((W ++ D) ++ P) (X ++ Y) Z) ∙ ap (λ (v : List ℕ). v ++ Z) (sym (append-assoc ((W ++ D) ++ P) X Y)))
 
   -- what a head that fits says
   pub record HeadFits : Type 0 where

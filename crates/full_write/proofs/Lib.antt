@@ -1,4 +1,2 @@
-pub mod Measures
-pub mod Stores
 pub mod Heads
 pub mod Records

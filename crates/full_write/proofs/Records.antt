@@ -1,6 +1,6 @@
 -- Laws of the record: its answers in the order of their tests, and its parts stored one behind the other.
-use Prim.Native.Nat.{ℕ, _+_, _≤_}
-use mathlib.Core.Path.{_≡_, refl, sym, ap, _∙_}
+use Prim.Native.Nat.{ℕ, _+_, _^_, _≤_}
+use mathlib.Core.Path.{_≡_, refl, sym, ap, subst, _∙_}
 use mathlib.Core.Bool.{Bool, true, false, _&&_}
 use mathlib.Core.List.{List, [], _∷_, _++_}
 use native.Mathlib.Omega.{arith}
@@ -9,14 +9,25 @@ use lib.ListN.{length, set, length-append, length-set}
 use lib.Seq.{sets, length-sets}
 use borrow.Author.Tests.{eq-eqb, ne-eqb, leb-true}
 use Rattle.error.specs.Outcome.{Outcome, accept, refuse}
+use Rattle.error.specs.Refusals.{numberOf}
+use Rattle.error.specs.declared.Refusal.{Refusal}
+use Rattle.boxes.specs.Walk.{countFound}
 use Rattle.boxes.specs.declared.Span.{Span}
 use Rattle.nal.proofs.StartCodes.{and-true}
-use Rattle.ptl_record.proofs.Writing.{sets-then}
 use Rattle.unit_list.specs.UnitList.{Array, decode, heldArrays}
-use Rattle.full.specs.Write.{headBytes, headFits, arraysBytes, fullBytes, recordFits, writeFull, serializeFull}
+use Rattle.unit_list.specs.Walk.{arraysFrom, Fits}
+use Rattle.unit_list.specs.declared.ListCursor.{ListCursor}
+use Rattle.record_arrays.specs.Write.{arraysBytes}
+use Rattle.record_arrays_write.specs.Inside.{arraysMeasure, measuredBy, measureOf, ArraysWithin, Puts, bytesOf, arraysInRecord}
+use Rattle.record_arrays_write.specs.declared.measure.Measure.{Measure}
+use Rattle.record_arrays_write.specs.declared.measure.RecordMeasure.{RecordMeasure}
+use Rattle.record_arrays_write.specs.declared.measure.RecordMeasure.the-variants as M
+use Rattle.ptl_record.proofs.Writing.{sets-then}
+use Rattle.full.specs.Write.{headBytes, headFits, fullBytes, recordFits, writeFull, serializeFull}
 use Rattle.full.specs.declared.VvcConfig.{VvcConfig}
-use Rattle.full_write.specs.Inside.{arraysMeasure, measured, Puts, bytesOf, arraysBytesAt, recordOf}
-use Rattle.full_write.specs.declared.measure.Measure.{Measure}
+use Rattle.full_write.specs.Inside.{recordOf, Writable, SizeOf}
+use Rattle.full_write.specs.declared.RecordSize.{RecordSize}
+use Rattle.full_write.specs.declared.RecordSize.the-variants as R
 
 -- a list's record is that of its arrays
 pub serialize-arrays : (h : VvcConfig) (s : List ℕ) (o : Outcome (List (Array Span))) → o ≡ decode s → recordOf h s o ≡ serializeFull h s
@@ -24,65 +35,119 @@ unfolding serializeFull
 serialize-arrays h s o e = rw e
 
 -- what is known of the arrays once they are measured
-pub record Known (s : List ℕ) (o : Outcome (List (Array Span))) (m : Measure) : Type 0 where
-  pub arrays : List (Array Span)
-  pub found : o ≡ accept arrays
-  pub is : m ≡ arraysMeasure s arrays
+record Known (s : List ℕ) (o : Outcome (List (Array Span))) (m : Measure) : Type 0 where
+  arrays : List (Array Span)
+  found : o ≡ accept arrays
+  is : m ≡ arraysMeasure s arrays
 
-pub known : (s : List ℕ) (o : Outcome (List (Array Span))) (m : Measure) → accept m ≡ measured (arraysMeasure s) o → Known s o m
+known : (s : List ℕ) (o : Outcome (List (Array Span))) (m : Measure) → accept m ≡ measuredBy (arraysMeasure s) o → Known s o m
 known s (accept xs) m e = record { arrays = xs; found = refl; is = cc }
 known s (refuse n) m e = absurd (let z : _≡_ {A = ℕ} 0 1 = cc in omega arith)
+
+fits-by : (h : VvcConfig) (s : List ℕ) (o : Outcome (List (Array Span))) (m : Measure) (k : Known s o m)
+    → headFits h && (leb (m .count) 255 && m .fits) ≡ recordFits h (heldArrays s (k .arrays))
+unfolding recordFits
+fits-by h s o m k = rw (k .is)
 
 -- the head fits, and there are few arrays
 pub fits-parts : (a : Bool) (n : ℕ) (b : Bool) → a && (leb n 255 && b) ≡ true → (a ≡ true) × (n ≤ 255)
 fits-parts a n b e = let f = and-true a (leb n 255 && b) e in (f .0, leb-true n 255 (and-true (leb n 255) b (f .1) .0))
 
-pub record-refused : (h : VvcConfig) (s : List ℕ) (o : Outcome (List (Array Span))) (n : ℕ) → refuse n ≡ measured (arraysMeasure s) o → recordOf h s o ≡ refuse n
-record-refused h s (accept xs) n e = absurd (let z : _≡_ {A = ℕ} 0 1 = cc in omega arith)
-record-refused h s (refuse k) n e = let z : k ≡ n = cc in ap refuse z
+refused-of : (h : VvcConfig) (s : List ℕ) (o : Outcome (List (Array Span))) (n : ℕ) → refuse n ≡ measuredBy (arraysMeasure s) o → recordOf h s o ≡ refuse n
+refused-of h s (accept xs) n e = absurd (let z : _≡_ {A = ℕ} 0 1 = cc in omega arith)
+refused-of h s (refuse k) n e = let z : k ≡ n = cc in ap refuse z
 
-module _ (h : VvcConfig) (s : List ℕ) (o : Outcome (List (Array Span))) (m : Measure) (k : Known s o m) where
-  abbrev xs : List (Array (List ℕ))
-  xs = heldArrays s (k .arrays)
+-- ### the tests, once the arrays behind a cursor's end are measured
 
-  pub record-three : h .«length_size» ≡ 3 → recordOf h s o ≡ refuse 3
-  unfolding writeFull
-  record-three e = rw (k .found, eq-eqb (h .«length_size») 3 e)
+module _ (h : VvcConfig) (s : List ℕ) (c : ListCursor) (fits : Fits s c) (r : RecordMeasure)
+    (f : (measureOf r ≡ measuredBy (arraysMeasure s) (arraysFrom s c)) × ArraysWithin s r) where
+  pub record-malformed : r ≡ M.Malformed → recordOf h s (arraysFrom s c) ≡ refuse 21
+  record-malformed e = refused-of h s (arraysFrom s c) 21 (sym (ap measureOf e) ∙ f .0)
 
-  fits-by : headFits h && (leb (m .count) 255 && m .fits) ≡ recordFits h xs
-  unfolding recordFits
-  fits-by = rw (k .is)
+  module _ (m : Measure) (e : r ≡ M.Is m) where
+    k : Known s (arraysFrom s c) m
+    k = known s (arraysFrom s c) m (sym (ap measureOf e) ∙ f .0)
 
-  module _ (other : h .«length_size» ≡ 3 → ⊥) where
-    pub record-wide : headFits h && (leb (m .count) 255 && m .fits) ≡ false → recordOf h s o ≡ refuse 22
+    abbrev xs : List (Array (List ℕ))
+    xs = heldArrays s (k .arrays)
+
+    -- the measured length is that of a list
+    pub arrays-short : m .len ≤ 2 ^ 30
+    arrays-short = let w = subst (ArraysWithin s) e (f .1) in omega (arith, w .0, fits .lent)
+
+    pub record-three : h .«length_size» ≡ 3 → recordOf h s (arraysFrom s c) ≡ refuse 3
     unfolding writeFull
-    record-wide e = rw (k .found, ne-eqb (h .«length_size») 3 other, sym fits-by ∙ e)
+    record-three e = rw (k .found, eq-eqb (h .«length_size») 3 e)
 
-    module _ (fit : headFits h && (leb (m .count) 255 && m .fits) ≡ true) where
-      pub record-given : recordOf h s o ≡ accept (fullBytes h xs)
+    module _ (other : h .«length_size» ≡ 3 → ⊥) where
+      pub record-wide : headFits h && (leb (m .count) 255 && m .fits) ≡ false → recordOf h s (arraysFrom s c) ≡ refuse 22
       unfolding writeFull
-      record-given = rw (k .found, ne-eqb (h .«length_size») 3 other, sym fits-by ∙ fit)
+      record-wide e = rw (k .found, ne-eqb (h .«length_size») 3 other, sym (fits-by h s (arraysFrom s c) m k) ∙ e)
 
-  pub length-record : length (fullBytes h xs) ≡ length (headBytes h) + 1 + m .len
+      module _ (fit : headFits h && (leb (m .count) 255 && m .fits) ≡ true) where
+        record-given : recordOf h s (arraysFrom s c) ≡ accept (fullBytes h xs)
+        unfolding writeFull
+        record-given = rw (k .found, ne-eqb (h .«length_size») 3 other, sym (fits-by h s (arraysFrom s c) m k) ∙ fit)
+
+        length-record : length (fullBytes h xs) ≡ length (headBytes h) + 1 + m .len
+        unfolding fullBytes
+        length-record =
+            let n : m .len ≡ length (arraysBytes xs) = ap (λ (x : Measure). x .len) (k .is) in
+            omega (arith, length-append (headBytes h) (length xs ∷ []), length-append (headBytes h ++ (length xs ∷ [])) (arraysBytes xs))
+
+        pub record-sized : (head-len : ℕ) → head-len ≡ length (headBytes h) → Writable h s (recordOf h s (arraysFrom s c)) c (m .count) (head-len + 1 + m .len)
+        record-sized head-len l =
+            let p = fits-parts (headFits h) (m .count) (m .fits) fit in
+            record {
+              fits = fits;
+              arrays = k .arrays;
+              found = k .found;
+              count = ap (λ (x : Measure). x .count) (k .is);
+              few = p .1;
+              head = p .0;
+              bytes = record-given;
+              long = omega (arith, l, length-record);
+            }
+
+-- ### the parts in output that has room for them all
+
+module _ (h : VvcConfig) (s : List ℕ) (o : Outcome (List ℕ)) (c : ListCursor) (n len : ℕ) (w : Writable h s o c n len) where
+  abbrev ys : List (Array (List ℕ))
+  ys = heldArrays s (w .arrays)
+
+  parts-long : len ≡ length (headBytes h) + 1 + length (arraysBytes ys)
   unfolding fullBytes
-  length-record =
-      let n : m .len ≡ length (arraysBytes xs) = ap (λ (x : Measure). x .len) (k .is) in
-      omega (arith, length-append (headBytes h) (length xs ∷ []), length-append (headBytes h ++ (length xs ∷ [])) (arraysBytes xs))
+  parts-long = omega (arith, w .long, length-append (headBytes h) (length ys ∷ []), length-append (headBytes h ++ (length ys ∷ [])) (arraysBytes ys))
 
-  -- the parts in output that has room for them all
-  module _ (out : List ℕ) (room : length (headBytes h) + 1 + m .len ≤ length out) (d₁ : List ℕ) (at : ℕ) (e₁ : (at ≡ length (headBytes h)) × (d₁ ≡ sets out 0 (headBytes h)))
-      (d₂ : List ℕ) (e₂ : d₂ ≡ set d₁ at (m .count)) where
-    pub arrays-put : Puts (arraysBytesAt s) o d₂ (at + 1)
-    arrays-put =
-        let n : m .len ≡ length (arraysBytes xs) = ap (λ (x : Measure). x .len) (k .is) in
-        let l : length d₂ ≡ length out = ap length e₂ ∙ length-set d₁ at _ ∙ ap length (e₁ .1) ∙ length-sets out 0 (headBytes h) in
-        record { it = k .arrays; found = k .found; room = omega (arith, e₁ .0) }
+  module _ (out : List ℕ) (room : len ≤ length out) where
+    -- the head has room
+    pub head-room : length (headBytes h) ≤ length out
+    head-room = omega (arith, parts-long)
 
-    pub record-stored : (d₃ : List ℕ) → d₃ ≡ sets d₂ (at + 1) (bytesOf (arraysBytesAt s) o) → d₃ ≡ sets out 0 (fullBytes h xs)
-    unfolding fullBytes
-    record-stored d₃ e₃ =
-        let b : bytesOf (arraysBytesAt s) o ≡ arraysBytes xs = ap (bytesOf (arraysBytesAt s)) (k .found) in
-        let c : m .count ≡ length xs = ap (λ (x : Measure). x .count) (k .is) in
-        let l = length-append (headBytes h) (length xs ∷ []) in
-        let y : d₂ ≡ sets out 0 (headBytes h ++ (length xs ∷ [])) = e₂ ∙ rw (e₁ .1, c) (sets-then out 0 at (headBytes h) (length xs ∷ []) (omega (arith, e₁ .0))) in
-        e₃ ∙ rw (b, y) (sets-then out 0 (at + 1) (headBytes h ++ (length xs ∷ [])) (arraysBytes xs) (omega (arith, e₁ .0)))
+    module _ (d₁ : List ℕ) (at : ℕ) (e₁ : (at ≡ length (headBytes h)) × (d₁ ≡ sets out 0 (headBytes h))) (d₂ : List ℕ) (e₂ : d₂ ≡ set d₁ at n) where
+      pub arrays-put : Puts (arraysInRecord s) (arraysFrom s c) d₂ (at + 1)
+      arrays-put =
+          let l : length d₂ ≡ length out = ap length e₂ ∙ length-set d₁ at _ ∙ ap length (e₁ .1) ∙ length-sets out 0 (headBytes h) in
+          record { it = w .arrays; found = w .found; room = omega (arith, e₁ .0, parts-long) }
+
+      pub record-stored : (d₃ : List ℕ) → d₃ ≡ sets d₂ (at + 1) (bytesOf (arraysInRecord s) (arraysFrom s c)) → d₃ ≡ sets out 0 (fullBytes h ys)
+      unfolding fullBytes
+      record-stored d₃ e₃ =
+          let b : bytesOf (arraysInRecord s) (arraysFrom s c) ≡ arraysBytes ys = ap (bytesOf (arraysInRecord s)) (w .found) in
+          let m : n ≡ length ys = w .count in
+          let l = length-append (headBytes h) (length ys ∷ []) in
+          let y : d₂ ≡ sets out 0 (headBytes h ++ (length ys ∷ [])) = e₂ ∙ rw (e₁ .1, m) (sets-then out 0 at (headBytes h) (length ys ∷ []) (omega (arith, e₁ .0))) in
+          e₃ ∙ rw (b, y) (sets-then out 0 (at + 1) (headBytes h ++ (length ys ∷ [])) (arraysBytes ys) (omega (arith, e₁ .0)))
+
+-- ### the answer, once it is known which it is
+
+module _ (h : VvcConfig) (s : List ℕ) (o : Outcome (List ℕ)) (r : RecordSize) (f : SizeOf h s o r) where
+  pub size-refused : (e : Refusal) → r ≡ R.Refused e → o ≡ refuse (numberOf e)
+  size-refused e w = subst (SizeOf h s o) w f
+
+  module _ (c : ListCursor) (n len : ℕ) (w : r ≡ R.Is c n len) where
+    pub size-is : Writable h s o c n len
+    size-is = subst (SizeOf h s o) w f
+
+    pub size-counted : accept len ≡ countFound o
+    size-counted = ap accept (size-is .long) ∙ ap countFound (sym (size-is .bytes))

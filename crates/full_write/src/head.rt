@@ -1,10 +1,10 @@
-// For this crate's call: the head of a full record tested and stored.
+// For this crate's call: the head of a full record tested, measured and stored.
 use boxes::place;
 use full::VvcConfig;
-use ptl_record::write;
 ghost use mathlib.Core.Bool.{true};
+ghost use mathlib.Core.List.{_++_};
 ghost use mathlib.Core.Path.{_≡_};
-ghost use Prim.Native.Nat.{_+_, _≤_, _^_};
+ghost use Prim.Native.Nat.{_+_, _*_, _≤_};
 ghost use lib.ListN.{length};
 ghost use lib.Seq.{sets};
 ghost use Rattle.boxes.specs.Bytes.{toBe};
@@ -29,7 +29,7 @@ fn ptl_part_fits(h: VvcConfig) -> bool
     if 7 < h.bit_depth_minus8 {
         return false;
     }
-    write::ptl_fits(h.native_ptl)
+    ptl_record_write::write::ptl_fits(h.native_ptl)
 }
 
 // Whether every field that is written fits its place.
@@ -48,41 +48,65 @@ pub fn head_fits(h: VvcConfig) -> bool
     true
 }
 
-// Stores a number of two bytes, the highest first; what lies past the end is left out.
-fn put_u16(out: &mut [u8], at: usize, v: u16)
-    requires { ⌜ at ≤ 2 ^ 31 ⌝ }
-    ensures { λ _. ⌜ now (out .exit) ≡ sets (now (out .entry)) at (toBe 2 v) ⌝ }
+// The length of a head.
+pub fn head_len(h: VvcConfig) -> usize
+    requires { ⌜ headFits h ≡ true ⌝ }
+    ensures { λ r. ⌜ (r ≡ length (headBytes h)) × (r ≤ 1104) ⌝ }
 {
-    let high = (v / 256 % 256) as u8;
-    let low = (v % 256) as u8;
-    place::put(out, at, high);
-    place::put(out, at + 1, low);
+    if h.ptl_present_flag {
+        return 10 + ptl_record_write::write::ptl_len(h.native_ptl, h.num_sublayers);
+    }
+    1
 }
 
-// Stores what stands under the PTL flag.
+// The first two bytes under the PTL flag as one number: ols_idx 9, num_sublayers 3, constant_frame_rate 2, chroma_format_idc 2.
+fn word_of(ols_idx: u16, sublayers: u8, rate: u8, chroma: u8) -> usize
+    ensures { λ r. ⌜ r ≡ «ols_idx» * 128 + sublayers * 16 + rate * 4 + chroma ⌝ }
+{
+    let high = ols_idx as usize * 128 + place::wide(sublayers) * 16;
+    high + place::wide(rate) * 4 + place::wide(chroma)
+}
+
+// Stores the picture's size and the average frame rate, two bytes each.
+fn put_picture(out: &mut [u8], at: usize, width: u16, height: u16, rate: u16)
+    requires { ⌜ at + 6 ≤ length (now out) ⌝ }
+    ensures { λ _. ⌜ now (out .exit) ≡ sets (now (out .entry)) at (toBe 2 width ++ toBe 2 height ++ toBe 2 rate) ⌝ }
+{
+    place::put_number(out, at, 2, width as usize);
+    place::put_number(out, at + 2, 2, height as usize);
+    place::put_number(out, at + 4, 2, rate as usize);
+}
+
+// Stores what stands under the PTL flag, and gives the place behind it.
 fn put_ptl_part(out: &mut [u8], at: usize, h: VvcConfig) -> usize
-    requires { ⌜ (ptlPartFits h ≡ true) × (at ≤ 2 ^ 20) ⌝ }
+    requires { ⌜ (ptlPartFits h ≡ true) × (at + length (ptlPart h) ≤ length (now out)) ⌝ }
     ensures { λ r. ⌜ (r ≡ at + length (ptlPart h)) × (now (out .exit) ≡ sets (now (out .entry)) at (ptlPart h)) × (r ≤ at + 1103) ⌝ }
 {
-    let sublayers = h.num_sublayers as u16;
-    let rate = h.constant_frame_rate as u16;
-    let chroma = h.chroma_format_idc as u16;
-    let word = h.ols_idx * 128 + sublayers * 16 + rate * 4 + chroma;
-    put_u16(out, at, word);
+    let word = word_of(
+        h.ols_idx,
+        h.num_sublayers,
+        h.constant_frame_rate,
+        h.chroma_format_idc,
+    );
+    place::put_number(out, at, 2, word);
     place::put(out, at + 2, h.bit_depth_minus8 * 32 + 31);
-    let behind = write::put_ptl(out, at + 3, h.native_ptl, h.num_sublayers);
-    put_u16(out, behind, h.max_picture_width);
-    put_u16(out, behind + 2, h.max_picture_height);
-    put_u16(out, behind + 4, h.avg_frame_rate);
+    let behind = ptl_record_write::write::put_ptl(out, at + 3, h.native_ptl, h.num_sublayers);
+    put_picture(
+        out,
+        behind,
+        h.max_picture_width,
+        h.max_picture_height,
+        h.avg_frame_rate,
+    );
     behind + 6
 }
 
-// Stores a head at the front of lent memory, and gives the place behind it; what lies past the end is left out.
+// Stores a head at the front of lent memory, and gives the place behind it.
 pub fn put_head(out: &mut [u8], h: VvcConfig) -> usize
-    requires { ⌜ headFits h ≡ true ⌝ }
+    requires { ⌜ (headFits h ≡ true) × (length (headBytes h) ≤ length (now out)) ⌝ }
     ensures { λ r. ⌜ (r ≡ length (headBytes h)) × (now (out .exit) ≡ sets (now (out .entry)) 0 (headBytes h)) × (r ≤ 1104) ⌝ }
 {
-    let flag = write::bit_of(h.ptl_present_flag);
+    let flag = ptl_record_write::write::bit_of(h.ptl_present_flag);
     place::put(out, 0, 248 + (h.length_size - 1) * 2 + flag);
     if h.ptl_present_flag {
         return put_ptl_part(out, 1, h);

@@ -1,26 +1,33 @@
-// Writing a full record from a head and a unit list.
+// Writing a full record from a head and a unit list, and its length without writing it.
 pub mod head;
-pub mod measure;
-pub mod put;
 
 use boxes::place;
+use error::Counted;
 use error::Refusal;
 use error::Written;
 use full::VvcConfig;
-use measure::Measure;
-use measure::Measured;
+use record_arrays_write::measure;
+use record_arrays_write::measure::Measure;
+use record_arrays_write::measure::RecordMeasure;
+use record_arrays_write::put;
+use unit_list::ListCursor;
 use unit_list::ListStart;
 use unit_list::walk;
 ghost use mathlib.Core.Path.{_≡_};
 ghost use mathlib.Core.Bool.{_&&_};
-ghost use Prim.Native.Nat.{_≤_, _^_};
 ghost use lib.Dec.{leb};
-ghost use lib.ListN.{length};
 ghost use Rattle.error.specs.Outcome.{lentOutput, counted};
-ghost use Rattle.error.specs.Answers.{writtenOf};
-ghost use Rattle.unit_list.specs.Walk.{arraysFrom};
+ghost use Rattle.error.specs.Answers.{countOf, writtenOf};
+ghost use Rattle.boxes.specs.Walk.{countFound};
+ghost use Rattle.unit_list.specs.Walk.{arraysFrom, Fits};
 ghost use Rattle.full.specs.Write.{headFits, serializeFull};
-ghost use Rattle.full_write.specs.Inside.{recordOf};
+ghost use Rattle.full_write.specs.Inside.{recordOf, Writable, SizeOf};
+
+// The cursor in front of a record's arrays, how many they are, and the bytes of the record; or why it is refused.
+pub enum RecordSize {
+    Is(ListCursor, usize, usize),
+    Refused(Refusal),
+}
 
 // Whether every field of a record fits its place: those of the head, and the arrays, measured.
 fn record_fits(head: VvcConfig, arrays: Measure) -> bool
@@ -35,38 +42,71 @@ fn record_fits(head: VvcConfig, arrays: Measure) -> bool
     arrays.fits
 }
 
-// The record of a head and of the arrays from a place of a list on. Refusals: 21, 3, 22, 20.
-fn put_record(head: VvcConfig, list: &[u8], at: usize, out: &mut [u8]) -> Written
-    requires { ⌜ (at ≤ length (now list)) × (length (now list) ≤ 2 ^ 30) ⌝ }
-    ensures { λ r. ⌜ (writtenOf r, now (out .exit)) ≡ lentOutput (counted (recordOf head (now (list .entry)) (arraysFrom (now (list .entry)) at))) (now (out .entry)) ⌝ }
+// The size of the record of a head and of the arrays behind a cursor's end. Refusals: 21, 3, 22.
+fn size_from(head: VvcConfig, list: &[u8], c: ListCursor) -> RecordSize
+    requires { ⌜ Fits (now list) c ⌝ }
+    ensures { λ r. ⌜ SizeOf head (now (list .entry)) (recordOf head (now (list .entry)) (arraysFrom (now (list .entry)) c)) r ⌝ }
 {
-    let Measured::Is(arrays) = measure::measure_arrays(list, at) else {
-        return Written::Refused(Refusal::UnitList);
+    let RecordMeasure::Is(arrays) = measure::measure_arrays(list, c) else {
+        return RecordSize::Refused(Refusal::UnitList);
     };
     if head.length_size == 3 {
-        return Written::Refused(Refusal::PrefixSizeThree);
+        return RecordSize::Refused(Refusal::PrefixSizeThree);
     }
     if !record_fits(head, arrays) {
-        return Written::Refused(Refusal::FieldTooWide);
+        return RecordSize::Refused(Refusal::FieldTooWide);
     }
-    let mut none = [0u8; 1];
-    let head_len = head::put_head(&mut none, head);
-    let len = head_len + 1 + arrays.len;
+    let len = head::head_len(head) + 1 + arrays.len;
+    RecordSize::Is(c, arrays.count, len)
+}
+
+// The size of the record of a head and a list. Refusals: 23, 21, 3, 22.
+fn record_size(head: VvcConfig, list: &[u8]) -> RecordSize
+    ensures { λ r. ⌜ SizeOf head (now (list .entry)) (serializeFull head (now (list .entry))) r ⌝ }
+{
+    match walk::start(list) {
+        ListStart::At(c) => size_from(head, list, c),
+        ListStart::Refused(e) => RecordSize::Refused(e),
+    }
+}
+
+// Stores a record whose size is known. Refusal: 20.
+fn put_record(
+    head: VvcConfig,
+    list: &[u8],
+    c: ListCursor,
+    count: usize,
+    len: usize,
+    out: &mut [u8],
+) -> Written
+    requires { ⌜ Writable head (now list) (serializeFull head (now list)) c count len ⌝ }
+    ensures { λ r. ⌜ (writtenOf r, now (out .exit)) ≡ lentOutput (counted (serializeFull head (now (list .entry)))) (now (out .entry)) ⌝ }
+{
     if out.len() < len {
         return Written::Refused(Refusal::BufferTooShort);
     }
     let count_at = head::put_head(out, head);
-    place::put(out, count_at, arrays.count as u8);
-    put::put_arrays(list, at, out, count_at + 1);
+    place::put(out, count_at, count as u8);
+    put::put_arrays(list, c, out, count_at + 1);
     Written::Bytes(len)
+}
+
+// How long the record of a head and a list is. Refusals: 23, 21, 3, 22.
+pub fn record_len(head: VvcConfig, list: &[u8]) -> Counted
+    ensures { λ r. ⌜ countOf r ≡ countFound (serializeFull head (now (list .entry))) ⌝ }
+{
+    match record_size(head, list) {
+        RecordSize::Is(_, _, len) => Counted::Count(len),
+        RecordSize::Refused(e) => Counted::Refused(e),
+    }
 }
 
 // `VvcConfig::serialize`: the record of a head and a list. Refusals: 23, 21, 3, 22, 20; a refusal changes no byte.
 pub fn serialize(head: VvcConfig, list: &[u8], out: &mut [u8]) -> Written
     ensures { λ r. ⌜ (writtenOf r, now (out .exit)) ≡ lentOutput (counted (serializeFull head (now (list .entry)))) (now (out .entry)) ⌝ }
 {
-    match walk::start(list) {
-        ListStart::At(c) => put_record(head, list, c.end, out),
-        ListStart::Refused(e) => Written::Refused(e),
+    match record_size(head, list) {
+        RecordSize::Is(c, count, len) => put_record(head, list, c, count, len, out),
+        RecordSize::Refused(e) => Written::Refused(e),
     }
 }

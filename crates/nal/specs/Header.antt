@@ -21,10 +21,18 @@ temporalIdPlus1 [] = none
 temporalIdPlus1 (a ∷ []) = none
 temporalIdPlus1 (a ∷ b ∷ u) = some (b % 8)
 
--- the type where it is there, else 31: what expansion groups by
+-- the largest type: nal_unit_type has 5 bits
+abbrev pub largestUnitType : ℕ
+largestUnitType = 31
+
+-- how many types there are
+abbrev pub unitTypes : ℕ
+unitTypes = 32
+
+-- the type where it is there, else the largest, 31: what expansion groups by
 abbrev pub typeOr31 : List ℕ → ℕ
-typeOr31 [] = 31
-typeOr31 (a ∷ []) = 31
+typeOr31 [] = largestUnitType
+typeOr31 (a ∷ []) = largestUnitType
 typeOr31 (a ∷ b ∷ u) = b / 8
 
 -- the header's two bytes, each part masked to its width

@@ -28,6 +28,11 @@ pub const NAL_AUD: u8 = 20;
 
 pub const NAL_PREFIX_SEI: u8 = 23;
 
+// The largest unit type, of 5 bits, and how many types there are.
+pub const LARGEST_UNIT_TYPE: u8 = 31;
+
+pub const UNIT_TYPES: usize = 32;
+
 // A part of a unit's header; the original's `Option`.
 pub enum HeaderField {
     Present(u8),

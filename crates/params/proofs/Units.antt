@@ -2,21 +2,19 @@
 use mathlib.Core.Path.{_≡_, refl}
 use mathlib.Core.Bool.{Bool, true, false}
 use mathlib.Core.List.{List, [], _∷_}
-use mathlib.Core.Option.{none}
 use Prim.Native.Nat.{ℕ, _-_, _^_, _≤_, _<_}
 use native.Mathlib.Omega.{arith}
 use lib.Dec.{leb, eqb}
-use lib.ListN.{length, take, drop, length-drop, drop-of-length-le}
+use lib.ListN.{length, take, drop, length-drop}
 use lib.Seq.{take-all}
 use borrow.Author.Tests.{leb-true, eqb-true, le-leb, lt-leb, eq-eqb, ne-eqb}
 use Rattle.error.specs.Logic.{if_then_else_}
 use Rattle.error.specs.Outcome.{accept, refuse, handsBack}
 use Rattle.error.specs.Parse.{Parsed, value, refused, Parser, outcome}
 use Rattle.nal.specs.Header.{typeOr31}
-use Rattle.rbsp.specs.Rbsp.{unescape, rbsp}
-use Rattle.rbsp.specs.Bits.{u}
-use Rattle.params.specs.Heads.{ofUnit, whereRead, opiPoint, opiOlsIdx}
-use Rattle.params.specs.Answers.{readOr, olsIdxGiven}
+use Rattle.rbsp.specs.Rbsp.{rbsp}
+use Rattle.params.specs.OfUnit.{ofUnit}
+use Rattle.params.specs.Answers.{readOr}
 
 -- a unit of a type below 31 has its header
 pub unit-header : (unit : List ℕ) (t : ℕ) → typeOr31 unit ≡ t → t < 31 → 2 ≤ length unit
@@ -25,7 +23,7 @@ unit-header (a ∷ []) t e h = absurd (omega arith)
 unit-header (a ∷ b ∷ r) t e h = omega arith
 
 -- what follows the header, as a part of the unit
-behind-header : (unit : List ℕ) → take (length unit - 2) (drop 2 unit) ≡ drop 2 unit
+pub behind-header : (unit : List ℕ) → take (length unit - 2) (drop 2 unit) ≡ drop 2 unit
 behind-header unit = take-all (length unit - 2) (drop 2 unit) (omega (arith, length-drop 2 unit))
 
 module _ {A : Type 0} (zeros : A) (t : ℕ) (P : Parser A) (unit : List ℕ) where
@@ -61,16 +59,3 @@ module _ {A : Type 0} (t : ℕ) (P : Parser A) (unit : List ℕ) (a : A) where
 
   pub accepts : Accepted t P unit a → ofUnit t P unit ≡ accept a
   accepts h = rw (le-leb (length unit) (2 ^ 30) (h .fits), eq-eqb (typeOr31 unit) t (h .type-is), h .read)
-
--- an OPI's operating point, which without its header it does not have
-module _ (unit : List ℕ) where
-  pub opi-long : 2 ^ 30 < length unit → refuse 23 ≡ olsIdxGiven unit
-  opi-long h = rw (lt-leb (length unit) (2 ^ 30) h)
-
-  pub opi-short : length unit < 2 → accept none ≡ olsIdxGiven unit
-  unfolding opiOlsIdx opiPoint unescape u
-  opi-short h = rw (le-leb (length unit) (2 ^ 30) (omega arith), drop-of-length-le unit {i = 2} (omega arith))
-
-  pub opi-read : length unit ≤ 2 ^ 30 → accept (whereRead (opiPoint (rbsp (take (length unit - 2) (drop 2 unit))) 0)) ≡ olsIdxGiven unit
-  unfolding opiOlsIdx
-  opi-read h = rw (behind-header unit, le-leb (length unit) (2 ^ 30) h)

@@ -1,4 +1,2 @@
-pub mod Heads
-pub mod Cropped
+pub mod OfUnit
 pub mod Answers
-pub mod Sections

@@ -9,24 +9,22 @@ use lib.ListN.{length, getD, take, drop, replicate, length-append, length-drop}
 use lib.Seq.{getD-drop, length-take-le}
 use Rattle.error.specs.Logic.{if_then_else_}
 use Rattle.error.specs.Parse.{value, Parser, give, times}
-use Rattle.rbsp.specs.Bits.{u, isSet}
-use Rattle.rbsp.proofs.Numbers.{u-read}
+use Rattle.bit_reader.specs.Bits.{u, isSet}
+use Rattle.rbsp.proofs.Below.{Below}
+use Rattle.bit_reader.proofs.Binds.{first}
+use Rattle.bit_reader.proofs.Numbers.{u-read}
 use Rattle.ptl.specs.Ptl.{padded, presentFlags, levels, withoutFlags, generalConstraintsInfo, constraintBytes, profileTierLevel}
 use Rattle.ptl.specs.Sections.{general, constraints, sublayers, subProfiles, joined}
 use Rattle.ptl.specs.declared.VvcPtlRecord.{VvcPtlRecord}
 use Rattle.ptl.specs.declared.constraints.Constraints.{Constraints}
 use Rattle.ptl.specs.declared.sublayers.Sublayers.{Sublayers}
 use Rattle.ptl.specs.declared.sub_profiles.SubProfiles.{SubProfiles}
-use Rattle.ptl.proofs.Parts.{first}
 use Rattle.ptl.proofs.Arrays.{length-padded, padded-past}
 use Rattle.ptl.proofs.ConstraintInfo.{info-read, length-without}
 use Rattle.ptl.proofs.SublayerLevels.{byteIf, flags-length}
 use Rattle.ptl.proofs.Whole.{sections, general-read}
 
 -- ---- lists of numbers below b
-abbrev pub Below : ℕ → List ℕ → Type 0
-Below b l = (i : ℕ) → getD l i 0 < b
-
 module _ (b : ℕ) (h : 0 < b) where
   zeros-below : (n : ℕ) → Below b (replicate n 0)
   zeros-below zero i = h

@@ -1,5 +1,5 @@
 -- general_constraints_info( ): where it ends, and the bytes that it stands in.
-use mathlib.Core.Path.{_≡_, refl, _∙_}
+use mathlib.Core.Path.{_≡_, refl, ap, sym, _∙_}
 use mathlib.Core.Bool.{Bool, true, false}
 use mathlib.Core.List.{List, [], _∷_}
 use Prim.Native.Nat.{ℕ, _+_, _-_, _*_, _/_, _%_, _≤_, _<_}
@@ -8,44 +8,23 @@ use native.Mathlib.Omega.{arith}
 use lib.ListN.{length, getD, take, drop, set, length-drop}
 use lib.Seq.{length-take-le, take-suc, getD-drop}
 use Rattle.error.specs.Logic.{if_then_else_}
-use Rattle.error.specs.Parse.{Parsed, value, refused, give}
-use Rattle.rbsp.specs.Bits.{u, isSet, skip, align}
-use Rattle.rbsp.proofs.Numbers.{u-read, skip-read, align-read}
+use Rattle.error.specs.Parse.{Parsed, value, bind, give}
+use Rattle.bit_reader.specs.Bits.{u, isSet, skip, align}
+use Rattle.bit_reader.specs.Answers.{parsed, numberIn, placeIn, partBehind}
+use Rattle.bit_reader.specs.declared.BitPosition.{BitPosition}
+use Rattle.bit_reader.specs.declared.BitsRead.{BitsRead}
+use Rattle.bit_reader.specs.declared.BitsRead.the-variants.{Value, Refused}
+use Rattle.bit_reader.proofs.Binds.{first}
+use Rattle.bit_reader.proofs.Chain.{on, onward, part-on, part-onward, place-told}
+use Rattle.bit_reader.proofs.Numbers.{u-read, skip-read, align-read}
 use Rattle.ptl.specs.Ptl.{padded, withoutFlags, constraintBits, generalConstraintsInfo, constraintBytes}
 use Rattle.ptl.specs.Sections.{constraints}
-use Rattle.ptl.proofs.Parts.{first}
+use Rattle.ptl.specs.declared.constraints.Constraints.{Constraints}
 use Rattle.ptl.proofs.Arrays.{padded-more}
-
--- ---- read by read
-module _ (s : List ℕ) (p : ℕ) where
-  pub fixed-out : (e : ℕ) → skip 71 s p ≡ refused e → constraintBits s p ≡ refused e
-  unfolding constraintBits
-  fixed-out e h = rw h
-
-  pub count-out : (q e : ℕ) → skip 71 s p ≡ value tt q → u 8 s q ≡ refused e → constraintBits s p ≡ refused e
-  unfolding constraintBits
-  count-out q e h k = rw (h, k)
-
-  pub bits-whole : (q n t : ℕ) → skip 71 s p ≡ value tt q → u 8 s q ≡ value n t → constraintBits s p ≡ skip n s t
-  unfolding constraintBits
-  bits-whole q n t h k = rw (h, k)
 
 -- what gci_present_flag announces
 abbrev pub announced : ℕ → List ℕ → ℕ → Parsed (Unit {0})
 announced present s p = (if isSet present then constraintBits else give tt) s p
-
-module _ (s : List ℕ) (p : ℕ) where
-  pub flag-out : (e : ℕ) → u 1 s p ≡ refused e → generalConstraintsInfo s p ≡ refused e
-  unfolding generalConstraintsInfo
-  flag-out e h = rw h
-
-  pub bits-out : (b q e : ℕ) → u 1 s p ≡ value b q → announced b s q ≡ refused e → generalConstraintsInfo s p ≡ refused e
-  unfolding generalConstraintsInfo
-  bits-out b q e h k = rw (h, k)
-
-  pub info-whole : (b q t v : ℕ) → u 1 s p ≡ value b q → announced b s q ≡ value tt t → align s t ≡ value tt v → generalConstraintsInfo s p ≡ value tt v
-  unfolding generalConstraintsInfo
-  info-whole b q t v h k l = rw (h, k, l)
 
 -- ---- where it ends
 pub record Spanned (s : List ℕ) (p n q : ℕ) : Type 0 where
@@ -109,48 +88,76 @@ pub copied-end : (s info : List ℕ) (from k n : ℕ) → info ≡ padded 63 0 (
     → set info 0 (getD info 0 0 % 64) ≡ padded 63 0 (withoutFlags (take n (drop from s)))
 copied-end s info from k n i e = rw (i, ← e) (cleared (take k (drop from s)))
 
--- ---- the section
-module _ (s : List ℕ) (p : ℕ) where
-  pub frame-out : (e : ℕ) → u 1 s p ≡ refused e → constraints s p ≡ refused e
-  unfolding constraints
-  frame-out e h = rw h
+-- ---- read by read, each behind the one before it
+module _ (s : List ℕ) (prior : BitsRead) where
+  pub bits-behind : (fixed count r : BitsRead) (n : ℕ) → n ≡ numberIn count → partBehind fixed tt ≡ bind (parsed prior) (λ _ q. skip 71 s q) → parsed count ≡ bind (parsed fixed) (λ _ q. u 8 s q)
+      → partBehind r tt ≡ bind (parsed count) (λ _ q. skip n s q) → partBehind r tt ≡ bind (parsed prior) (λ _ q. constraintBits s q)
+  unfolding constraintBits
+  bits-behind fixed count r n e h k l = l ∙ ap (λ m. bind (parsed count) (λ _ q. skip m s q)) e ∙ sym (part-onward prior fixed _ tt _ h ∙ onward fixed count _ _ k)
 
-  module _ (f a : ℕ) (h : u 1 s p ≡ value f a) where
-    pub multilayer-out : (e : ℕ) → u 1 s a ≡ refused e → constraints s p ≡ refused e
-    unfolding constraints
-    multilayer-out e k = rw (h, k)
+  module _ (flag d : BitsRead) (n : ℕ) (h : parsed flag ≡ bind (parsed prior) (λ _ q. u 1 s q)) (k : partBehind d tt ≡ bind (parsed flag) (λ _ q. announced n s q)) where
+    pub info-behind : (r : BitsRead) → n ≡ numberIn flag → partBehind r tt ≡ bind (parsed d) (λ _ q. align s q) → partBehind r tt ≡ bind (parsed prior) (λ _ q. generalConstraintsInfo s q)
+    unfolding generalConstraintsInfo
+    info-behind r e l = l ∙ sym (onward prior flag _ _ h ∙ part-onward flag d _ tt _ (k ∙ ap (λ m. bind (parsed flag) (λ _ q. announced m s q)) e))
 
-    module _ (m b : ℕ) (k : u 1 s a ≡ value m b) where
-      pub info-out : (e : ℕ) → generalConstraintsInfo s b ≡ refused e → constraints s p ≡ refused e
-      unfolding constraints
-      info-out e l = rw (h, k, l)
+-- what is announced ends within the bytes
+pub announced-place : (s : List ℕ) (prior flag d : BitsRead) (n : ℕ) → parsed flag ≡ bind (parsed prior) (λ _ q. u 1 s q) → partBehind d tt ≡ bind (parsed flag) (λ _ q. announced n s q) → placeIn d ≤ 8 * length s
+announced-place s prior flag (Value v q) n h k =
+    first (parsed flag) _ (sym k) (λ b p e f. first (parsed prior) _ (sym h ∙ e) (λ _ t _ g.
+    announced-span n s p (q .0) (u-read 1 s t b p g .within) f .within))
+announced-place s prior flag (Refused e) n h k = omega arith
 
-      pub constraints-whole : (q from to : ℕ) (info : List ℕ) → generalConstraintsInfo s b ≡ value tt q → 8 * from ≡ p → 8 * to ≡ q
-          → info ≡ padded 63 0 (withoutFlags (take (to - from) (drop from s)))
-          → constraints s p ≡ value (record {
-            «ptl_frame_only_constraint_flag» = isSet f;
-            «ptl_multilayer_enabled_flag» = isSet m;
-            «num_bytes_constraint_info» = to - from;
-            «general_constraint_info» = info;
-          }) q
-      unfolding constraints constraintBytes
-      constraints-whole q from to info l d g i =
-          let x : p / 8 ≡ from = omega arith in
-          let y : q / 8 ≡ to = omega arith in
-          let w = info-read s b q l in
-          let n : length (withoutFlags (take (to - from) (drop from s))) ≡ to - from =
-          length-without (take (to - from) (drop from s)) ∙ length-take-le (to - from) (drop from s) (omega (arith, length-drop from s)) in
-          rw (h, k, l, x, y, i, n)
+-- ---- the section: the three reads one behind the other
+pub record FlagsAndInfo (s : List ℕ) (prior f m i : BitsRead) : Type 0 where
+  pub frame-only : parsed f ≡ bind (parsed prior) (λ _ q. u 1 s q)
+  pub multilayer : parsed m ≡ bind (parsed f) (λ _ q. u 1 s q)
+  pub info : partBehind i tt ≡ bind (parsed m) (λ _ q. generalConstraintsInfo s q)
 
--- what the offsets of the two ends are to the copy
-pub record Run (s : List ℕ) (from to : ℕ) : Type 0 where
-  pub some : from < to
-  pub few : to - from ≤ 43
-  pub within : to ≤ length s
+-- what the section holds, by the numbers of the flags and the positions of the two ends
+abbrev pub held : List ℕ → ℕ → ℕ → ℕ → ℕ → Constraints
+held s f m p q = record {
+  «ptl_frame_only_constraint_flag» = isSet f;
+  «ptl_multilayer_enabled_flag» = isSet m;
+  «num_bytes_constraint_info» = length (withoutFlags (take (q / 8 - p / 8) (drop (p / 8) s)));
+  «general_constraint_info» = padded 63 0 (withoutFlags (take (q / 8 - p / 8) (drop (p / 8) s)));
+}
 
-pub run-of : (s : List ℕ) (p f a m b q from to : ℕ) → u 1 s p ≡ value f a → u 1 s a ≡ value m b → generalConstraintsInfo s b ≡ value tt q → 8 * from ≡ p → 8 * to ≡ q → Run s from to
-run-of s p f a m b q from to h k l d g =
-    let x = u-read 1 s p f a h in
-    let y = u-read 1 s a m b k in
-    let w = info-read s b q l in
-    record { some = omega arith; few = omega arith; within = omega arith }
+pub constraints-behind : (s : List ℕ) (prior f m i : BitsRead) → FlagsAndInfo s prior f m i
+    → bind (parsed prior) (λ _ q. constraints s q) ≡ bind (parsed i) (λ _ q. value (held s (numberIn f) (numberIn m) (placeIn prior) q) q)
+unfolding constraints constraintBytes
+constraints-behind s (Value v p) f m i h = on f _ (h .frame-only) ∙ onward f m _ _ (h .multilayer) ∙ part-onward m i _ tt _ (h .info)
+constraints-behind s (Refused e) f m i h =
+    part-on i tt (λ _ q. value (held s (numberIn f) (numberIn m) 0 q) q)
+    (h .info ∙ ap (λ x. bind x (λ _ q. generalConstraintsInfo s q)) (h .multilayer ∙ ap (λ x. bind x (λ _ q. u 1 s q)) (h .frame-only)))
+
+-- the bits between the two ends
+pub record Run (s : List ℕ) (p q : ℕ) : Type 0 where
+  pub some : p < q
+  pub whole : q % 8 ≡ 0
+  pub near : q ≤ (p + 344) / 8 * 8
+  pub within : q ≤ 8 * length s
+
+pub run-of : (s : List ℕ) (prior f m i : BitsRead) {v : ℕ} {q : BitPosition} → FlagsAndInfo s prior f m i → i ≡ Value v q → Run s (placeIn prior) (q .0)
+run-of s prior f m i {v} {q} h e =
+    first (parsed m) _ (sym (h .info) ∙ ap (λ x. partBehind x tt) e) (λ y b hb l. first (parsed f) _ (sym (h .multilayer) ∙ hb) (λ x a ha k.
+    first (parsed prior) _ (sym (h .frame-only) ∙ ha) (λ w p hp j.
+    let o = place-told prior hp in
+    let r = u-read 1 s p x a j in
+    let t = u-read 1 s a y b k in
+    let z = info-read s b (q .0) l in
+    record { some = omega arith; whole = z .whole; near = omega arith; within = z .within })))
+
+-- the bytes between the offsets of the two ends
+pub held-bytes : (s : List ℕ) (f m p q from to : ℕ) (info : List ℕ) → Run s p q → 8 * from ≡ p → 8 * to ≡ q → info ≡ padded 63 0 (withoutFlags (take (to - from) (drop from s)))
+    → _≡_ {A = Constraints} (record {
+      «ptl_frame_only_constraint_flag» = isSet f;
+      «ptl_multilayer_enabled_flag» = isSet m;
+      «num_bytes_constraint_info» = to - from;
+      «general_constraint_info» = info;
+    }) (held s f m p q)
+held-bytes s f m p q from to info r d g i =
+    let x : p / 8 ≡ from = omega arith in
+    let y : q / 8 ≡ to = omega arith in
+    let n : length (withoutFlags (take (to - from) (drop from s))) ≡ to - from =
+    length-without (take (to - from) (drop from s)) ∙ length-take-le (to - from) (drop from s) (omega (arith, length-drop from s, r .within)) in
+    rw (x, y, i, n)

@@ -1,4 +1,3 @@
-pub mod Parts
 pub mod Arrays
 pub mod ConstraintInfo
 pub mod SublayerLevels

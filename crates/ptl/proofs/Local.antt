@@ -7,9 +7,9 @@ use native.Mathlib.Omega.{arith}
 use lib.Dec.{ltb, lit≤}
 use lib.ListN.{take, drop}
 use lib.Seq.{take-take}
-use Rattle.rbsp.specs.Bits.{u, isSet, skip}
-use Rattle.rbsp.proofs.Numbers.{u-read}
-use Rattle.rbsp.proofs.Local.{Local, local-u, local-skip, local-align, local-more, local-give, local-here, local-if, local-bind-of, local-bind, local-times}
+use Rattle.bit_reader.specs.Bits.{u, isSet, skip}
+use Rattle.bit_reader.proofs.Numbers.{u-read}
+use Rattle.bit_reader.proofs.Local.{Local, local-u, local-skip, local-align, local-more, local-give, local-here, local-if, local-bind-of, local-bind, local-times}
 use Rattle.ptl.specs.Ptl.{levels, constraintBits, generalConstraintsInfo, constraintBytes, profileTierLevel}
 
 -- ---- the constraint information: 71 bits, a count below 256, and as many bits

@@ -1,22 +1,27 @@
 -- The sections make up profile_tier_level( 1, s ).
-use mathlib.Core.Path.{_≡_, ap, sym, _∙_}
+use mathlib.Core.Path.{_≡_, refl, ap, sym, _∙_}
 use mathlib.Core.List.{List}
-use Prim.Native.Nat.{ℕ, _+_, _<_}
+use Prim.Native.Nat.{ℕ, _+_, _%_, _<_}
 use native.Mathlib.Omega.{arith}
 use Rattle.error.specs.Parse.{Parsed, value, refused, bind}
-use Rattle.error.specs.Refusals.{numberOf}
 use Rattle.error.specs.declared.Refusal.{Refusal}
-use Rattle.rbsp.specs.Bits.{u}
-use Rattle.rbsp.proofs.Numbers.{u-read}
+use Rattle.bit_reader.specs.Bits.{u}
+use Rattle.bit_reader.specs.Answers.{parsed, placeIn, partBehind}
+use Rattle.bit_reader.specs.declared.BitPosition.{BitPosition}
+use Rattle.bit_reader.specs.declared.BitsRead.{BitsRead}
+use Rattle.bit_reader.specs.declared.BitsRead.the-variants.{Value, Refused}
+use Rattle.bit_reader.proofs.Binds.{bind-bind, first, same}
+use Rattle.bit_reader.proofs.Chain.{part-onward, place-told}
+use Rattle.bit_reader.proofs.Numbers.{u-read}
 use Rattle.ptl.specs.Ptl.{profileTierLevel, zeroPtl, constraintBytes}
 use Rattle.ptl.specs.Answers.{ptlOf, orZeroPtl}
 use Rattle.ptl.specs.Sections.{general, constraints, sublayers, subProfiles, joined}
 use Rattle.ptl.specs.declared.VvcPtlRecord.{VvcPtlRecord}
 use Rattle.ptl.specs.declared.PtlBits.{PtlBits}
 use Rattle.ptl.specs.declared.bits.General.{General}
-use Rattle.ptl.specs.declared.PtlAnswer.{PtlAnswer}
-use Rattle.ptl.specs.declared.PtlAnswer.the-variants as Ans
-use Rattle.ptl.proofs.Parts.{bind-bind, first}
+use Rattle.ptl.specs.declared.constraints.Constraints.{Constraints}
+use Rattle.ptl.specs.declared.sublayers.Sublayers.{Sublayers}
+use Rattle.ptl.specs.declared.sub_profiles.SubProfiles.{SubProfiles}
 
 -- one section behind the other
 abbrev pub inSections : ℕ → List ℕ → ℕ → Parsed VvcPtlRecord
@@ -27,14 +32,26 @@ pub sections : (m : ℕ) (s : List ℕ) (p : ℕ) → profileTierLevel m s p ≡
 unfolding profileTierLevel general constraints sublayers subProfiles constraintBytes
 sections m s p = simp bind-bind
 
--- the answer of the whole: a section was refused, or all four were read
-pub whole-refused : {x : Parsed VvcPtlRecord} {r : PtlBits} {a : PtlAnswer} {e : Refusal} → r ≡ record { answer = a; ptl = zeroPtl } → a ≡ Ans.Refused e → x ≡ refused (numberOf e) → ptlOf r ≡ orZeroPtl x
-whole-refused h k g = ap ptlOf (h ∙ ap (λ (b : PtlAnswer). record { answer = b; ptl = zeroPtl }) k) ∙ sym (ap orZeroPtl g)
+-- ---- each section behind the answer of the one before it
+module _ (s : List ℕ) (m : ℕ) (prior r₁ r₂ r₃ r₄ : BitsRead) (g : General) (c : Constraints) (l : Sublayers) (v : SubProfiles)
+    (h₁ : partBehind r₁ g ≡ bind (parsed prior) (λ _ q. general s q)) (h₂ : partBehind r₂ c ≡ bind (parsed r₁) (λ _ q. constraints s q))
+    (h₃ : partBehind r₃ l ≡ bind (parsed r₂) (λ _ q. sublayers m s q)) (h₄ : partBehind r₄ v ≡ bind (parsed r₃) (λ _ q. subProfiles s q)) where
+  abbrev said : Parsed VvcPtlRecord
+  said = bind (parsed prior) (λ _ q. profileTierLevel m s q)
 
-pub whole-read : {x : Parsed VvcPtlRecord} {v w : VvcPtlRecord} {q : ℕ} → v ≡ w → x ≡ value w q → (value v q, v) ≡ orZeroPtl x
-whole-read {q = q} h g = ap (λ (v : VvcPtlRecord). (value v q, v)) h ∙ sym (ap orZeroPtl g)
+  whole : said ≡ partBehind r₄ (joined m g c l v)
+  whole =
+      same (parsed prior) _ _ (λ _ q. sections m s q)
+      ∙ part-onward prior r₁ _ g _ h₁ ∙ part-onward r₁ r₂ _ c _ h₂ ∙ part-onward r₂ r₃ _ l _ h₃ ∙ part-onward r₃ r₄ _ v _ h₄
 
--- ---- the first section: it ends two bytes on
+  -- the last is refused, or all four were read
+  pub whole-refused : {r : PtlBits} {e : Refusal} → r ≡ record { answer = r₄; ptl = zeroPtl } → r₄ ≡ Refused e → ptlOf r ≡ orZeroPtl said
+  whole-refused h k = rw (h, whole, k)
+
+  pub whole-read : {w : VvcPtlRecord} {n : ℕ} {q : BitPosition} → w ≡ joined m g c l v → r₄ ≡ Value n q → (partBehind r₄ w, w) ≡ orZeroPtl said
+  whole-read h k = rw (whole, k, h)
+
+-- ---- the first section ends two bytes on
 pub record Headed (p : ℕ) (g : General) (q : ℕ) : Type 0 where
   pub profile : g .«general_profile_idc» < 128
   pub level : g .«general_level_idc» < 256
@@ -51,3 +68,20 @@ general-read s p g q h =
     let v : profile ≡ g .«general_profile_idc» = cc in
     let w : level ≡ g .«general_level_idc» = cc in
     record { profile = omega arith; level = omega arith; next = omega arith })))
+
+-- so the next one starts at a whole byte where it does
+pub general-place : (s : List ℕ) (prior r : BitsRead) (g : General) → placeIn prior % 8 ≡ 0 → partBehind r g ≡ bind (parsed prior) (λ _ q. general s q) → placeIn r % 8 ≡ 0
+general-place s prior (Value v q) g e h =
+    first (parsed prior) _ (sym h) (λ w p k f.
+    let o = place-told prior k in
+    let n = general-read s p g (q .0) f in
+    omega arith)
+general-place s prior (Refused d) g e h = refl
+
+-- ---- what a PTL's answer says, without the zeros beside a refusal
+pub ptl-part : (r : PtlBits) (x : Parsed VvcPtlRecord) → ptlOf r ≡ orZeroPtl x → partBehind (r .answer) (r .ptl) ≡ x
+ptl-part r x h = ap (λ w. w .0) h ∙ said-of x
+  where
+    said-of : (y : Parsed VvcPtlRecord) → orZeroPtl y .0 ≡ y
+    said-of (value p q) = refl
+    said-of (refused e) = refl

@@ -5,8 +5,8 @@ use Prim.Native.Nat.{ℕ, zero, suc, _-_, _*_, _/_, _%_}
 use lib.Dec.{ltb}
 use lib.ListN.{length, take, drop, replicate}
 use Rattle.error.specs.Logic.{if_then_else_}
-use Rattle.error.specs.Parse.{Parsed, value, Parser, _>>=_, _>>_, give, here, times}
-use Rattle.rbsp.specs.Bits.{u, isSet, skip, align}
+use Rattle.error.specs.Parse.{value, Parser, _>>=_, _>>_, give, here, times}
+use Rattle.bit_reader.specs.Bits.{u, isSet, skip, align}
 use Rattle.ptl.specs.declared.VvcPtlRecord.{VvcPtlRecord}
 
 -- an array of N: the values, and z past them

@@ -4,22 +4,14 @@ use Prim.Native.Nat.{ℕ}
 use lib.Dec.{ltb}
 use lib.ListN.{length}
 use Rattle.error.specs.Logic.{if_then_else_}
-use Rattle.error.specs.Parse.{Parsed, value, refused, Parser, _>>=_, _>>_, give, here, times}
-use Rattle.error.specs.Refusals.{numberOf}
-use Rattle.rbsp.specs.Bits.{u, isSet}
+use Rattle.error.specs.Parse.{Parser, _>>=_, _>>_, give, here, times}
+use Rattle.bit_reader.specs.Bits.{u, isSet}
 use Rattle.ptl.specs.Ptl.{padded, presentFlags, levels, generalConstraintsInfo, constraintBytes}
 use Rattle.ptl.specs.declared.VvcPtlRecord.{VvcPtlRecord}
-use Rattle.ptl.specs.declared.PtlAnswer.{PtlAnswer}
-use Rattle.ptl.specs.declared.PtlAnswer.the-variants as A
 use Rattle.ptl.specs.declared.bits.General.{General}
 use Rattle.ptl.specs.declared.constraints.Constraints.{Constraints}
 use Rattle.ptl.specs.declared.sublayers.Sublayers.{Sublayers}
 use Rattle.ptl.specs.declared.sub_profiles.SubProfiles.{SubProfiles}
-
--- what an answer says with what stands beside it; on a refusal nothing is said of that
-abbrev pub partOf : {A : Type 0} → PtlAnswer → A → Parsed A
-partOf (A.Read q) a = value a (q .0)
-partOf (A.Refused e) a = refused (numberOf e)
 
 -- profile, tier and level
 unfoldable pub general : Parser General

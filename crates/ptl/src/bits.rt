@@ -1,5 +1,4 @@
 // For the crates further down: profile_tier_level( 1, s ) from the bits of a parameter set.
-use super::PtlAnswer;
 use super::PtlBits;
 use super::VvcPtlRecord;
 use super::constraints;
@@ -8,16 +7,16 @@ use super::sub_profiles;
 use super::sub_profiles::SubProfiles;
 use super::sublayers;
 use super::sublayers::Sublayers;
-use error::Refusal;
-use rbsp::BitPosition;
-use rbsp::BitsRead;
-use rbsp::bits;
+use bit_reader::BitsRead;
+use bit_reader::behind;
 ghost use mathlib.Core.Path.{_≡_};
 ghost use Prim.Native.Nat.{_%_, _≤_, _^_};
 ghost use lib.ListN.{length};
+ghost use Rattle.error.specs.Parse.{bind};
+ghost use Rattle.bit_reader.specs.Answers.{parsed, placeIn, partBehind};
 ghost use Rattle.ptl.specs.Ptl.{profileTierLevel, zeroPtl};
 ghost use Rattle.ptl.specs.Answers.{ptlOf, orZeroPtl};
-ghost use Rattle.ptl.specs.Sections.{partOf, general, joined};
+ghost use Rattle.ptl.specs.Sections.{general, joined};
 
 // Profile, tier and level of the whole stream.
 pub struct General {
@@ -27,50 +26,27 @@ pub struct General {
 }
 
 pub struct GeneralRead {
-    pub answer: PtlAnswer,
+    pub answer: BitsRead,
     pub part: General,
 }
 
-// The refusal of a read, with nothing beside it.
-fn no_general(e: Refusal) -> GeneralRead
-    ensures { λ r. ⌜ r .answer ≡ PtlAnswer.Refused e ⌝ }
-{
-    let part = General {
-        general_profile_idc: 0,
-        general_tier_flag: false,
-        general_level_idc: 0,
-    };
-    let answer = PtlAnswer::Refused(e);
-    GeneralRead { answer, part }
-}
-
-// Profile 7 bits, tier 1, level 8. Refusal: 11.
-fn read_general(rbsp: &[u8], at: BitPosition) -> GeneralRead
+// Profile 7 bits, tier 1, level 8. Refusals: the read's before, then 11.
+fn read_general(rbsp: &[u8], prior: BitsRead) -> GeneralRead
     requires { ⌜ length (now rbsp) ≤ 2 ^ 20 ⌝ }
-    ensures { λ r. ⌜ partOf (r .answer) (r .part) ≡ general (now (rbsp .entry)) (at .0) ⌝ }
+    ensures { λ r. ⌜ partBehind (r .answer) (r .part) ≡ bind (parsed prior) (λ _ q. general (now (rbsp .entry)) q) ⌝ }
 {
-    let r1 = bits::read_bits(rbsp, at, 7);
-    let BitsRead::Value(profile, p1) = r1 else {
-        return no_general(bits::refusal(r1));
-    };
-    let r2 = bits::read_bits(rbsp, p1, 1);
-    let BitsRead::Value(tier, p2) = r2 else {
-        return no_general(bits::refusal(r2));
-    };
-    let r3 = bits::read_bits(rbsp, p2, 8);
-    let BitsRead::Value(level, p3) = r3 else {
-        return no_general(bits::refusal(r3));
-    };
-    let general_profile_idc = profile as u8;
-    let general_tier_flag = tier == 1;
-    let general_level_idc = level as u8;
+    let profile = behind::read_bits(rbsp, prior, 7);
+    let tier = behind::read_bits(rbsp, profile, 1);
+    let level = behind::read_bits(rbsp, tier, 8);
     let part = General {
-        general_profile_idc,
-        general_tier_flag,
-        general_level_idc,
+        general_profile_idc: behind::number(profile) as u8,
+        general_tier_flag: behind::number(tier) == 1,
+        general_level_idc: behind::number(level) as u8,
     };
-    let answer = PtlAnswer::Read(p3);
-    GeneralRead { answer, part }
+    GeneralRead {
+        answer: level,
+        part,
+    }
 }
 
 // The record of the four sections.
@@ -117,41 +93,31 @@ pub fn zero_ptl() -> VvcPtlRecord
     }
 }
 
-// A section's refusal with a PTL of zeros.
-fn no_ptl(answer: PtlAnswer) -> PtlBits
+// A refusal with a PTL of zeros.
+fn no_ptl(answer: BitsRead) -> PtlBits
     ensures { λ r. ⌜ r ≡ record { answer = answer; ptl = zeroPtl } ⌝ }
 {
     let ptl = zero_ptl();
     PtlBits { answer, ptl }
 }
 
-// profile_tier_level( 1, max_sublayers_minus1 ) from a whole byte on. Refusal: 11.
-pub fn parse_ptl(rbsp: &[u8], at: BitPosition, max_sublayers_minus1: u8) -> PtlBits
-    requires { ⌜ (length (now rbsp) ≤ 2 ^ 20) × (at .0 % 8 ≡ 0) × («max_sublayers_minus1» ≤ 7) ⌝ }
-    ensures { λ r. ⌜ ptlOf r ≡ orZeroPtl (profileTierLevel «max_sublayers_minus1» (now (rbsp .entry)) (at .0)) ⌝ }
+// profile_tier_level( 1, max_sublayers_minus1 ) behind a read that ends at a whole byte. Refusals: that read's, then 11.
+pub fn parse_ptl(rbsp: &[u8], prior: BitsRead, max_sublayers_minus1: u8) -> PtlBits
+    requires { ⌜ (length (now rbsp) ≤ 2 ^ 20) × (placeIn prior % 8 ≡ 0) × («max_sublayers_minus1» ≤ 7) ⌝ }
+    ensures { λ r. ⌜ ptlOf r ≡ orZeroPtl (bind (parsed prior) (λ _ q. profileTierLevel «max_sublayers_minus1» (now (rbsp .entry)) q)) ⌝ }
 {
-    let s1 = read_general(rbsp, at);
-    let a1 = s1.answer;
-    let PtlAnswer::Read(p1) = a1 else {
-        return no_ptl(a1);
-    };
-    let s2 = constraints::read_constraints(rbsp, p1);
-    let a2 = s2.answer;
-    let PtlAnswer::Read(p2) = a2 else {
-        return no_ptl(a2);
-    };
     let m = max_sublayers_minus1 as usize;
-    let s3 = sublayers::read_sublayers(rbsp, p2, m);
-    let a3 = s3.answer;
-    let PtlAnswer::Read(p3) = a3 else {
-        return no_ptl(a3);
+    let g = read_general(rbsp, prior);
+    let behind_general = g.answer;
+    let c = constraints::read_constraints(rbsp, behind_general);
+    let behind_constraints = c.answer;
+    let l = sublayers::read_sublayers(rbsp, behind_constraints, m);
+    let behind_sublayers = l.answer;
+    let s = sub_profiles::read_sub_profiles(rbsp, behind_sublayers);
+    let answer = s.answer;
+    let BitsRead::Value(_, _) = answer else {
+        return no_ptl(answer);
     };
-    let s4 = sub_profiles::read_sub_profiles(rbsp, p3);
-    let a4 = s4.answer;
-    let PtlAnswer::Read(p4) = a4 else {
-        return no_ptl(a4);
-    };
-    let answer = PtlAnswer::Read(p4);
-    let ptl = joined(m, s1.part, s2.part, s3.part, s4.part);
+    let ptl = joined(m, g.part, c.part, l.part, s.part);
     PtlBits { answer, ptl }
 }

@@ -1,19 +1,17 @@
-// For this crate and those further down: general_constraints_info( ), and the bytes that it stands in.
-use super::PtlAnswer;
-use error::Refusal;
-use rbsp::BitPosition;
-use rbsp::BitsRead;
-use rbsp::ByteOffset;
-use rbsp::bits;
+// For the crates further down: general_constraints_info( ), and the bytes that it stands in.
+use bit_reader::BitsRead;
+use bit_reader::ByteOffset;
+use bit_reader::behind;
+use bit_reader::bits;
 ghost use mathlib.Core.Path.{_≡_};
 ghost use Prim.Native.Nat.{_-_, _%_, _≤_, _^_};
 ghost use lib.ListN.{length, take, drop};
 ghost use Rattle.error.specs.Logic.{if_then_else_};
-ghost use Rattle.error.specs.Parse.{value, bind, give};
-ghost use Rattle.rbsp.specs.Bits.{isSet};
-ghost use Rattle.rbsp.specs.Answers.{parsed};
+ghost use Rattle.error.specs.Parse.{bind, give};
+ghost use Rattle.bit_reader.specs.Bits.{isSet};
+ghost use Rattle.bit_reader.specs.Answers.{parsed, placeIn, partBehind};
 ghost use Rattle.ptl.specs.Ptl.{padded, withoutFlags, constraintBits, generalConstraintsInfo};
-ghost use Rattle.ptl.specs.Sections.{partOf, constraints};
+ghost use Rattle.ptl.specs.Sections.{constraints};
 
 // The two flags in front of the constraint information, and its bytes.
 pub struct Constraints {
@@ -24,52 +22,39 @@ pub struct Constraints {
 }
 
 pub struct ConstraintsRead {
-    pub answer: PtlAnswer,
+    pub answer: BitsRead,
     pub part: Constraints,
 }
 
-// Passes over the bits that gci_present_flag announces; the value is 0. Refusal: 11.
-fn constraint_bits(rbsp: &[u8], at: BitPosition) -> BitsRead
+// Passes over the bits that gci_present_flag announces. Refusals: the read's before, then 11.
+fn constraint_bits(rbsp: &[u8], prior: BitsRead) -> BitsRead
     requires { ⌜ length (now rbsp) ≤ 2 ^ 20 ⌝ }
-    ensures { λ r. ⌜ parsed r ≡ bind (constraintBits (now (rbsp .entry)) (at .0)) (λ _ q. value 0 q) ⌝ }
+    ensures { λ r. ⌜ partBehind r tt ≡ bind (parsed prior) (λ _ q. constraintBits (now (rbsp .entry)) q) ⌝ }
 {
-    let fixed = bits::skip_bits(rbsp, at, 71);
-    let BitsRead::Value(_, p1) = fixed else {
-        return fixed;
-    };
-    let count = bits::read_bits(rbsp, p1, 8);
-    let BitsRead::Value(n, p2) = count else {
-        return count;
-    };
-    bits::skip_bits(rbsp, p2, n as usize)
+    let fixed = behind::skip_bits(rbsp, prior, 71);
+    let count = behind::read_bits(rbsp, fixed, 8);
+    behind::skip_bits(rbsp, count, behind::number(count) as usize)
 }
 
 // The same where gci_present_flag is 1, and no bits where it is 0.
-fn announced_bits(rbsp: &[u8], at: BitPosition, present: u32) -> BitsRead
+fn announced_bits(rbsp: &[u8], prior: BitsRead, present: u32) -> BitsRead
     requires { ⌜ length (now rbsp) ≤ 2 ^ 20 ⌝ }
-    ensures { λ r. ⌜ parsed r ≡ bind ((if isSet present then constraintBits else give tt) (now (rbsp .entry)) (at .0)) (λ _ q. value 0 q) ⌝ }
+    ensures { λ r. ⌜ partBehind r tt ≡ bind (parsed prior) (λ _ q. (if isSet present then constraintBits else give tt) (now (rbsp .entry)) q) ⌝ }
 {
     if present == 1 {
-        return constraint_bits(rbsp, at);
+        return constraint_bits(rbsp, prior);
     }
-    BitsRead::Value(0, at)
+    prior
 }
 
-// Passes over general_constraints_info( ) up to the whole byte behind it; the value is 0. Refusal: 11.
-fn general_constraints_info(rbsp: &[u8], at: BitPosition) -> BitsRead
+// Passes over general_constraints_info( ) up to the whole byte behind it. Refusals: the read's before, then 11.
+fn general_constraints_info(rbsp: &[u8], prior: BitsRead) -> BitsRead
     requires { ⌜ length (now rbsp) ≤ 2 ^ 20 ⌝ }
-    ensures { λ r. ⌜ parsed r ≡ bind (generalConstraintsInfo (now (rbsp .entry)) (at .0)) (λ _ q. value 0 q) ⌝ }
+    ensures { λ r. ⌜ partBehind r tt ≡ bind (parsed prior) (λ _ q. generalConstraintsInfo (now (rbsp .entry)) q) ⌝ }
 {
-    let flag = bits::read_bits(rbsp, at, 1);
-    let BitsRead::Value(present, p1) = flag else {
-        return flag;
-    };
-    let announced = announced_bits(rbsp, p1, present);
-    let BitsRead::Value(_, p2) = announced else {
-        return announced;
-    };
-    let p3 = bits::align(p2);
-    BitsRead::Value(0, p3)
+    let flag = behind::read_bits(rbsp, prior, 1);
+    let announced = announced_bits(rbsp, flag, behind::number(flag));
+    behind::align(announced)
 }
 
 // The bytes between two offsets at the front of an array, the top two bits of the first cleared.
@@ -89,9 +74,9 @@ pub fn constraint_bytes(rbsp: &[u8], from: ByteOffset, to: ByteOffset) -> [u8; 6
     info
 }
 
-// The refusal of a read, with nothing beside it.
-fn no_constraints(e: Refusal) -> ConstraintsRead
-    ensures { λ r. ⌜ r .answer ≡ PtlAnswer.Refused e ⌝ }
+// A refusal, with nothing beside it.
+fn no_constraints(answer: BitsRead) -> ConstraintsRead
+    ensures { λ r. ⌜ r .answer ≡ answer ⌝ }
 {
     let part = Constraints {
         ptl_frame_only_constraint_flag: false,
@@ -99,37 +84,29 @@ fn no_constraints(e: Refusal) -> ConstraintsRead
         num_bytes_constraint_info: 0,
         general_constraint_info: [0u8; 63],
     };
-    let answer = PtlAnswer::Refused(e);
     ConstraintsRead { answer, part }
 }
 
-// The two flags and the constraint information, from a whole byte on. Refusal: 11.
-pub fn read_constraints(rbsp: &[u8], at: BitPosition) -> ConstraintsRead
-    requires { ⌜ (length (now rbsp) ≤ 2 ^ 20) × (at .0 % 8 ≡ 0) ⌝ }
-    ensures { λ r. ⌜ partOf (r .answer) (r .part) ≡ constraints (now (rbsp .entry)) (at .0) ⌝ }
+// The two flags and the constraint information, behind a read that ends at a whole byte. Refusals: that read's, then 11.
+pub fn read_constraints(rbsp: &[u8], prior: BitsRead) -> ConstraintsRead
+    requires { ⌜ (length (now rbsp) ≤ 2 ^ 20) × (placeIn prior % 8 ≡ 0) ⌝ }
+    ensures { λ r. ⌜ partBehind (r .answer) (r .part) ≡ bind (parsed prior) (λ _ q. constraints (now (rbsp .entry)) q) ⌝ }
 {
-    let r1 = bits::read_bits(rbsp, at, 1);
-    let BitsRead::Value(frame_only, p1) = r1 else {
-        return no_constraints(bits::refusal(r1));
+    let frame_only = behind::read_bits(rbsp, prior, 1);
+    let multilayer = behind::read_bits(rbsp, frame_only, 1);
+    let info = general_constraints_info(rbsp, multilayer);
+    let BitsRead::Value(_, end) = info else {
+        return no_constraints(info);
     };
-    let r2 = bits::read_bits(rbsp, p1, 1);
-    let BitsRead::Value(multilayer, p2) = r2 else {
-        return no_constraints(bits::refusal(r2));
-    };
-    let r3 = general_constraints_info(rbsp, p2);
-    let BitsRead::Value(_, p3) = r3 else {
-        return no_constraints(bits::refusal(r3));
-    };
-    let from = bits::byte_offset(at);
-    let to = bits::byte_offset(p3);
+    let from = bits::byte_offset(behind::position(prior));
+    let to = bits::byte_offset(end);
     let num_bytes = to.0 - from.0;
-    let info = constraint_bytes(rbsp, from, to);
+    let bytes = constraint_bytes(rbsp, from, to);
     let part = Constraints {
-        ptl_frame_only_constraint_flag: frame_only == 1,
-        ptl_multilayer_enabled_flag: multilayer == 1,
+        ptl_frame_only_constraint_flag: behind::number(frame_only) == 1,
+        ptl_multilayer_enabled_flag: behind::number(multilayer) == 1,
         num_bytes_constraint_info: num_bytes,
-        general_constraint_info: info,
+        general_constraint_info: bytes,
     };
-    let answer = PtlAnswer::Read(p3);
-    ConstraintsRead { answer, part }
+    ConstraintsRead { answer: info, part }
 }

@@ -4,8 +4,7 @@ pub mod constraints;
 pub mod sub_profiles;
 pub mod sublayers;
 
-use error::Refusal;
-use rbsp::BitPosition;
+use bit_reader::BitsRead;
 
 // VvcPTLRecord of ISO/IEC 14496-15 11.2.4.2, the original's fields. Its vectors are arrays with counts: 0 past a count and for an absent level.
 pub struct VvcPtlRecord {
@@ -23,13 +22,8 @@ pub struct VvcPtlRecord {
     pub general_sub_profile_idc: [u32; 255],
 }
 
-// A PTL and the position behind it, or a refusal with a PTL of zeros.
-pub enum PtlAnswer {
-    Read(BitPosition),
-    Refused(Refusal),
-}
-
+// A PTL and its last read, which is refused where one of its reads is; the PTL is then all zeros.
 pub struct PtlBits {
-    pub answer: PtlAnswer,
+    pub answer: BitsRead,
     pub ptl: VvcPtlRecord,
 }

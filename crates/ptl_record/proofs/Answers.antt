@@ -13,7 +13,7 @@ use Rattle.error.specs.Refusals.{numberOf}
 use Rattle.error.specs.declared.Refusal.{Refusal}
 use Rattle.boxes.specs.Bytes.{uint, bytes}
 use Rattle.boxes.proofs.Fields.{uint-there, uint-short, bytes-there, bytes-short}
-use Rattle.rbsp.specs.Bits.{isSet}
+use Rattle.bit_reader.specs.Bits.{isSet}
 use Rattle.ptl.specs.Ptl.{levels, zeroPtl}
 use Rattle.ptl.specs.Answers.{orZeroPtl}
 use Rattle.ptl.specs.declared.VvcPtlRecord.{VvcPtlRecord}

@@ -8,7 +8,7 @@ use native.Mathlib.Nat.{eq-or-lt-of-le, le-of-suc-le-suc, not-suc-le-zero}
 use native.Mathlib.Omega.{arith}
 use native.Mathlib.Decide.{decLe}
 use lib.ListN.{length, getD, take, replicate, length-append, getD-replicate, List·getD-append}
-use lib.Seq.{length-take-le, getD-take, getD-at, getD-append-add, ext-getD, take-suc}
+use lib.Seq.{length-take-le, getD-take, getD-at, getD-append-add, ext-getD, take-suc, take-at}
 use borrow.Author.Tests.{ne-eqb, lt-ltb}
 use Rattle.error.specs.Logic.{if_then_else_}
 use Rattle.ptl.specs.Ptl.{padded, withoutFlags}
@@ -17,7 +17,6 @@ use Rattle.ptl.proofs.Arrays.{length-padded}
 use Rattle.ptl_record.specs.Write.{bit, constraintInfo, withFlags, hasLevel, flagByte, levelBytes, levelPart, subProfiles, ptlBytes, ptlFits}
 use Rattle.ptl_record.specs.Places.{oneLevel}
 use Rattle.ptl_record.specs.AsWritten.{upTo, levelOf, asWritten}
-use Rattle.ptl_record.proofs.Arrays.{take-padded}
 use Rattle.ptl_record.proofs.Writing.{info-long, levels-split, fitting}
 
 module _ {A : Type 0} where
@@ -45,6 +44,10 @@ module _ {A : Type 0} where
   upTo-take l d zero f h e = refl
   upTo-take l d (suc m) f h e =
       rw (upTo-take l d m f (omega arith) (λ k o. e k (omega arith)), e m (omega arith)) (sym (take-suc l m d h))
+
+  -- the values of an array again
+  take-padded : (N : ℕ) (z : A) (xs : List A) → take (length xs) (padded N z xs) ≡ xs
+  take-padded N z xs = take-at xs (replicate (N - length xs) z) (length xs) refl
 
   -- an array that holds z from a count on
   padded-back : (N : ℕ) (z : A) (l : List A) (n : ℕ) → length l ≡ N → n ≤ N → ((i : ℕ) → n ≤ i → getD l i z ≡ z) → padded N z (take n l) ≡ l

@@ -1,5 +1,3 @@
-pub mod Arrays
-pub mod Places
 pub mod Reading
 pub mod Writing
 pub mod Standing

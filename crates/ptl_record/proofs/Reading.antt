@@ -13,7 +13,7 @@ use Rattle.error.specs.Logic.{if_then_else_}
 use Rattle.error.specs.Parse.{Parsed, value, refused, bind, give, times}
 use Rattle.boxes.specs.Bytes.{be, uint, bytes}
 use Rattle.boxes.proofs.Fields.{uint-there, uint-short, bytes-there, bytes-short}
-use Rattle.rbsp.specs.Bits.{isSet}
+use Rattle.bit_reader.specs.Bits.{isSet}
 use Rattle.ptl.specs.Ptl.{padded, presentFlags, levels}
 use Rattle.ptl_record.specs.Read.{octets, vvcPtlRecord}
 use Rattle.ptl_record.specs.Places.{words, levelsLen, levelIf, levelsAt, flagsAt, levelsStart, countPlace, ptlEnd, ptlFields}

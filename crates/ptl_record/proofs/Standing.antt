@@ -10,7 +10,7 @@ use lib.Seq.{getD-append-add, getD-take, getD-drop, ext-getD}
 use Rattle.error.specs.Logic.{if_then_else_}
 use Rattle.boxes.specs.Bytes.{be, toBe}
 use Rattle.boxes.proofs.Numbers.{be-same, be-toBe, length-toBe}
-use Rattle.rbsp.specs.Bits.{isSet}
+use Rattle.bit_reader.specs.Bits.{isSet}
 use Rattle.ptl.specs.Ptl.{presentFlags, withoutFlags}
 use Rattle.ptl.specs.declared.VvcPtlRecord.{VvcPtlRecord}
 use Rattle.ptl_record.specs.Write.{bit, withFlags, hasLevel, flagByte, levelBytes, subProfiles}
@@ -104,7 +104,7 @@ module _ (p : VvcPtlRecord) where
   unfolding flagByte
   flag-rest m h = omega (arith, flag-small m, flag-even m h, bit-le (hasLevel p m))
 
-  length-one : (b : Bool) (l : ℕ) → length (oneLevel b l) ≡ bit b
+  pub length-one : (b : Bool) (l : ℕ) → length (oneLevel b l) ≡ bit b
   length-one true l = refl
   length-one false l = refl
 

@@ -6,7 +6,7 @@ use lib.Dec.{ltb}
 use lib.ListN.{length, getD, take, drop}
 use Rattle.error.specs.Logic.{if_then_else_}
 use Rattle.boxes.specs.Bytes.{be}
-use Rattle.rbsp.specs.Bits.{isSet}
+use Rattle.bit_reader.specs.Bits.{isSet}
 use Rattle.ptl.specs.Ptl.{padded, presentFlags, withoutFlags}
 use Rattle.ptl.specs.declared.VvcPtlRecord.{VvcPtlRecord}
 use Rattle.ptl_record.specs.Write.{bit, constraintInfo, withFlags}
@@ -73,8 +73,3 @@ frontBytes p =
     ++ ((p .«general_profile_idc» * 2 + bit (p .«general_tier_flag»)) ∷ [])
     ++ (p .«general_level_idc» ∷ [])
     ++ withFlags p (constraintInfo p)
-
--- the first constraint byte as written
-abbrev pub firstByte : VvcPtlRecord → ℕ
-firstByte p =
-    bit (p .«ptl_frame_only_constraint_flag») * 128 + bit (p .«ptl_multilayer_enabled_flag») * 64 + getD (constraintInfo p) 0 0 % 64

@@ -8,7 +8,7 @@ use Rattle.error.specs.Logic.{if_then_else_}
 use Rattle.error.specs.Parse.{Parsed, value, refused, bind, Parser, _>>=_, _>>_, give, refuseIf, times}
 use Rattle.boxes.specs.Bytes.{uint, bytes}
 use Rattle.boxes.specs.Parts.{held}
-use Rattle.rbsp.specs.Bits.{isSet}
+use Rattle.bit_reader.specs.Bits.{isSet}
 use Rattle.ptl.specs.Ptl.{padded, presentFlags, levels, withoutFlags}
 use Rattle.ptl.specs.declared.VvcPtlRecord.{VvcPtlRecord}
 

@@ -1,6 +1,5 @@
-// VvcPTLRecord of ISO/IEC 14496-15 11.2.4.2 as bytes: read and written.
-pub mod read;
-pub mod write;
+// VvcPTLRecord of ISO/IEC 14496-15 11.2.4.2: its definition read and written, and what its reader answers.
+pub mod levels;
 
 use error::Refusal;
 use ptl::VvcPtlRecord;

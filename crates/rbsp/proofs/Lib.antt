@@ -1,11 +1,5 @@
 pub mod Choice
 pub mod Removal
+pub mod Below
 pub mod Filling
-pub mod Numbers
-pub mod Chain
-pub mod Local
 pub mod Examples
-pub mod Readers
-pub mod ReaderCalls
-pub mod ReadsOfBits
-pub mod Walking

@@ -1,5 +1,2 @@
 pub mod Rbsp
 pub mod Front
-pub mod Bits
-pub mod Answers
-pub mod Reader

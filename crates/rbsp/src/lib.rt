@@ -1,8 +1,5 @@
-// Emulation prevention removed from a payload, and bits read from what is left.
-pub mod behind;
-pub mod bits;
+// Emulation prevention removed from a payload.
 pub mod fill;
-pub mod reader;
 
 use error::LARGEST_INPUT;
 use error::Refusal;
@@ -10,18 +7,6 @@ use error::Written;
 ghost use mathlib.Core.Path.{_≡_};
 ghost use Rattle.error.specs.Answers.{writtenOf};
 ghost use Rattle.rbsp.specs.Rbsp.{extractRbsp};
-
-// A count of bits from the highest bit of the first byte.
-pub struct BitPosition(pub usize);
-
-// A count of bytes. It and a bit position are different counts, converted only at whole bytes.
-pub struct ByteOffset(pub usize);
-
-// A number of bits and the position behind them, or a refusal.
-pub enum BitsRead {
-    Value(u32, BitPosition),
-    Refused(Refusal),
-}
 
 // The RBSP of a payload at the front of `out`, and its length. Refusals: 23, 20.
 pub fn extract_rbsp(payload: &[u8], out: &mut [u8]) -> Written

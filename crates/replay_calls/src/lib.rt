@@ -1,16 +1,14 @@
 // A case taken apart, the call that it asks for, and the whole answer line.
-mod boxes_calls;
-mod hvcc_calls;
-mod list_calls;
-mod nal_calls;
-mod params_calls;
-
 use boxes::place;
 use replay_records::access_calls;
 use replay_records::compact_calls;
 use replay_records::full_calls;
 use replay_text::fields;
 use replay_text::text;
+use replay_units::boxes_calls;
+use replay_units::list_calls;
+use replay_units::nal_calls;
+use replay_units::split_calls;
 
 // The bytes of a case from a place on, empty where they are not all there.
 fn part(s: &[u8], start: usize, len: usize) -> &[u8] {
@@ -39,8 +37,8 @@ fn answer<'a>(
         1..=5 => boxes_calls::answer(op, numbers, first, out, at),
         6..=13 => nal_calls::answer(op, numbers, first, out, at),
         14..=17 => list_calls::answer(op, numbers, first, out, at),
-        18..=22 => params_calls::answer(op, fill, numbers, first, lent, out, at),
-        23..=27 | 39 => hvcc_calls::answer(op, numbers, first, out, at),
+        18..=22 => replay_params::answer(op, fill, numbers, first, lent, out, at),
+        23..=27 | 39 => split_calls::answer(op, numbers, first, out, at),
         28..=31 | 35 => compact_calls::answer(op, numbers, first, lent, out, at),
         32..=34 => full_calls::answer(op, fill, numbers, first, lent, out, at),
         36..=38 => access_calls::answer(op, fill, numbers, first, second, lent, out, at),

@@ -1,7 +1,6 @@
 // For the crates further down: the calls of `access_unit`.
 use access_unit::Target;
 use full::VvcConfig;
-use replay_heads::heads;
 use replay_text::fields;
 use replay_text::shown;
 
@@ -42,7 +41,7 @@ fn unit<'a>(
     shown::part(
         text,
         at,
-        access_unit::access_unit_nal(head, list, item, tols, k),
+        access_unit_nal::access_unit_nal(head, list, item, tols, k),
     )
 }
 
@@ -59,12 +58,12 @@ pub fn answer<'a>(
 ) -> usize {
     let tols = target_of(numbers);
     let k = fields::eight(numbers, 3);
-    let head = heads::full_head(numbers, 11, fill);
+    let head = replay_heads::full_head(numbers, 11, fill);
     match op {
         36 => shown::written(
             text,
             at,
-            access_unit::access_unit_annex_b(head, list, item, tols, lent),
+            access_unit_annex_b::access_unit_annex_b(head, list, item, tols, lent),
         ),
         37 => count(head, list, item, tols, text, at),
         _ => unit(head, list, item, tols, k, text, at),

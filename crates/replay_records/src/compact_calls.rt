@@ -1,16 +1,14 @@
 // For the crates further down: the calls of `compact` and `expand`.
 use boxes::place;
 use compact::CompactRead;
-use compact::CompactVvcConfig;
 use expand::ExpandAnswer;
-use replay_heads::heads;
 use replay_text::fields;
 use replay_text::shown;
 use replay_text::text;
 
-// `CompactVvcConfig::parse`: flag, prefix size, unit count and the length of the list.
+// `parse` of a compact record: flag, prefix size, unit count and the length of the list.
 fn parse(s: &[u8], lent: &mut [u8], out: &mut [u8], at: usize) -> usize {
-    let r = CompactVvcConfig::parse(s, lent);
+    let r = compact_read::parse(s, lent);
     match r {
         CompactRead::Read(config, count, len) => {
             let next = shown::flag(out, at, config.multi_layer_flag);
@@ -32,7 +30,7 @@ fn put_answer(out: &mut [u8], at: usize, r: ExpandAnswer) -> usize {
 
 // `to_full`: the answer, and the head whatever it is.
 fn to_full(numbers: &[u8], list: &[u8], lent: &mut [u8], out: &mut [u8], at: usize) -> usize {
-    let config = heads::compact_head(numbers);
+    let config = replay_heads::compact_head(numbers);
     let chroma = place::byte(numbers, 2);
     let depth = place::byte(numbers, 3);
     let width = fields::four(numbers, 4) as u32;
@@ -41,7 +39,7 @@ fn to_full(numbers: &[u8], list: &[u8], lent: &mut [u8], out: &mut [u8], at: usi
     let answer = r.answer;
     let head = r.head;
     let next = put_answer(out, at, answer);
-    heads::put_full_head(out, next, head)
+    replay_heads::put_full_head(out, next, head)
 }
 
 // The calls by their numbers.
@@ -53,12 +51,12 @@ pub fn answer(
     out: &mut [u8],
     at: usize,
 ) -> usize {
-    let config = heads::compact_head(numbers);
+    let config = replay_heads::compact_head(numbers);
     match op {
         28 => parse(s, lent, out, at),
-        29 => shown::written(out, at, config.serialize(s, lent)),
-        30 => shown::written(out, at, config.item_data(s, lent)),
-        31 => shown::written(out, at, config.strip_item_data(s, lent)),
+        29 => shown::written(out, at, compact_write::serialize(config, s, lent)),
+        30 => shown::written(out, at, item_data::item_data(config, s, lent)),
+        31 => shown::written(out, at, item_data::strip_item_data(config, s, lent)),
         _ => to_full(numbers, s, lent, out, at),
     }
 }

@@ -1,7 +1,6 @@
 // For the crates further down: the calls of `full_read`, `full_write` and `sample_format`.
 use boxes::place;
 use full_read::FullAnswer;
-use replay_heads::heads;
 use replay_text::shown;
 use sample_format::SampleFormat;
 
@@ -19,7 +18,7 @@ fn parse(s: &[u8], lent: &mut [u8], out: &mut [u8], at: usize) -> usize {
     let answer = r.answer;
     let head = r.head;
     let next = put_answer(out, at, answer);
-    heads::put_full_head(out, next, head)
+    replay_heads::put_full_head(out, next, head)
 }
 
 // `sample_format`
@@ -42,7 +41,7 @@ pub fn answer(
     out: &mut [u8],
     at: usize,
 ) -> usize {
-    let head = heads::full_head(numbers, 0, fill);
+    let head = replay_heads::full_head(numbers, 0, fill);
     match op {
         32 => parse(s, lent, out, at),
         33 => shown::written(out, at, full_write::serialize(head, s, lent)),

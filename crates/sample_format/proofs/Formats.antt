@@ -18,11 +18,12 @@ use Rattle.boxes.specs.Walk.{countFound, found}
 use Rattle.boxes.specs.declared.Span.{Span}
 use Rattle.unit_list.specs.UnitList.{Array, decode, unitsOfType}
 use Rattle.unit_list.specs.Answers.{listUnitsOfType}
-use Rattle.params.specs.Heads.{parseSps, zeroSps}
-use Rattle.params.specs.Answers.{readOf, spsOf, spsGiven}
+use Rattle.sps.specs.Sps.{parseSps, zeroSps}
+use Rattle.params.specs.Answers.{readOf}
+use Rattle.sps.specs.Answers.{spsOf, spsGiven}
 use Rattle.params.specs.declared.ParamsAnswer.the-variants as A
-use Rattle.params.specs.declared.SpsHead.{SpsHead}
-use Rattle.params.specs.declared.SpsRead.{SpsRead}
+use Rattle.sps.specs.declared.SpsHead.{SpsHead}
+use Rattle.sps.specs.declared.SpsRead.{SpsRead}
 use Rattle.full.specs.declared.VvcConfig.{VvcConfig}
 use Rattle.sample_format.specs.Format.{headFormat, spsFormatOf, firstFormat, sampleFormat}
 

@@ -7,7 +7,7 @@ use Rattle.error.specs.Outcome.{Outcome, accept, refuse, andThen}
 use Rattle.boxes.specs.Parts.{held}
 use Rattle.boxes.specs.declared.Span.{Span}
 use Rattle.unit_list.specs.UnitList.{decode, unitsOfType}
-use Rattle.params.specs.Heads.{parseSps}
+use Rattle.sps.specs.Sps.{parseSps}
 use Rattle.full.specs.declared.VvcConfig.{VvcConfig}
 
 -- chroma format and bit depth

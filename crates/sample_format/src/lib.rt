@@ -3,7 +3,7 @@ use error::Counted;
 use error::Refusal;
 use full::VvcConfig;
 use params::ParamsAnswer;
-use params::SpsHead;
+use sps::SpsHead;
 ghost use mathlib.Core.Path.{_≡_};
 ghost use Rattle.sample_format.specs.Format.{sampleFormat, headFormat, spsFormatOf};
 ghost use Rattle.sample_format.specs.Answers.{formatOf};

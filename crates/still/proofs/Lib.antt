@@ -1,1 +1,5 @@
-pub mod Inputs
+pub mod Lists
+pub mod Steps
+pub mod Local
+pub mod Calls
+pub mod Pictures

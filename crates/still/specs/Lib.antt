@@ -1,1 +1,3 @@
-pub mod Input
+pub mod Stills
+pub mod Inside
+pub mod Calls

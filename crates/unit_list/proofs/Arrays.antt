@@ -15,12 +15,12 @@ use Rattle.boxes.specs.Walk.{more}
 use Rattle.boxes.specs.declared.Span.{Span}
 use Rattle.boxes.proofs.Many.{Advances, many-nil, many-bad, many-step, many-induction}
 use Rattle.boxes.proofs.Fields.{uint-there, uint-short, chunk-read, chunk-advances}
-use Rattle.unit_list.specs.UnitList.{Array, array, arrayRest, unitsOf}
+use Rattle.unit_list.specs.UnitList.{Array, array, arrayRest, largestType, unitsOf}
 
 -- each array's complete and type are small
 pub data Sound {U : Type 0} : List (Array U) → Type 0 where
   sound-none : Sound []
-  sound-more : {a : Array U} {xs : List (Array U)} → a .complete ≤ 1 → a .unitType ≤ 31 → Sound xs → Sound (a ∷ xs)
+  sound-more : {a : Array U} {xs : List (Array U)} → a .complete ≤ 1 → a .unitType ≤ largestType → Sound xs → Sound (a ∷ xs)
 
 -- a refusal to read, whatever its number
 abbrev pub IsRefused : {A : Type 0} → Parsed A → Type 0
@@ -182,21 +182,21 @@ module _ (w : ℕ) (s : List ℕ) (p : ℕ) where
         ]
 
     module _ (two : 2 ≤ a .len) (complete : getD s (a .start) 0 ≤ 1) where
-      pub array-type : 31 < getD s (a .start + 1) 0 → IsRefused (array w s p)
+      pub array-type : largestType < getD s (a .start + 1) 0 → IsRefused (array w s p)
       unfolding array inside arrayRest
       array-type h =
-          rw (e, byte-there (a .start) (omega arith), le-ltb 1 (getD s (a .start) 0) complete, byte-there (a .start + 1) (omega arith), lt-ltb 31 (getD s (a .start + 1) 0) h) tt
+          rw (e, byte-there (a .start) (omega arith), le-ltb 1 (getD s (a .start) 0) complete, byte-there (a .start + 1) (omega arith), lt-ltb largestType (getD s (a .start + 1) 0) h) tt
 
       -- an array with its units
       abbrev pub headed : List Span → Array Span
       headed us = record { complete = getD s (a .start) 0; unitType = getD s (a .start + 1) 0; units = us }
 
-      module _ (small : getD s (a .start + 1) 0 ≤ 31) where
+      module _ (small : getD s (a .start + 1) 0 ≤ largestType) where
         pub array-reads : array w s p ≡ bind (many (chunk w) (take (a .start + a .len) s) (a .start + 2)) (λ us r. value (headed us) r)
         unfolding array inside arrayRest
         array-reads =
             let two-on : a .start + 1 + 1 ≡ a .start + 2 = omega arith in
-            rw (e, byte-there (a .start) (omega arith), le-ltb 1 (getD s (a .start) 0) complete, byte-there (a .start + 1) (omega arith), le-ltb 31 (getD s (a .start + 1) 0) small, two-on)
+            rw (e, byte-there (a .start) (omega arith), le-ltb 1 (getD s (a .start) 0) complete, byte-there (a .start + 1) (omega arith), le-ltb largestType (getD s (a .start + 1) 0) small, two-on)
 
 not-refused : {A : Type 0} (o : Parsed A) (x : A) (q : ℕ) → o ≡ value x q → IsRefused o → ⊥
 not-refused (value a p) x q e h = h
@@ -208,7 +208,7 @@ module _ (w : ℕ) (s : List ℕ) (some : 1 ≤ w) where
     pub next : p < q
     pub fits : q ≤ length s
     pub complete : x .complete ≤ 1
-    pub unitType : x .unitType ≤ 31
+    pub unitType : x .unitType ≤ largestType
     pub lies : Lies w q p (x .units)
 
   -- the units of an array whose head is good end where it does
@@ -225,7 +225,7 @@ module _ (w : ℕ) (s : List ℕ) (some : 1 ≤ w) where
   pub array-read : (p : ℕ) (x : Array Span) (q : ℕ) → array w s p ≡ value x q → ArrayRead p x q
   array-read p x q e = chunked (chunk w s p) refl
     where
-      units : (a : Span) → chunk w s p ≡ value a (a .start + a .len) → 2 ≤ a .len → getD s (a .start) 0 ≤ 1 → getD s (a .start + 1) 0 ≤ 31
+      units : (a : Span) → chunk w s p ≡ value a (a .start + a .len) → 2 ≤ a .len → getD s (a .start) 0 ≤ 1 → getD s (a .start + 1) 0 ≤ largestType
           → (o : Parsed (List Span)) → many (chunk w) (take (a .start + a .len) s) (a .start + 2) ≡ o
           → bind o (λ us r. value (record { complete = getD s (a .start) 0; unitType = getD s (a .start + 1) 0; units = us }) r) ≡ value x q → ArrayRead p x q
       units a c two one small (refused n) f g = absurd (let z : _≡_ {A = ℕ} 0 1 = cc in omega arith)
@@ -245,7 +245,7 @@ module _ (w : ℕ) (s : List ℕ) (some : 1 ≤ w) where
                 elim (decLe (getD s (a .start) 0) 1) [
                   | no k ↦ absurd (not-refused (array w s p) x q e (array-complete w s p a c (omega arith)))
                   | yes one ↦
-                      elim (decLe (getD s (a .start + 1) 0) 31) [
+                      elim (decLe (getD s (a .start + 1) 0) largestType) [
                         | no k ↦ absurd (not-refused (array w s p) x q e (array-type w s p a c two one (omega arith)))
                         | yes small ↦
                             units a c two one small (many (chunk w) (take (a .start + a .len) s) (a .start + 2)) refl (sym (array-reads w s p a c two one small) ∙ e)
@@ -265,7 +265,7 @@ module _ (w : ℕ) (s : List ℕ) (some : 1 ≤ w) where
 
   -- the arrays from one on whose head is good: its units, and the arrays behind it
   module _ (p n : ℕ) (left : p < length s) (a : Span) (c : chunk w s p ≡ value a (a .start + a .len)) (two : 2 ≤ a .len)
-      (one : getD s (a .start) 0 ≤ 1) (small : getD s (a .start + 1) 0 ≤ 31) where
+      (one : getD s (a .start) 0 ≤ 1) (small : getD s (a .start + 1) 0 ≤ largestType) where
     pub arrays-step : outcomeOr n (many (array w) s p)
         ≡ andThen (outcomeOr n (many (chunk w) (take (a .start + a .len) s) (a .start + 2)))
         (λ us. more (record { complete = getD s (a .start) 0; unitType = getD s (a .start + 1) 0; units = us }) (outcomeOr n (many (array w) s (a .start + a .len))))

@@ -13,7 +13,7 @@ use Rattle.boxes.specs.declared.Span.{Span}
 use Rattle.boxes.proofs.Numbers.{length-toBe}
 use Rattle.boxes.proofs.Many.{many-nil, many-step}
 use Rattle.boxes.proofs.Fields.{chunk-toChunk, held-toChunk, chunk-advances}
-use Rattle.unit_list.specs.UnitList.{Array, array, decode, unitsOf, unitsOfType, heldArray, heldArrays, encodeUnits, encodeArray, encodeArrays, encode}
+use Rattle.unit_list.specs.UnitList.{Array, array, largestType, decode, unitsOf, unitsOfType, heldArray, heldArrays, encodeUnits, encodeArray, encodeArrays, encode}
 use Rattle.unit_list.specs.Answers.{listUnits, listUnitsOfType}
 use Rattle.unit_list.proofs.Arrays.{Sound, sound-none, sound-more, array-reads, array-advances}
 use Rattle.unit_list.proofs.Left.{decode-arrays}
@@ -129,7 +129,7 @@ module _ (w : ℕ) (s : List ℕ) (a : Array (List ℕ)) (pre post : List ℕ) (
       let m : length (pre ++ encodeArray w a) ≡ p + w + length (restOf w a) = length-append pre (encodeArray w a) ∙ rw l (omega arith) in
       rw (e, ← append-assoc pre (encodeArray w a) post) (take-at (pre ++ encodeArray w a) post (p + w + length (restOf w a)) m) ∙ units-behind
 
-  module _ (some : 1 ≤ w) (one : a .complete ≤ 1) (small : a .unitType ≤ 31) where
+  module _ (some : 1 ≤ w) (one : a .complete ≤ 1) (small : a .unitType ≤ largestType) where
     pub array-written : array w s p ≡ value (placedArray w p a) (p + length (encodeArray w a))
     array-written =
         let k = length-array in

@@ -11,7 +11,7 @@ use Rattle.boxes.specs.Walk.{more}
 use Rattle.boxes.specs.declared.Span.{Span}
 use Rattle.boxes.proofs.Fields.{uint-there, uint-short}
 use Rattle.unit_list.specs.UnitList.{Array, unitList, decode}
-use Rattle.unit_list.specs.Walk.{typed, typedUnits, typedList, leftOf, unitsFrom, arraysFrom, arraysStepped, unitsStepped, stepped, Fits, Entered, ArrayStepFits, UnitStepFits, StepFits}
+use Rattle.unit_list.specs.Walk.{typed, typedUnits, typedList, leftOf, unitsFrom, arraysFrom, front, arraysStepped, unitsStepped, stepped, Fits, Entered, ArrayStepFits, UnitStepFits, StepFits}
 use Rattle.unit_list.specs.declared.ListCursor.{ListCursor}
 use Rattle.unit_list.specs.declared.ListStep.{ListStep}
 use Rattle.unit_list.specs.declared.ListStep.the-variants as L
@@ -37,27 +37,27 @@ pub list-versionless : (s : List ℕ) → length s ≤ 2 ^ 30 → (getD s 0 0 �
 list-versionless s l h = rw (decode-versionless s l h)
 
 -- a list of version 1 is its arrays
-pub decode-arrays : (s : List ℕ) → length s ≤ 2 ^ 30 → getD s 0 0 ≡ 1 → decode s ≡ arraysFrom s 1
+pub decode-arrays : (s : List ℕ) → length s ≤ 2 ^ 30 → getD s 0 0 ≡ 1 → decode s ≡ arraysFrom s front
 unfolding decode unitList
 decode-arrays [] l h = absurd (omega arith)
 decode-arrays (b ∷ s) l h =
     rw (le-leb (length (b ∷ s)) (2 ^ 30) l, uint-there 1 (b ∷ s) 0 (omega arith), be-one (b ∷ s) 0, eq-eqb b 1 h)
 
 -- what is left at the end of an array: the arrays behind it
-pub left-arrays : (s : List ℕ) (c : ListCursor) → c .at ≡ c .end → leftOf s c ≡ andThen (arraysFrom s (c .end)) (λ xs. accept (typedUnits xs))
+pub left-arrays : (s : List ℕ) (c : ListCursor) → c .at ≡ c .end → leftOf s c ≡ andThen (arraysFrom s c) (λ xs. accept (typedUnits xs))
 unfolding leftOf typed
 left-arrays s c e =
     let l = length-take (c .end) s in
     rw (run-nil (chunk 4) (take (c .end) s) (c .at) 21 (omega arith))
 
-pub left-start : (s : List ℕ) → length s ≤ 2 ^ 30 → getD s 0 0 ≡ 1 → leftOf s (record { at = 1; end = 1; «unit_type» = 0 }) ≡ typedList s
-left-start s l h = left-arrays s (record { at = 1; end = 1; «unit_type» = 0 }) refl ∙ rw (decode-arrays s l h)
+pub left-start : (s : List ℕ) → length s ≤ 2 ^ 30 → getD s 0 0 ≡ 1 → leftOf s front ≡ typedList s
+left-start s l h = left-arrays s front refl ∙ rw (decode-arrays s l h)
 
 -- one array passed
 module _ (s : List ℕ) (c : ListCursor) (e : c .at ≡ c .end) where
-  pub left-entered : (b : ℕ) (d : ListCursor) → arraysStepped s (A.Array b d) ≡ arraysFrom s (c .end) → leftOf s d ≡ leftOf s c
+  pub left-entered : (b : ℕ) (d : ListCursor) → arraysStepped s (A.Array b d) ≡ arraysFrom s c → leftOf s d ≡ leftOf s c
   unfolding leftOf typedUnits
-  left-entered b d f = go (unitsFrom s d) (arraysFrom s (d .end)) ∙ ap (λ (o : Outcome (List (Array Span))). andThen o (λ xs. accept (typedUnits xs))) f ∙ sym (left-arrays s c e)
+  left-entered b d f = go (unitsFrom s d) (arraysFrom s d) ∙ ap (λ (o : Outcome (List (Array Span))). andThen o (λ xs. accept (typedUnits xs))) f ∙ sym (left-arrays s c e)
     where
       go : (u : Outcome (List Span)) (o : Outcome (List (Array Span)))
           → andThen u (λ us. andThen o (λ xs. accept (typed (d .«unit_type») us ++ typedUnits xs)))
@@ -66,11 +66,11 @@ module _ (s : List ℕ) (c : ListCursor) (e : c .at ≡ c .end) where
       go (accept us) (refuse m) = refl
       go (accept us) (accept xs) = refl
 
-  pub left-end : accept [] ≡ arraysFrom s (c .end) → accept [] ≡ leftOf s c
+  pub left-end : accept [] ≡ arraysFrom s c → accept [] ≡ leftOf s c
   unfolding typedUnits
   left-end f = sym (left-arrays s c e ∙ rw (← f))
 
-  pub left-malformed : refuse 21 ≡ arraysFrom s (c .end) → refuse 21 ≡ leftOf s c
+  pub left-malformed : refuse 21 ≡ arraysFrom s c → refuse 21 ≡ leftOf s c
   left-malformed f = sym (left-arrays s c e ∙ rw (← f))
 
 -- one unit passed, in an array that has units left
@@ -78,7 +78,7 @@ module _ (s : List ℕ) (c : ListCursor) where
   left-unit : (a : Span) (d : ListCursor) → d .end ≡ c .end → d .«unit_type» ≡ c .«unit_type» → unitsStepped s (L.Unit a d) ≡ unitsFrom s c
       → stepped s (L.Unit a d) ≡ leftOf s c
   unfolding leftOf typed
-  left-unit a d e t f = rw (← f, ← e, ← t) (go (unitsFrom s d) (arraysFrom s (d .end)))
+  left-unit a d e t f = rw (← f, ← e, ← t) (go (unitsFrom s d) (arraysFrom s d))
     where
       go : (u : Outcome (List Span)) (o : Outcome (List (Array Span)))
           → more (record { unit = a; unitType = d .«unit_type» }) (andThen u (λ us. andThen o (λ xs. accept (typed (d .«unit_type») us ++ typedUnits xs))))
@@ -93,10 +93,10 @@ module _ (s : List ℕ) (c : ListCursor) where
 
 -- the turns of a step from c, which has come to `here`: what is left is the same
 module _ (s : List ℕ) (c here : ListCursor) (inv : Fits s here × (leftOf s here ≡ leftOf s c) × (c .at ≤ here .at)) where
-  module _ (e : here .at ≡ here .end) (r : ArrayStep) (f : (arraysStepped s r ≡ arraysFrom s (here .end)) × ArrayStepFits s (here .end) r) where
+  module _ (e : here .at ≡ here .end) (r : ArrayStep) (f : (arraysStepped s r ≡ arraysFrom s here) × ArrayStepFits s here r) where
     module _ (b : ℕ) (d : ListCursor) (g : r ≡ A.Array b d) where
-      entered : (arraysStepped s (A.Array b d) ≡ arraysFrom s (here .end)) × Entered s (here .end) b d
-      entered = subst (λ (r : ArrayStep). (arraysStepped s r ≡ arraysFrom s (here .end)) × ArrayStepFits s (here .end) r) g f
+      entered : (arraysStepped s (A.Array b d) ≡ arraysFrom s here) × Entered s here b d
+      entered = subst (λ (r : ArrayStep). (arraysStepped s r ≡ arraysFrom s here) × ArrayStepFits s here r) g f
 
       pub turn-entered : (length s - d .end < length s - here .end) × (Fits s d × (leftOf s d ≡ leftOf s c) × (c .at ≤ d .at))
       turn-entered =

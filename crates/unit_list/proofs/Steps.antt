@@ -12,7 +12,7 @@ use Rattle.boxes.specs.Walk.{more}
 use Rattle.boxes.specs.declared.Span.{Span}
 use Rattle.boxes.proofs.Numbers.{be-take}
 use Rattle.boxes.proofs.Fields.{chunk-there, chunk-short, chunk-read, chunk-advances}
-use Rattle.unit_list.specs.UnitList.{array}
+use Rattle.unit_list.specs.UnitList.{array, largestType}
 use Rattle.unit_list.specs.Walk.{chunkStepped, unitsFrom, arraysFrom, arraysStepped, Fits, Passed, Entered}
 use Rattle.unit_list.specs.declared.ListCursor.{ListCursor}
 use Rattle.unit_list.specs.declared.ArrayStep.the-variants as A
@@ -75,40 +75,40 @@ module _ (s : List ℕ) (c : ListCursor) (fits : Fits s c) where
           let b = chunk-read 4 (take (c .end) s) (c .at) a (a .start + a .len) e in
           record { start = omega arith; next = refl; fits = record { before = unit-inside; within = fits .within; lent = fits .lent } }
 
--- the arrays from a place on
-module _ (s : List ℕ) (p : ℕ) where
-  pub arrays-end : p ≡ length s → accept [] ≡ arraysFrom s p
-  arrays-end e = sym (run-nil (array 4) s p 21 (omega arith))
+-- the arrays behind a cursor's end
+module _ (s : List ℕ) (c : ListCursor) where
+  pub arrays-end : c .end ≡ length s → accept [] ≡ arraysFrom s c
+  arrays-end e = sym (run-nil (array 4) s (c .end) 21 (omega arith))
 
-  module _ (left : p < length s) where
-    pub arrays-refused : IsRefused (array 4 s p) → refuse 21 ≡ arraysFrom s p
-    arrays-refused h = sym (run-refused (array 4) s p 21 left h)
+  module _ (left : c .end < length s) where
+    pub arrays-refused : IsRefused (array 4 s (c .end)) → refuse 21 ≡ arraysFrom s c
+    arrays-refused h = sym (run-refused (array 4) s (c .end) 21 left h)
 
-    pub arrays-unread : chunk 4 (take (length s) s) p ≡ refused 1 → refuse 21 ≡ arraysFrom s p
-    arrays-unread e = let f : chunk 4 s p ≡ refused 1 = rw take-length at e in arrays-refused (array-no-chunk 4 s p (rw f tt))
+    pub arrays-unread : chunk 4 (take (length s) s) (c .end) ≡ refused 1 → refuse 21 ≡ arraysFrom s c
+    arrays-unread e = let f : chunk 4 s (c .end) ≡ refused 1 = rw take-length at e in arrays-refused (array-no-chunk 4 s (c .end) (rw f tt))
 
-    module _ (a : Span) (e : chunk 4 (take (length s) s) p ≡ value a (a .start + a .len)) where
-      read : chunk 4 s p ≡ value a (a .start + a .len)
+    module _ (a : Span) (e : chunk 4 (take (length s) s) (c .end) ≡ value a (a .start + a .len)) where
+      read : chunk 4 s (c .end) ≡ value a (a .start + a .len)
       read = rw take-length at e
 
       pub array-inside : a .start + a .len ≤ length s
-      array-inside = chunk-read 4 s p a (a .start + a .len) read .fits
+      array-inside = chunk-read 4 s (c .end) a (a .start + a .len) read .fits
 
-      pub arrays-short : a .len < 2 → refuse 21 ≡ arraysFrom s p
-      arrays-short h = arrays-refused (array-short 4 s p a read h)
+      pub arrays-short : a .len < 2 → refuse 21 ≡ arraysFrom s c
+      arrays-short h = arrays-refused (array-short 4 s (c .end) a read h)
 
-      pub arrays-complete : 1 < getD s (a .start) 0 → refuse 21 ≡ arraysFrom s p
-      arrays-complete h = arrays-refused (array-complete 4 s p a read h)
+      pub arrays-complete : 1 < getD s (a .start) 0 → refuse 21 ≡ arraysFrom s c
+      arrays-complete h = arrays-refused (array-complete 4 s (c .end) a read h)
 
       module _ (two : 2 ≤ a .len) (one : getD s (a .start) 0 ≤ 1) where
-        pub arrays-type : 31 < getD s (a .start + 1) 0 → refuse 21 ≡ arraysFrom s p
-        arrays-type h = arrays-refused (array-type 4 s p a read two one h)
+        pub arrays-type : largestType < getD s (a .start + 1) 0 → refuse 21 ≡ arraysFrom s c
+        arrays-type h = arrays-refused (array-type 4 s (c .end) a read two one h)
 
-        pub arrays-entered : length s ≤ 2 ^ 30 → getD s (a .start + 1) 0 ≤ 31
-            → (arraysStepped s (A.Array (getD s (a .start) 0) (record { at = a .start + 2; end = a .start + a .len; «unit_type» = getD s (a .start + 1) 0 })) ≡ arraysFrom s p)
-            × Entered s p (getD s (a .start) 0) (record { at = a .start + 2; end = a .start + a .len; «unit_type» = getD s (a .start + 1) 0 })
+        pub arrays-entered : length s ≤ 2 ^ 30 → getD s (a .start + 1) 0 ≤ largestType
+            → (arraysStepped s (A.Array (getD s (a .start) 0) (record { at = a .start + 2; end = a .start + a .len; «unit_type» = getD s (a .start + 1) 0 })) ≡ arraysFrom s c)
+            × Entered s c (getD s (a .start) 0) (record { at = a .start + 2; end = a .start + a .len; «unit_type» = getD s (a .start + 1) 0 })
         arrays-entered lent small =
-            let b = chunk-read 4 s p a (a .start + a .len) read in (
-              sym (arrays-step 4 s (omega arith) p 21 left a read two one small),
+            let b = chunk-read 4 s (c .end) a (a .start + a .len) read in (
+              sym (arrays-step 4 s (omega arith) (c .end) 21 left a read two one small),
               record { first = omega arith; complete = one; unitType = small; fits = record { before = omega arith; within = b .fits; lent = lent } },
             )

@@ -9,7 +9,7 @@ use Rattle.error.specs.Refusals.{numberOf}
 use Rattle.boxes.specs.Bytes.{chunk}
 use Rattle.boxes.specs.Walk.{more}
 use Rattle.boxes.specs.declared.Span.{Span}
-use Rattle.unit_list.specs.UnitList.{Array, array, listWidth, decode}
+use Rattle.unit_list.specs.UnitList.{Array, array, largestType, listWidth, decode}
 use Rattle.unit_list.specs.declared.ListCursor.{ListCursor}
 use Rattle.unit_list.specs.declared.ListStart.{ListStart}
 use Rattle.unit_list.specs.declared.ListStart.the-variants.{At, Refused}
@@ -48,9 +48,13 @@ leftOf s c =
 abbrev pub unitsFrom : List ℕ → ListCursor → Outcome (List Span)
 unitsFrom s c = outcomeOr 21 (many (chunk listWidth) (take (c .end) s) (c .at))
 
--- the arrays from a place on
-abbrev pub arraysFrom : List ℕ → ℕ → Outcome (List (Array Span))
-arraysFrom s p = outcomeOr 21 (many (array listWidth) s p)
+-- and the second: the arrays behind a cursor's end
+abbrev pub arraysFrom : List ℕ → ListCursor → Outcome (List (Array Span))
+arraysFrom s c = outcomeOr 21 (many (array listWidth) s (c .end))
+
+-- behind the version, in front of the first array
+abbrev pub front : ListCursor
+front = record { at = 1; end = 1; «unit_type» = 0 }
 
 -- a cursor stands in its list, which is no longer than a lent input may be
 pub record Fits (s : List ℕ) (c : ListCursor) : Type 0 where
@@ -65,7 +69,7 @@ started s (Refused e) = refuse (numberOf e)
 
 -- and of its arrays
 abbrev pub arraysStarted : List ℕ → ListStart → Outcome (List (Array Span))
-arraysStarted s (At c) = arraysFrom s (c .end)
+arraysStarted s (At c) = arraysFrom s c
 arraysStarted s (Refused e) = refuse (numberOf e)
 
 abbrev pub StartFits : List ℕ → ListStart → Type 0
@@ -101,24 +105,24 @@ UnitStepFits s c (L.Unit a d) = Passed s c a d × (d .end ≡ c .end) × (d .«u
 UnitStepFits s c L.End = c .at ≡ c .end
 UnitStepFits s c L.Malformed = Unit {0}
 
--- what a step over whole arrays says of the arrays from a place on: the units of this one, and the arrays behind it
+-- what a step over whole arrays says of the arrays behind a cursor's end: the units of this one, and the arrays behind it
 abbrev pub arraysStepped : List ℕ → ArrayStep → Outcome (List (Array Span))
 arraysStepped s (A.Array complete c) =
-    andThen (unitsFrom s c) (λ us. more (record { complete = complete; unitType = c .«unit_type»; units = us }) (arraysFrom s (c .end)))
+    andThen (unitsFrom s c) (λ us. more (record { complete = complete; unitType = c .«unit_type»; units = us }) (arraysFrom s c))
 arraysStepped s A.End = accept []
 arraysStepped s A.Malformed = refuse 21
 
 -- an array's units stand behind its length, complete and type, which are small
-pub record Entered (s : List ℕ) (p b : ℕ) (c : ListCursor) : Type 0 where
-  pub first : c .at ≡ p + 6
+pub record Entered (s : List ℕ) (c : ListCursor) (b : ℕ) (d : ListCursor) : Type 0 where
+  pub first : d .at ≡ c .end + 6
   pub complete : b ≤ 1
-  pub unitType : c .«unit_type» ≤ 31
-  pub fits : Fits s c
+  pub unitType : d .«unit_type» ≤ largestType
+  pub fits : Fits s d
 
-abbrev pub ArrayStepFits : List ℕ → ℕ → ArrayStep → Type 0
-ArrayStepFits s p (A.Array complete c) = Entered s p complete c
-ArrayStepFits s p A.End = p ≡ length s
-ArrayStepFits s p A.Malformed = Unit {0}
+abbrev pub ArrayStepFits : List ℕ → ListCursor → ArrayStep → Type 0
+ArrayStepFits s c (A.Array complete d) = Entered s c complete d
+ArrayStepFits s c A.End = c .end ≡ length s
+ArrayStepFits s c A.Malformed = Unit {0}
 
 -- what a chunk's answer says; every refusal to read one is 1
 abbrev pub chunkStepped : ChunkRead → Parsed Span

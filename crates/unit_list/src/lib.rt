@@ -13,6 +13,9 @@ ghost use Rattle.boxes.specs.Parts.{PartOf};
 ghost use Rattle.boxes.specs.Walk.{countFound, found};
 ghost use Rattle.unit_list.specs.Answers.{listUnits, listUnitsOfType};
 
+// The largest type that an array may have.
+pub const LARGEST_TYPE: u8 = 31;
+
 // Where a walk over a list stands: behind `at` come the units of the array that ends at `end`, whose type is `unit_type`, and then the
 // arrays behind it.
 pub struct ListCursor {

@@ -1,6 +1,7 @@
 // For the crates further down: one walk over the units of a list, array after array.
 use super::ArrayStep;
 use super::ChunkRead;
+use super::LARGEST_TYPE;
 use super::ListCursor;
 use super::ListStart;
 use super::ListStep;
@@ -51,15 +52,15 @@ pub fn start(list: &[u8]) -> ListStart
     })
 }
 
-// The array at a place: its length, complete and type are read, its units are not.
-pub fn array_step(list: &[u8], at: usize) -> ArrayStep
-    requires { ⌜ (at ≤ length (now list)) × (length (now list) ≤ 2 ^ 30) ⌝ }
-    ensures { λ r. ⌜ (arraysStepped (now (list .entry)) r ≡ arraysFrom (now (list .entry)) at) × ArrayStepFits (now (list .entry)) at r ⌝ }
+// The array behind a cursor's end: its length, complete and type are read, its units are not.
+pub fn array_step(list: &[u8], c: ListCursor) -> ArrayStep
+    requires { ⌜ Fits (now list) c ⌝ }
+    ensures { λ r. ⌜ (arraysStepped (now (list .entry)) r ≡ arraysFrom (now (list .entry)) c) × ArrayStepFits (now (list .entry)) c r ⌝ }
 {
-    if at == list.len() {
+    if c.end == list.len() {
         return ArrayStep::End;
     }
-    let ChunkRead::Bytes(rest) = chunk(list, at, list.len(), 4) else {
+    let ChunkRead::Bytes(rest) = chunk(list, c.end, list.len(), 4) else {
         return ArrayStep::Malformed;
     };
     if rest.len < 2 {
@@ -71,17 +72,14 @@ pub fn array_step(list: &[u8], at: usize) -> ArrayStep
     if 1 < complete {
         return ArrayStep::Malformed;
     }
-    if 31 < unit_type {
+    if LARGEST_TYPE < unit_type {
         return ArrayStep::Malformed;
     }
-    ArrayStep::Array(
-        complete,
-        ListCursor {
-            at: from + 2,
-            end: from + rest.len,
-            unit_type: unit_type,
-        },
-    )
+    let mut first = c;
+    first.at = from + 2;
+    first.end = from + rest.len;
+    first.unit_type = unit_type;
+    ArrayStep::Array(complete, first)
 }
 
 // The unit at a cursor, before its array's end.
@@ -95,14 +93,9 @@ pub fn unit_step(list: &[u8], c: ListCursor) -> ListStep
     let ChunkRead::Bytes(a) = chunk(list, c.at, c.end, 4) else {
         return ListStep::Malformed;
     };
-    ListStep::Unit(
-        a,
-        ListCursor {
-            at: a.start + a.len,
-            end: c.end,
-            unit_type: c.unit_type,
-        },
-    )
+    let mut next = c;
+    next.at = a.start + a.len;
+    ListStep::Unit(a, next)
 }
 
 // The next unit behind a cursor, past arrays that have none left.
@@ -112,7 +105,7 @@ pub fn step(list: &[u8], c: ListCursor) -> ListStep
 {
     let mut here = c;
     while here.at == here.end {
-        match array_step(list, here.end) {
+        match array_step(list, here) {
             ArrayStep::Array(_, first) => here = first,
             ArrayStep::End => return ListStep::End,
             ArrayStep::Malformed => return ListStep::Malformed,

@@ -7,7 +7,7 @@ use lib.ListN.{length}
 use Rattle.error.specs.Logic.{if_then_else_}
 use Rattle.error.specs.Outcome.{Outcome, accept, refuse, lentInput, lentOutput, counted}
 use Rattle.error.specs.Steps.{_>>=_}
-use Rattle.hvcc.specs.Answers.{Next}
+use Rattle.split.specs.Answers.{Next}
 use Rattle.full.specs.Read.{FullParsed, parseFull}
 use Rattle.access_unit.specs.AccessUnit.{assemble}
 use Rattle.vvcc_c.specs.declared.VvccWritten.{VvccWritten}

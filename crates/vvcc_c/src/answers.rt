@@ -5,13 +5,13 @@ use access_unit::Target;
 use error::Refusal;
 use error::Written;
 use error::number;
-use hvcc::NextUnit;
+use split::NextUnit;
 ghost use mathlib.Core.Path.{_≡_};
 ghost use mathlib.Core.Option.{none, some};
 ghost use Rattle.error.specs.Outcome.{accept, refuse};
 ghost use Rattle.error.specs.Refusals.{numberOf};
 ghost use Rattle.error.specs.Answers.{writtenOf};
-ghost use Rattle.hvcc.specs.Answers.{nextOf};
+ghost use Rattle.split.specs.Answers.{nextOf};
 ghost use Rattle.access_unit.specs.Answers.{tolsOf};
 ghost use Rattle.vvcc_c.specs.Exports.{writtenAnswer, unitAnswer, targetFrom};
 

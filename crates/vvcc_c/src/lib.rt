@@ -1,13 +1,13 @@
 // The library for C and Rust: calls of the crates beneath, with answers that are structs of numbers.
 pub mod answers;
 
-use access_unit::access_unit_annex_b;
+use access_unit_annex_b::access_unit_annex_b;
 use error::LARGEST_INPUT;
 use error::Refusal;
 use full_read::FullAnswer;
 ghost use mathlib.Core.Path.{_≡_};
-ghost use Rattle.hvcc.specs.Answers.{nextItemUnit, nextGiven};
-ghost use Rattle.stills.specs.Stills.{stillRecord, stillStream};
+ghost use Rattle.split.specs.Answers.{nextItemUnit, nextGiven};
+ghost use Rattle.still.specs.Stills.{stillRecord, stillStream};
 ghost use Rattle.vvcc_c.specs.Exports.{writtenGiven, unitAnswer, targetFrom, scratchFilled, streamBeside};
 
 // How many bytes now stand at the front of the output, or a refusal's number and 0.
@@ -39,7 +39,14 @@ pub extern "C" fn vvcc_still_record(
 ) -> VvccWritten
     ensures { λ r. ⌜ (r, now (out .exit)) ≡ writtenGiven (stillRecord (now («record» .entry)) (record { chroma = «chroma_format_idc»; depth = «bit_depth»; width = width; height = height })) (now (out .entry)) ⌝ }
 {
-    let written = stills::still_record(record, chroma_format_idc, bit_depth, width, height, out);
+    let written = still_record::still_record(
+        record,
+        chroma_format_idc,
+        bit_depth,
+        width,
+        height,
+        out,
+    );
     answers::written(written)
 }
 
@@ -55,7 +62,7 @@ pub extern "C" fn vvcc_still_stream(
     ensures { λ r. ⌜ (r, now (out .exit)) ≡ writtenGiven (stillStream (now («record» .entry)) (now (stored .entry)) (targetFrom «has_target» target)) (now (out .entry)) ⌝ }
 {
     let tols = answers::target_from(has_target, target);
-    let written = stills::still_stream(record, stored, tols, out);
+    let written = still_stream::still_stream(record, stored, tols, out);
     answers::written(written)
 }
 
@@ -94,7 +101,7 @@ pub extern "C" fn vvcc_access_unit(
 pub extern "C" fn vvcc_next_unit(stream: &[u8], from: usize) -> VvccUnit
     ensures { λ r. ⌜ r ≡ unitAnswer (nextGiven (now (stream .entry)) from) ⌝ }
 {
-    answers::next(hvcc::next_unit(stream, from))
+    answers::next(split::next_unit(stream, from))
 }
 
 // The unit whose length stands at a place of an item. Refusals: 23, 4, then in byte order 1 and 5.
@@ -102,5 +109,5 @@ pub extern "C" fn vvcc_next_unit(stream: &[u8], from: usize) -> VvccUnit
 pub extern "C" fn vvcc_next_item_unit(item: &[u8], length_size: u8, from: usize) -> VvccUnit
     ensures { λ r. ⌜ r ≡ unitAnswer (nextItemUnit «length_size» (now (item .entry)) from) ⌝ }
 {
-    answers::next(hvcc::next_item_unit(item, length_size, from))
+    answers::next(split::next_item_unit(item, length_size, from))
 }

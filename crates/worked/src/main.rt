@@ -1,8 +1,8 @@
-// The worked bytes of document 01 that are run: each line says what is asked and what the calls answer. The others are proved in `vvcc`.
+// The worked bytes of document 01 that are run: each line says what is asked and what the calls answer. The others are proved in `path`.
+use bit_reader::BitPosition;
+use bit_reader::BitsRead;
 use compact::CompactVvcConfig;
 use error::Written;
-use rbsp::BitPosition;
-use rbsp::BitsRead;
 use replay_text::text;
 
 // Writes a line.
@@ -36,7 +36,7 @@ fn restore(stored: &[u8]) {
         length_size: 1,
     };
     let mut out = [0u8; 300];
-    let r = config.item_data(stored, &mut out);
+    let r = item_data::item_data(config, stored, &mut out);
     let mut line = [0u8; 700];
     let first = text::put_decimal(&mut line, 0, stored.len() as u64);
     let next = text::put_all(
@@ -55,7 +55,7 @@ fn strip(item: &[u8]) {
         length_size: 4,
     };
     let mut out = [0u8; 16];
-    let r = config.strip_item_data(item, &mut out);
+    let r = item_data::strip_item_data(config, item, &mut out);
     let mut line = [0u8; 200];
     let first = text::put_digits(&mut line, 0, item);
     let next = text::put_all(&mut line, first, b", flag clear, size 4, strips to:");
@@ -79,7 +79,7 @@ fn code(s: &[u8]) {
     if 1024 < s.len() {
         return;
     }
-    let r = rbsp::bits::exp_golomb(s, BitPosition(0));
+    let r = bit_reader::bits::exp_golomb(s, BitPosition(0));
     let mut line = [0u8; 200];
     let first = text::put_digits(&mut line, 0, s);
     let next = text::put_all(&mut line, first, b" as Exp-Golomb:");

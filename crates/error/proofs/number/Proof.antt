@@ -1,7 +1,7 @@
--- `number` gives the number that the definition states for each refusal: by cases.
+-- `number` gives the number that the definition states for each refusal: by cases, one line for each in `stands` and in the list at the end.
 use Prim.Native.Nat.{ℕ, _<_, _^_}
 use mathlib.Core.Path.{_≡_, refl, sym, ap, _∙_}
-use mathlib.Core.Logic.{⊎-elim}
+use mathlib.Core.Logic.{_⊎_, ⊎-elim}
 use native.Mathlib.Omega.{arith}
 use lib.Dec.{lit<}
 use mir.Syntax.{w64}
@@ -12,36 +12,42 @@ use Rattle.error.specs.declared.Refusal.{Refusal}
 use Rattle.error.proofs.number.Statement.{statement}
 use Rattle.error.proofs.number.Tie as tie
 
-told : {v n : ℕ} {r x : Refusal} → v ≡ n → r ≡ x → n ≡ numberOf x → n < 25 → (v ≡ numberOf r) × (v < 25)
-told e f g h = (e ∙ g ∙ sym (ap numberOf f), rw e h)
+-- the number of one case is that of the definition, and every number is small
+said : {v n : ℕ} {r x : Refusal} → n ≡ numberOf x → n < 256 → v ≡ n → r ≡ x → (v ≡ numberOf r) × (v < 256)
+said g h e f = (e ∙ g ∙ sym (ap numberOf f), rw e h)
 
-stands : (c : tie.At-match-came) → (c .match .result ≡ numberOf (c .before .args .r)) × (c .match .result < 25)
+-- one case or another
+infixr 5 _or_
+_or_ : {A B : Type 0} {C : Type 0} → (A → C) → (B → C) → A ⊎ B → C
+_or_ = ⊎-elim
+
+stands : (c : tie.At-match-came) → (c .match .result ≡ numberOf (c .before .args .r)) × (c .match .result < 256)
 stands c =
-    (⊎-elim (λ w. told (w .2) (w .1 .given .1) refl (lit< tt))
-    (⊎-elim (λ w. told (w .2) (w .1 .given .1) refl (lit< tt))
-    (⊎-elim (λ w. told (w .2) (w .1 .given .1) refl (lit< tt))
-    (⊎-elim (λ w. told (w .2) (w .1 .given .1) refl (lit< tt))
-    (⊎-elim (λ w. told (w .2) (w .1 .given .1) refl (lit< tt))
-    (⊎-elim (λ w. told (w .2) (w .1 .given .1) refl (lit< tt))
-    (⊎-elim (λ w. told (w .2) (w .1 .given .1) refl (lit< tt))
-    (⊎-elim (λ w. told (w .2) (w .1 .given .1) refl (lit< tt))
-    (⊎-elim (λ w. told (w .2) (w .1 .given .1) refl (lit< tt))
-    (⊎-elim (λ w. told (w .2) (w .1 .given .1) refl (lit< tt))
-    (⊎-elim (λ w. told (w .2) (w .1 .given .1) refl (lit< tt))
-    (⊎-elim (λ w. told (w .2) (w .1 .given .1) refl (lit< tt))
-    (⊎-elim (λ w. told (w .2) (w .1 .given .1) refl (lit< tt))
-    (⊎-elim (λ w. told (w .2) (w .1 .given .1) refl (lit< tt))
-    (⊎-elim (λ w. told (w .2) (w .1 .given .1) refl (lit< tt))
-    (⊎-elim (λ w. told (w .2) (w .1 .given .1) refl (lit< tt))
-    (⊎-elim (λ w. told (w .2) (w .1 .given .1) refl (lit< tt))
-    (⊎-elim (λ w. told (w .2) (w .1 .given .1) refl (lit< tt))
-    (⊎-elim (λ w. told (w .2) (w .1 .given .1) refl (lit< tt))
-    (⊎-elim (λ w. told (w .2) (w .1 .given .1) refl (lit< tt))
-    (⊎-elim (λ w. told (w .2) (w .1 .given .1) refl (lit< tt))
-    (⊎-elim (λ w. told (w .2) (w .1 .given .1) refl (lit< tt))
-    (⊎-elim (λ w. told (w .2) (w .1 .given .1) refl (lit< tt))
-    (λ w. told (w .2) (w .1 .given .1) refl (lit< tt)))))))))))))))))))))))))
-    (c .match .came)
+    ((λ w. said refl (lit< tt) (w .2) (w .1 .given .1))  -- Truncated
+    or (λ w. said refl (lit< tt) (w .2) (w .1 .given .1))  -- ConstraintLengthZero
+    or (λ w. said refl (lit< tt) (w .2) (w .1 .given .1))  -- PrefixSizeThree
+    or (λ w. said refl (lit< tt) (w .2) (w .1 .given .1))  -- PrefixSize
+    or (λ w. said refl (lit< tt) (w .2) (w .1 .given .1))  -- ZeroLengthUnit
+    or (λ w. said refl (lit< tt) (w .2) (w .1 .given .1))  -- UnitTooLongForPrefix
+    or (λ w. said refl (lit< tt) (w .2) (w .1 .given .1))  -- BytesLeftOver
+    or (λ w. said refl (lit< tt) (w .2) (w .1 .given .1))  -- CompactUnitCount
+    or (λ w. said refl (lit< tt) (w .2) (w .1 .given .1))  -- CompactUnitTooLong
+    or (λ w. said refl (lit< tt) (w .2) (w .1 .given .1))  -- WrongUnitType
+    or (λ w. said refl (lit< tt) (w .2) (w .1 .given .1))  -- BitsRunOut
+    or (λ w. said refl (lit< tt) (w .2) (w .1 .given .1))  -- CodeTooLong
+    or (λ w. said refl (lit< tt) (w .2) (w .1 .given .1))  -- Subpictures
+    or (λ w. said refl (lit< tt) (w .2) (w .1 .given .1))  -- BitDepth
+    or (λ w. said refl (lit< tt) (w .2) (w .1 .given .1))  -- SeveralLayers
+    or (λ w. said refl (lit< tt) (w .2) (w .1 .given .1))  -- NoVps
+    or (λ w. said refl (lit< tt) (w .2) (w .1 .given .1))  -- NoSps
+    or (λ w. said refl (lit< tt) (w .2) (w .1 .given .1))  -- NoPtl
+    or (λ w. said refl (lit< tt) (w .2) (w .1 .given .1))  -- NothingToWrite
+    or (λ w. said refl (lit< tt) (w .2) (w .1 .given .1))  -- BufferTooShort
+    or (λ w. said refl (lit< tt) (w .2) (w .1 .given .1))  -- UnitList
+    or (λ w. said refl (lit< tt) (w .2) (w .1 .given .1))  -- FieldTooWide
+    or (λ w. said refl (lit< tt) (w .2) (w .1 .given .1))  -- InputTooLong
+    or (λ w. said refl (lit< tt) (w .2) (w .1 .given .1))  -- NotOneStill
+    ) (c .match .came)
 
 cast-result : tie.Need-cast-result
 cast-result c = let h : c .match .result < 2 ^ 63 = omega (arith, stands c .1) in rw (toZ-pos w64 h) (tt, record { fits = omega (arith, stands c .1) })
@@ -49,105 +55,33 @@ cast-result c = let h : c .match .result < 2 ^ 63 = omega (arith, stands c .1) i
 returns : tie.Need-returns
 returns c = let h : c .match .result < 2 ^ 63 = omega (arith, stands c .1) in rw (toZ-pos w64 h) (stands c .0)
 
-enum-told : tie.Need-enum-told
-enum-told c = search needs
-
-enum-told-2 : tie.Need-enum-told-2
-enum-told-2 c = search needs
-
-enum-told-3 : tie.Need-enum-told-3
-enum-told-3 c = search needs
-
-enum-told-4 : tie.Need-enum-told-4
-enum-told-4 c = search needs
-
-enum-told-5 : tie.Need-enum-told-5
-enum-told-5 c = search needs
-
-enum-told-6 : tie.Need-enum-told-6
-enum-told-6 c = search needs
-
-enum-told-7 : tie.Need-enum-told-7
-enum-told-7 c = search needs
-
-enum-told-8 : tie.Need-enum-told-8
-enum-told-8 c = search needs
-
-enum-told-9 : tie.Need-enum-told-9
-enum-told-9 c = search needs
-
-enum-told-10 : tie.Need-enum-told-10
-enum-told-10 c = search needs
-
-enum-told-11 : tie.Need-enum-told-11
-enum-told-11 c = search needs
-
-enum-told-12 : tie.Need-enum-told-12
-enum-told-12 c = search needs
-
-enum-told-13 : tie.Need-enum-told-13
-enum-told-13 c = search needs
-
-enum-told-14 : tie.Need-enum-told-14
-enum-told-14 c = search needs
-
-enum-told-15 : tie.Need-enum-told-15
-enum-told-15 c = search needs
-
-enum-told-16 : tie.Need-enum-told-16
-enum-told-16 c = search needs
-
-enum-told-17 : tie.Need-enum-told-17
-enum-told-17 c = search needs
-
-enum-told-18 : tie.Need-enum-told-18
-enum-told-18 c = search needs
-
-enum-told-19 : tie.Need-enum-told-19
-enum-told-19 c = search needs
-
-enum-told-20 : tie.Need-enum-told-20
-enum-told-20 c = search needs
-
-enum-told-21 : tie.Need-enum-told-21
-enum-told-21 c = search needs
-
-enum-told-22 : tie.Need-enum-told-22
-enum-told-22 c = search needs
-
-enum-told-23 : tie.Need-enum-told-23
-enum-told-23 c = search needs
-
-enum-told-24 : tie.Need-enum-told-24
-enum-told-24 c = search needs
-
 pub number-spec : {M : Type 1} → statement M
 number-spec =
     tie.close
     (tie.spec
-    enum-told
-    enum-told-2
-    enum-told-3
-    enum-told-4
-    enum-told-5
-    enum-told-6
-    enum-told-7
-    enum-told-8
-    enum-told-9
-    enum-told-10
-    enum-told-11
-    enum-told-12
-    enum-told-13
-    enum-told-14
-    enum-told-15
-    enum-told-16
-    enum-told-17
-    enum-told-18
-    enum-told-19
-    enum-told-20
-    enum-told-21
-    enum-told-22
-    enum-told-23
-    enum-told-24
+    (λ c. search needs)  -- Truncated
+    (λ c. search needs)  -- ConstraintLengthZero
+    (λ c. search needs)  -- PrefixSizeThree
+    (λ c. search needs)  -- PrefixSize
+    (λ c. search needs)  -- ZeroLengthUnit
+    (λ c. search needs)  -- UnitTooLongForPrefix
+    (λ c. search needs)  -- BytesLeftOver
+    (λ c. search needs)  -- CompactUnitCount
+    (λ c. search needs)  -- CompactUnitTooLong
+    (λ c. search needs)  -- WrongUnitType
+    (λ c. search needs)  -- BitsRunOut
+    (λ c. search needs)  -- CodeTooLong
+    (λ c. search needs)  -- Subpictures
+    (λ c. search needs)  -- BitDepth
+    (λ c. search needs)  -- SeveralLayers
+    (λ c. search needs)  -- NoVps
+    (λ c. search needs)  -- NoSps
+    (λ c. search needs)  -- NoPtl
+    (λ c. search needs)  -- NothingToWrite
+    (λ c. search needs)  -- BufferTooShort
+    (λ c. search needs)  -- UnitList
+    (λ c. search needs)  -- FieldTooWide
+    (λ c. search needs)  -- InputTooLong
+    (λ c. search needs)  -- NotOneStill
     cast-result
     returns)

@@ -8,7 +8,8 @@ use Rattle.ptl.specs.Ptl.{zeroPtl}
 use Rattle.full.specs.declared.VvcConfig.{VvcConfig}
 use Rattle.expand.specs.Expand.{FullHead, Picture}
 use Rattle.expand.specs.Answers.{expandedGiven}
-use Rattle.expand.specs.Inside.{unitsAt, withUnits, setsPtl}
+use Rattle.grouping.specs.Units.{unitsAt}
+use Rattle.expand.specs.Inside.{withUnits, setsPtl}
 use Rattle.expand.proofs.SetsRead.{read-value, read-refusal, sets-read, sets-refused}
 use Rattle.expand.proofs.Expansion.{expanded-refused}
 use Rattle.expand.proofs.expand_units.Statement.{statement}

@@ -6,7 +6,7 @@ use Rattle.error.specs.Outcome.{Outcome}
 use Rattle.unit_list.specs.UnitList.{encode}
 use Rattle.full.specs.declared.VvcConfig.{VvcConfig}
 use Rattle.expand.specs.Expand.{FullHead}
-use Rattle.expand.specs.Inside.{unitsAt}
+use Rattle.grouping.specs.Units.{unitsAt}
 use Rattle.expand.proofs.Expansion.{expanded-short, expanded-fits}
 use Rattle.expand.proofs.put_expanded.Statement.{statement}
 use Rattle.expand.proofs.put_expanded.Tie as tie

@@ -3,11 +3,11 @@ use borrow.Author.Needs.{needs}
 use Rattle.expand.proofs.refused.Statement.{statement}
 use Rattle.expand.proofs.refused.Tie as tie
 
-zero-head-requires : tie.Need-zero-head-requires
-zero-head-requires c κs = search needs
+plain-head-requires : tie.Need-plain-head-requires
+plain-head-requires c κs = search needs
 
 returns : tie.Need-returns
-returns c = rw (c .zero-head .ensures)
+returns c = rw (c .plain-head .ensures)
 
 pub refused-spec : {M : Type 1} → statement M
-refused-spec = tie.close (tie.spec zero-head-requires returns)
+refused-spec = tie.close (tie.spec plain-head-requires returns)

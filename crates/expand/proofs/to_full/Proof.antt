@@ -7,7 +7,7 @@ use Rattle.error.specs.Outcome.{Outcome}
 use Rattle.full.specs.declared.VvcConfig.{VvcConfig}
 use Rattle.expand.specs.Expand.{FullHead, Picture}
 use Rattle.expand.specs.Answers.{expandedGiven}
-use Rattle.expand.specs.Inside.{startedUnits, StartReads}
+use Rattle.grouping.specs.Units.{startedUnits, StartReads}
 use Rattle.expand.proofs.Expansion.{expanded-refused, list-expanded, list-refused}
 use Rattle.expand.proofs.to_full.Statement.{statement}
 use Rattle.expand.proofs.to_full.Tie as tie

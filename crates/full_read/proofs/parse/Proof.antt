@@ -1,13 +1,8 @@
--- `parse` gives what the definition gives: 23, the refusals of the head, or what follows it.
-use Prim.Native.Nat.{ℕ}
-use mathlib.Core.Path.{sym, ap, _∙_}
-use mathlib.Core.List.{List}
+-- `parse` gives what the definition gives: 23, the refusals of the head, or what its arrays give beside it.
 use borrow.Author.Needs.{needs}
-use Rattle.error.specs.Outcome.{Outcome}
-use Rattle.full.specs.Read.{FullParsed, vvcHead}
-use Rattle.full_read.specs.Inside.{givenBy}
+use Rattle.full.specs.Read.{vvcHead}
 use Rattle.full_read.proofs.Heads.{head-read, head-refused}
-use Rattle.full_read.proofs.Given.{given-refused, parse-too-long, parse-behind, parse-refused}
+use Rattle.full_read.proofs.Given.{given-too-long, given-headless, given-arrays}
 use Rattle.full_read.proofs.parse.Statement.{statement}
 use Rattle.full_read.proofs.parse.Tie as tie
 
@@ -15,7 +10,7 @@ refused-requires : tie.Need-refused-requires
 refused-requires c κs = search needs
 
 returns : tie.Need-returns
-returns c = given-refused _ _ 23 _ (c .refused .ensures) (parse-too-long _ (c .before .if1 .taken))
+returns c = given-too-long _ _ (c .before .if1 .taken) _ (c .refused .ensures)
 
 read-head-requires : tie.Need-read-head-requires
 read-head-requires c κs = search needs
@@ -23,8 +18,11 @@ read-head-requires c κs = search needs
 enum-known-answer : tie.Need-enum-known-answer
 enum-known-answer c = search needs
 
-read-arrays-requires : tie.Need-read-arrays-requires
-read-arrays-requires c κs = search needs
+read-list-requires : tie.Need-read-list-requires
+read-list-requires c κs = search needs
+
+with-head-requires : tie.Need-with-head-requires
+with-head-requires c κs = search needs
 
 enum-known-answer-2 : tie.Need-enum-known-answer-2
 enum-known-answer-2 c = search needs
@@ -37,17 +35,17 @@ same-length c = search needs
 
 returns-2 : tie.Need-returns-2
 returns-2 c =
-    let a = c .before .before .before .before .before .before .before .before .before .before .before .before .args in
-    let r = c .before .before .before .before .before .before .before .before .read-head in
-    let w = head-read (r .result) (vvcHead (a .«record» .now) 0) (r .ensures) _ (c .before .before .before .before .before .answer .given .1) in
-    c .before .before .read-arrays .ensures ∙ ap (λ (o : Outcome (FullParsed × List ℕ)). givenBy o (a .out .now)) (sym (parse-behind (a .«record» .now) (c .before .before .before .before .before .before .before .before .before .if1 .left) _ _ w))
+    let a = c .before .before .before .before .before .before .before .before .before .before .before .before .before .args in
+    let r = c .before .before .before .before .before .before .before .before .before .read-head in
+    let w = head-read (r .result) (vvcHead (a .«record» .now) 0) (r .ensures) _ (c .before .before .before .before .before .before .answer .given .1) in
+    given-arrays (a .«record» .now) (a .out .now) (c .before .before .before .before .before .before .before .before .before .before .if1 .left) _ _ w _ _ (c .before .before .before .read-list .ensures) _ (c .with-head .ensures)
 
 returns-3 : tie.Need-returns-3
 returns-3 c =
     let a = c .before .before .before .before .before .before .before .before .before .args in
     let r = c .before .before .before .before .before .read-head in
-    given-refused _ _ _ _ (c .refused2 .ensures)
-    (parse-refused (a .«record» .now) (c .before .before .before .before .before .before .if1 .left) _ (head-refused (r .result) (vvcHead (a .«record» .now) 0) (r .ensures) _ (c .before .before .answer2 .given .1)))
+    given-headless (a .«record» .now) (a .out .now) (c .before .before .before .before .before .before .if1 .left) _ _ (c .refused2 .ensures)
+    (head-refused (r .result) (vvcHead (a .«record» .now) 0) (r .ensures) _ (c .before .before .answer2 .given .1))
 
 pub parse-spec : {M : Type 1} → statement M
 parse-spec =
@@ -57,7 +55,8 @@ parse-spec =
     returns
     read-head-requires
     enum-known-answer
-    read-arrays-requires
+    read-list-requires
+    with-head-requires
     enum-known-answer-2
     refused-requires-2
     same-length

@@ -1,7 +1,7 @@
 -- `vvcc_still_record` gives what `still_record` gives.
 use borrow.Author.Needs.{needs}
 use Rattle.expand.specs.Expand.{Picture}
-use Rattle.stills.specs.Stills.{stillRecord}
+use Rattle.still.specs.Stills.{stillRecord}
 use Rattle.vvcc_c.proofs.Given.{given-by}
 use Rattle.vvcc_c.proofs.vvcc_still_record.Statement.{statement}
 use Rattle.vvcc_c.proofs.vvcc_still_record.Tie as tie

@@ -1,6 +1,6 @@
 -- `vvcc_still_stream` gives what `still_stream` gives.
 use borrow.Author.Needs.{needs}
-use Rattle.stills.specs.Stills.{stillStream}
+use Rattle.still.specs.Stills.{stillStream}
 use Rattle.vvcc_c.proofs.Given.{given-target}
 use Rattle.vvcc_c.proofs.vvcc_still_stream.Statement.{statement}
 use Rattle.vvcc_c.proofs.vvcc_still_stream.Tie as tie

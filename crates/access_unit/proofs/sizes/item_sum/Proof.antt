@@ -1,7 +1,7 @@
 -- `sizes::item_sum` sums the kept units of an item. The loop's invariant: the sum is that of the units passed, and those left come behind them.
 use Prim.Native.Nat.{_-_, _≤_}
 use lib.ListN.{length}
-use Rattle.hvcc.proofs.Items.{Turn, found-unit, found-end, found-refusal}
+use Rattle.split.proofs.Items.{Turn, found-unit, found-end, found-refusal}
 use Rattle.access_unit.specs.Answers.{tolsOf}
 use Rattle.access_unit.specs.Inside.{keptLeft, itemSum}
 use Rattle.access_unit.proofs.KeptUnits.{over-end, over-refused}

@@ -1,32 +1,38 @@
 -- `sizes::measure_item` measures an access unit whose list is measured, or gives the refusal that comes first.
 use Prim.Native.Nat.{_+_, _≤_, _^_}
 use mathlib.Core.Path.{_≡_, sym, ap, _∙_}
-use mathlib.Core.Logic.{⊎-elim, inl, inr}
-use borrow.Author.Tests.{ltb-true, ltb-false}
 use Rattle.error.specs.Outcome.{accept, andThen}
+use Rattle.split.proofs.Items.{size-inside}
 use Rattle.access_unit.specs.Answers.{tolsOf}
 use Rattle.access_unit.specs.Inside.{keptLeft, itemSum, summedOf, bothSums, sizesWith}
 use Rattle.access_unit.specs.declared.sizes.UnitSum.{UnitSum}
 use Rattle.access_unit.specs.declared.sizes.Summed.{Summed}
 use Rattle.access_unit.specs.declared.sizes.Summed.the-variants.{Sum}
-use Rattle.access_unit.proofs.Gathering.{sizes-size, sizes-left, item-sum-few, sums-none, sums-some}
+use Rattle.access_unit.proofs.Gathering.{sizes-outside, sizes-left, item-sum-few, sums-none, sums-some}
 use borrow.Author.Needs.{needs}
 use native.Mathlib.Omega.{arith}
 use Rattle.access_unit.proofs.sizes.measure_item.Statement.{statement}
 use Rattle.access_unit.proofs.sizes.measure_item.Tie as tie
 
+-- the prefix size
+sized : (c : tie.Else1) → (1 ≤ c .before .before .before .args .length-size) × (c .before .before .before .args .length-size ≤ 4)
+sized c = size-inside _ (sym (c .before .outside .ensures) ∙ c .if1 .left)
+
+outside-requires : tie.Need-outside-requires
+outside-requires c κs = search needs
+
 returns : tie.Need-returns
 returns c =
-    let a = c .before .before .args in
-    sizes-size (a .length-size) (tolsOf (a .target)) (a .item .now) (a .listed) (c .before .before .pre .0)
-    (⊎-elim (λ h. inl (h .taken)) (λ h. inr (ltb-true 4 (a .length-size) (h .1 .taken))) (c .if1 .came))
+    let a = c .before .before .before .args in
+    sizes-outside (a .length-size) (tolsOf (a .target)) (a .item .now) (a .listed) (c .before .before .before .pre .0) (sym (c .before .outside .ensures) ∙ c .if1 .taken)
 
 wide-requires : tie.Need-wide-requires
 wide-requires c κs = search needs
 
 item-sum-requires : tie.Need-item-sum-requires
 item-sum-requires c κs =
-    rw (c .wide .ensures .0) (record { some = omega (arith, c .before .before .if1 .left); four = omega (arith, ltb-false); within = omega arith; lent = c .before .before .before .before .pre .0 })
+    let z = sized (c .before) in
+    rw (c .wide .ensures .0) (record { some = z .0; four = z .1; within = omega arith; lent = c .before .before .before .before .pre .0 })
 
 -- what the item's sum says
 sums : (d : tie.After-item-sum)
@@ -38,7 +44,8 @@ said : (d : tie.After-item-sum)
     ≡ sizesWith (d .before .before .before .before .before .args .length-size) (tolsOf (d .before .before .before .before .before .args .target)) (d .before .before .before .before .before .args .item .now) (d .before .before .before .before .before .args .listed)
 said d =
     let a = d .before .before .before .before .before .args in
-    sizes-left (a .length-size) (tolsOf (a .target)) (a .item .now) (a .listed) (d .before .before .before .before .before .pre .0) (omega (arith, d .before .before .before .if1 .left)) (omega (arith, ltb-false)) (summedOf (d .item-sum .result)) (sums d)
+    let z = sized (d .before .before) in
+    sizes-left (a .length-size) (tolsOf (a .target)) (a .item .now) (a .listed) (d .before .before .before .before .before .pre .0) (z .0) (z .1) (summedOf (d .item-sum .result)) (sums d)
 
 sum-said : (d : tie.After-item-sum) (w : UnitSum) → d .item-sum .result ≡ Sum w
     → bothSums (d .before .before .before .before .before .args .listed) w ≡ sizesWith (d .before .before .before .before .before .args .length-size) (tolsOf (d .before .before .before .before .before .args .target)) (d .before .before .before .before .before .args .item .now) (d .before .before .before .before .before .args .listed)
@@ -47,7 +54,8 @@ sum-said d w e = ap (λ (r : Summed). andThen (summedOf r) (bothSums (d .before 
 few : (d : tie.After-item-sum) (w : UnitSum) → d .item-sum .result ≡ Sum w → w .count + w .lengths ≤ 2 ^ 30
 few d w e =
     let a = d .before .before .before .before .before .args in
-    item-sum-few (a .length-size) (tolsOf (a .target)) (a .item .now) (a .listed) (d .before .before .before .before .before .pre .0) (omega (arith, d .before .before .before .if1 .left)) (omega (arith, ltb-false)) w (ap summedOf (sym e) ∙ sums d)
+    let z = sized (d .before .before) in
+    item-sum-few (a .length-size) (tolsOf (a .target)) (a .item .now) (a .listed) (d .before .before .before .before .before .pre .0) (z .0) (z .1) w (ap summedOf (sym e) ∙ sums d)
 
 enum-known-summed : tie.Need-enum-known-summed
 enum-known-summed c = search needs
@@ -56,7 +64,7 @@ add-count : tie.Need-add-count
 add-count c = let f = few (c .before .before .before .before .before) _ (c .before .before .before .summed .given .1) in omega (arith, c .before .before .before .before .before .before .before .before .before .before .pre .1)
 
 returns-2 : tie.Need-returns-2
-returns-2 c = sums-none (c .before .before .before .before .before .before .before .before .before .before .before .args .listed) (c .before .before .before .before .summed .given .0 .0) (c .if3 .taken) ∙ sum-said (c .before .before .before .before .before .before) _ (c .before .before .before .before .summed .given .1)
+returns-2 c = sums-none (c .before .before .before .before .before .before .before .before .before .before .before .args .listed) (c .before .before .before .before .summed .given .0 .0) (c .if2 .taken) ∙ sum-said (c .before .before .before .before .before .before) _ (c .before .before .before .before .summed .given .1)
 
 add-lengths : tie.Need-add-lengths
 add-lengths c = let f = few (c .before .before .before .before .before .before .before .before) _ (c .before .before .before .before .before .before .summed .given .1) in omega (arith, c .before .before .before .before .before .before .before .before .before .before .before .before .before .pre .1)
@@ -65,7 +73,7 @@ enum-known-summed-2 : tie.Need-enum-known-summed-2
 enum-known-summed-2 c = search needs
 
 returns-3 : tie.Need-returns-3
-returns-3 c = sums-some (c .before .before .before .before .before .before .before .before .before .before .before .before .before .args .listed) (c .before .before .before .before .before .before .summed .given .0 .0) (c .before .before .if3 .left) ∙ sum-said (c .before .before .before .before .before .before .before .before) _ (c .before .before .before .before .before .before .summed .given .1)
+returns-3 c = sums-some (c .before .before .before .before .before .before .before .before .before .before .before .before .before .args .listed) (c .before .before .before .before .before .before .summed .given .0 .0) (c .before .before .if2 .left) ∙ sum-said (c .before .before .before .before .before .before .before .before) _ (c .before .before .before .before .before .before .summed .given .1)
 
 returns-4 : tie.Need-returns-4
 returns-4 c =
@@ -76,6 +84,7 @@ pub measure-item-spec : {M : Type 1} → statement M
 measure-item-spec =
     tie.close
     (tie.spec
+    outside-requires
     returns
     wide-requires
     item-sum-requires

@@ -4,7 +4,8 @@ use borrow.Author.Needs.{needs}
 use Rattle.error.specs.Outcome.{Outcome, andThen}
 use Rattle.params.specs.Answers.{readOf}
 use Rattle.params.specs.declared.ParamsAnswer.{ParamsAnswer}
-use Rattle.expand.specs.Inside.{unitsAt, ptlOrZeros, firstSpsPtl}
+use Rattle.grouping.specs.Units.{unitsAt}
+use Rattle.expand.specs.Inside.{ptlOrZeros, firstSpsPtl}
 use Rattle.expand.proofs.parameter_sets.sets_ptl.Statement.{statement}
 use Rattle.expand.proofs.parameter_sets.sets_ptl.Tie as tie
 

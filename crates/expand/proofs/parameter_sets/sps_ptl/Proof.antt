@@ -2,9 +2,10 @@
 use mathlib.Core.Path.{sym, ap, _∙_, subst}
 use borrow.Author.Needs.{needs}
 use Rattle.boxes.specs.Parts.{held}
-use Rattle.params.specs.Heads.{parseSps, zeroSps}
-use Rattle.params.specs.Answers.{spsGiven}
-use Rattle.expand.specs.Inside.{unitsAt, ptlOrZeros, firstOf, FirstFits}
+use Rattle.sps.specs.Sps.{parseSps, zeroSps}
+use Rattle.sps.specs.Answers.{spsGiven}
+use Rattle.grouping.specs.Units.{unitsAt, firstOf, FirstFits}
+use Rattle.expand.specs.Inside.{ptlOrZeros}
 use Rattle.expand.proofs.SetsRead.{sps-missing, sps-found, sps-refused, read-value, read-refusal}
 use Rattle.expand.proofs.parameter_sets.sps_ptl.Statement.{statement}
 use Rattle.expand.proofs.parameter_sets.sps_ptl.Tie as tie

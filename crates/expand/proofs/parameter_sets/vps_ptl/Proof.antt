@@ -1,8 +1,8 @@
 -- `parameter_sets::vps_ptl` reads the first VPS, where there is one.
 use mathlib.Core.Path.{sym, ap, _∙_, subst}
 use borrow.Author.Needs.{needs}
-use Rattle.params.specs.Answers.{ptlGiven}
-use Rattle.expand.specs.Inside.{firstOf, FirstFits}
+use Rattle.vps.specs.Answers.{ptlGiven}
+use Rattle.grouping.specs.Units.{firstOf, FirstFits}
 use Rattle.expand.proofs.SetsRead.{vps-missing, vps-found}
 use Rattle.expand.proofs.parameter_sets.vps_ptl.Statement.{statement}
 use Rattle.expand.proofs.parameter_sets.vps_ptl.Tie as tie

@@ -1,9 +1,9 @@
 -- The first byte, and with the PTL flag what stands under it.
 use mathlib.Core.Path.{ap, _∙_}
 use native.Mathlib.Omega.{arith}
-use lib.ListN.{length}
+use lib.ListN.{length, length-set}
 use borrow.Author.Needs.{needs}
-use Rattle.full_write.proofs.Heads.{head-fits, head-part, head-plain}
+use Rattle.full_write.proofs.Heads.{first, head-fits, head-part, head-plain}
 use Rattle.full_write.proofs.head.put_head.Statement.{statement}
 use Rattle.full_write.proofs.head.put_head.Tie as tie
 
@@ -11,22 +11,25 @@ bit-of-requires : tie.Need-bit-of-requires
 bit-of-requires c κs = search needs
 
 sub-put : tie.Need-sub-put
-sub-put c = let f = head-fits _ (c .before .before .before .before .pre) in omega (arith, f .one)
+sub-put c = let f = head-fits _ (c .before .before .before .before .pre .0) in omega (arith, f .one)
 
 mul-put : tie.Need-mul-put
-mul-put c = let f = head-fits _ (c .before .before .before .before .pre) in omega (arith, f .one, f .four)
+mul-put c = let f = head-fits _ (c .before .before .before .before .pre .0) in omega (arith, f .one, f .four)
 
 add-put : tie.Need-add-put
-add-put c = let f = head-fits _ (c .before .before .before .before .pre) in omega (arith, f .one, f .four)
+add-put c = let f = head-fits _ (c .before .before .before .before .pre .0) in omega (arith, f .one, f .four)
 
 add-put-2 : tie.Need-add-put-2
-add-put-2 c = let f = head-fits _ (c .before .before .before .before .pre) in omega (arith, f .one, f .four, c .before .before .bit-of .ensures .1)
+add-put-2 c = let f = head-fits _ (c .before .before .before .before .pre .0) in omega (arith, f .one, f .four, c .before .before .bit-of .ensures .1)
 
 put-requires : tie.Need-put-requires
 put-requires c κs = search needs
 
 put-ptl-part-requires : tie.Need-put-ptl-part-requires
-put-ptl-part-requires c κs = (head-fits _ (c .before .before .before .before .before .before .before .before .before .pre) .part (c .before .if1 .taken), omega arith)
+put-ptl-part-requires c κs =
+    let g = c .before .before .before .before .before .before .before .before .before in
+    let h = head-part (g .args .h) (c .before .if1 .taken) in
+    (head-fits _ (g .pre .0) .part (c .before .if1 .taken), omega (arith, ap length h, g .pre .1, ap length (c .before .before .before .before .put .ensures), length-set (g .args .out .now) 0 (first (g .args .h))))
 
 same-length : tie.Need-same-length
 same-length c = search needs

@@ -1,6 +1,6 @@
 -- `announced_bits` passes over bits exactly where the flag is 1.
-use borrow.Author.Needs.{needs}
 use borrow.Author.Tests.{eq-eqb, ne-eqb}
+use borrow.Author.Needs.{needs}
 use Rattle.ptl.proofs.constraints.announced_bits.Statement.{statement}
 use Rattle.ptl.proofs.constraints.announced_bits.Tie as tie
 

@@ -1,4 +1,4 @@
--- `walk::array_step` reads the head of the array at a place: the arrays from there on are its units and the arrays behind it.
+-- `walk::array_step` reads the head of the array behind a cursor's end: the arrays from there on are its units and the arrays behind it.
 use Prim.Native.Nat.{_+_, _≤_, _<_}
 use mathlib.Core.Path.{_≡_}
 use native.Mathlib.Omega.{arith}
@@ -10,19 +10,19 @@ use Rattle.unit_list.proofs.Steps.{chunk-bytes, chunk-refused, arrays-e
 use Rattle.unit_list.proofs.walk.array_step.Statement.{statement}
 use Rattle.unit_list.proofs.walk.array_step.Tie as tie
 
-left-at : (c : tie.After-rest) → c .before .before .before .before .before .args .at < length (c .before .before .before .before .before .args .list .now)
-left-at c = omega (arith, c .before .before .before .if1 .left)
+left-at : (c : tie.After-rest) → c .before .before .before .before .before .before .args .c .end < length (c .before .before .before .before .before .before .args .list .now)
+left-at c = omega (arith, c .before .before .before .if1 .left, c .before .before .before .before .before .before .pre .within)
 
 read-at : (c : tie.After-rest)
-    → chunk 4 (take (length (c .before .before .before .before .before .args .list .now)) (c .before .before .before .before .before .args .list .now)) (c .before .before .before .before .before .args .at)
+    → chunk 4 (take (length (c .before .before .before .before .before .before .args .list .now)) (c .before .before .before .before .before .before .args .list .now)) (c .before .before .before .before .before .before .args .c .end)
     ≡ value (c .rest .given .0 .0) (c .rest .given .0 .0 .start + c .rest .given .0 .0 .len)
 read-at c = chunk-bytes (c .before .before .chunk .result) _ (c .rest .given .0 .0) (c .before .before .chunk .ensures) (c .rest .given .1)
 
-inside-at : (c : tie.After-rest) → c .rest .given .0 .0 .start + c .rest .given .0 .0 .len ≤ length (c .before .before .before .before .before .args .list .now)
-inside-at c = let a = c .before .before .before .before .before .args in array-inside (a .list .now) (a .at) (left-at c) (c .rest .given .0 .0) (read-at c)
+inside-at : (c : tie.After-rest) → c .rest .given .0 .0 .start + c .rest .given .0 .0 .len ≤ length (c .before .before .before .before .before .before .args .list .now)
+inside-at c = let a = c .before .before .before .before .before .before .args in array-inside (a .list .now) (a .c) (left-at c) (c .rest .given .0 .0) (read-at c)
 
 returns : tie.Need-returns
-returns c = let a = c .before .before .args in (arrays-end (a .list .now) (a .at) (omega arith), omega arith)
+returns c = let a = c .before .before .before .args in (arrays-end (a .list .now) (a .c) (omega arith), omega arith)
 
 chunk-requires : tie.Need-chunk-requires
 chunk-requires c κs = search needs
@@ -35,14 +35,14 @@ enum-told c = search needs
 
 returns-2 : tie.Need-returns-2
 returns-2 c =
-    let a = c .before .before .before .before .before .args in
-    (arrays-unread (a .list .now) (a .at) (omega (arith, c .before .before .before .if1 .left)) (chunk-refused (c .before .before .chunk .result) _ (c .before .before .chunk .ensures) (c .enum-told .given .1)), tt)
+    let a = c .before .before .before .before .before .before .args in
+    (arrays-unread (a .list .now) (a .c) (omega (arith, c .before .before .before .if1 .left, c .before .before .before .before .before .before .pre .within)) (chunk-refused (c .before .before .chunk .result) _ (c .before .before .chunk .ensures) (c .enum-told .given .1)), tt)
 
 returns-3 : tie.Need-returns-3
 returns-3 c =
     let r = c .before .before .before in
-    let a = r .before .before .before .before .before .args in
-    (arrays-short (a .list .now) (a .at) (left-at r) (r .rest .given .0 .0) (read-at r) (c .if2 .taken), tt)
+    let a = r .before .before .before .before .before .before .args in
+    (arrays-short (a .list .now) (a .c) (left-at r) (r .rest .given .0 .0) (read-at r) (c .if2 .taken), tt)
 
 shared-slice-read-complete : tie.Need-shared-slice-read-complete
 shared-slice-read-complete c = omega (arith, inside-at (c .before .before .before .before), c .before .if2 .left)
@@ -56,27 +56,27 @@ shared-slice-read-unit-type c = omega (arith, inside-at (c .before .before .befo
 returns-4 : tie.Need-returns-4
 returns-4 c =
     let r = c .before .before .before .before .before .before in
-    let a = r .before .before .before .before .before .args in
-    (arrays-complete (a .list .now) (a .at) (left-at r) (r .rest .given .0 .0) (read-at r) (c .if3 .taken), tt)
+    let a = r .before .before .before .before .before .before .args in
+    (arrays-complete (a .list .now) (a .c) (left-at r) (r .rest .given .0 .0) (read-at r) (c .if3 .taken), tt)
 
 returns-5 : tie.Need-returns-5
 returns-5 c =
     let r = c .before .before .before .before .before .before .before in
-    let a = r .before .before .before .before .before .args in
-    (arrays-type (a .list .now) (a .at) (left-at r) (r .rest .given .0 .0) (read-at r) (omega (arith, c .before .before .before .before .if2 .left)) (c .before .if3 .left) (c .if4 .taken), tt)
+    let a = r .before .before .before .before .before .before .args in
+    (arrays-type (a .list .now) (a .c) (left-at r) (r .rest .given .0 .0) (read-at r) (omega (arith, c .before .before .before .before .if2 .left)) (c .before .if3 .left) (c .if4 .taken), tt)
 
-add-t7 : tie.Need-add-t7
-add-t7 c = omega (arith, inside-at (c .before .before .before .before .before .before .before), c .before .before .before .before .if2 .left)
+add-first : tie.Need-add-first
+add-first c = omega (arith, inside-at (c .before .before .before .before .before .before .before), c .before .before .before .before .if2 .left)
 
-add-t13 : tie.Need-add-t13
-add-t13 c = omega (arith, inside-at (c .before .before .before .before .before .before .before .before))
+add-first-2 : tie.Need-add-first-2
+add-first-2 c = omega (arith, inside-at (c .before .before .before .before .before .before .before .before))
 
 returns-6 : tie.Need-returns-6
 returns-6 c =
     let r = c .before .before .before .before .before .before .before .before in
-    let b = r .before .before .before .before .before in
+    let b = r .before .before .before .before .before .before in
     let a = b .args in
-    arrays-entered (a .list .now) (a .at) (left-at r) (r .rest .given .0 .0) (read-at r) (omega (arith, c .before .before .before .before .before .if2 .left)) (c .before .before .if3 .left) (b .pre .1) (c .before .if4 .left)
+    arrays-entered (a .list .now) (a .c) (left-at r) (r .rest .given .0 .0) (read-at r) (omega (arith, c .before .before .before .before .before .if2 .left)) (c .before .before .if3 .left) (b .pre .lent) (c .before .if4 .left)
 
 pub array-step-spec : {M : Type 1} → statement M
 array-step-spec =
@@ -93,6 +93,6 @@ array-step-spec =
     shared-slice-read-unit-type
     returns-4
     returns-5
-    add-t7
-    add-t13
+    add-first
+    add-first-2
     returns-6)

@@ -30,7 +30,7 @@ loop-holds : tie.Need-loop-holds Inv-loop μ-loop
 loop-holds c = (c .before .pre, refl, omega arith)
 
 array-step-requires : tie.Need-array-step-requires Inv-loop μ-loop
-array-step-requires c κs = let f = c .before .before .loop .inv .0 in (f .within, f .lent)
+array-step-requires c κs = c .before .before .loop .inv .0
 
 enum-known-first : tie.Need-enum-known-first Inv-loop μ-loop
 enum-known-first c = search needs

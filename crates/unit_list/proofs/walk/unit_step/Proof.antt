@@ -35,8 +35,8 @@ returns-2 c =
     let b = i .before .before .before in
     (units-unread (b .args .list .now) (b .args .c) (b .pre) (i .if1 .left) (chunk-refused (c .before .before .chunk .result) (chunk 4 (take (b .args .c .end) (b .args .list .now)) (b .args .c .at)) (c .before .before .chunk .ensures) (c .enum-told .given .1)), tt)
 
-add-t6 : tie.Need-add-t6
-add-t6 c =
+add-next : tie.Need-add-next
+add-next c =
     let r = c .before .before in
     let i = r .before .before .before in
     let b = i .before .before .before in
@@ -55,4 +55,4 @@ returns-3 c =
 pub unit-step-spec : {M : Type 1} → statement M
 unit-step-spec =
     tie.close
-    (tie.spec returns chunk-requires enum-known-a enum-told returns-2 add-t6 returns-3)
+    (tie.spec returns chunk-requires enum-known-a enum-told returns-2 add-next returns-3)

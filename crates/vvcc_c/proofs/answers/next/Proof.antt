@@ -1,7 +1,7 @@
 -- `answers::next` hands back where a unit lies, the end, or the refusal's number.
 use mathlib.Core.Path.{sym, ap, _∙_}
 use borrow.Author.Needs.{needs}
-use Rattle.hvcc.specs.Answers.{nextOf}
+use Rattle.split.specs.Answers.{nextOf}
 use Rattle.vvcc_c.specs.Exports.{unitAnswer}
 use Rattle.vvcc_c.proofs.answers.next.Statement.{statement}
 use Rattle.vvcc_c.proofs.answers.next.Tie as tie

@@ -1,0 +1,41 @@
+// For the crates further down: how long the stream of an access unit is, measured before any of it is written.
+use super::Target;
+use super::kept;
+use super::sizes;
+use super::sizes::Measured;
+use error::Counted;
+use full::VvcConfig;
+ghost use mathlib.Core.Path.{_≡_};
+ghost use Prim.Native.Nat.{_+_, _*_, _≤_, _^_};
+ghost use lib.ListN.{length};
+ghost use Rattle.error.specs.Answers.{countOf};
+ghost use Rattle.boxes.specs.Walk.{countFound};
+ghost use Rattle.access_unit.specs.AccessUnit.{startCode, assemble};
+ghost use Rattle.access_unit.specs.Answers.{tolsOf};
+
+// How many bytes a start code has: those of the number 1.
+pub const START_CODE_LEN: usize = 4;
+
+// How many bytes the stream of so many units has that hold so many bytes.
+pub fn stream_len(count: usize, lengths: usize) -> usize
+    requires { ⌜ (count ≤ 2 ^ 32) × (lengths ≤ 2 ^ 32) ⌝ }
+    ensures { λ r. ⌜ r ≡ length startCode * count + lengths ⌝ }
+{
+    START_CODE_LEN * count + lengths
+}
+
+// How long the access unit is as a stream. Refusals: 23, 21, 4, then in byte order 1 and 5, 19.
+pub fn access_unit_len(head: VvcConfig, list: &[u8], item: &[u8], tols: Target) -> Counted
+    ensures { λ r. ⌜ countOf r ≡ countFound (assemble head (now (list .entry)) (now (item .entry)) (tolsOf tols)) ⌝ }
+{
+    let target = kept::target_of(head, tols);
+    let measured = sizes::measure(list, item, head.length_size, target);
+    match measured {
+        Measured::Sized(sizes) => {
+            let count = sizes.listed + sizes.kept;
+            let len = stream_len(count, sizes.lengths);
+            Counted::Count(len)
+        }
+        Measured::Refused(e) => Counted::Refused(e),
+    }
+}

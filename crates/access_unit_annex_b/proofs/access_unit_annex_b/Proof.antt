@@ -1,0 +1,87 @@
+-- `access_unit_annex_b` stores the stream of the access unit, or gives the refusal that comes first.
+use mathlib.Core.Path.{_≡_, sym, ap, _∙_}
+use lib.Seq.{sets}
+use Rattle.access_unit.specs.AccessUnit.{assemble}
+use Rattle.access_unit.specs.Answers.{tolsOf}
+use Rattle.access_unit.specs.Inside.{measuredOf}
+use Rattle.access_unit.specs.declared.sizes.Sizes.{Sizes}
+use Rattle.access_unit.specs.declared.sizes.Measured.the-variants.{Sized}
+use Rattle.boxes.proofs.Output.{written-refused, written-short, written-fits}
+use Rattle.access_unit.proofs.Gathering.{Known, known, unknown, known-small}
+use Rattle.access_unit.proofs.Answering.{assemble-unknown, Assembled, assemble-known}
+use Rattle.access_unit_annex_b.proofs.Putting.{puts-stream}
+use borrow.Author.Needs.{needs}
+use native.Mathlib.Omega.{arith}
+use Rattle.access_unit_annex_b.proofs.access_unit_annex_b.Statement.{statement}
+use Rattle.access_unit_annex_b.proofs.access_unit_annex_b.Tie as tie
+
+target-of-requires : tie.Need-target-of-requires
+target-of-requires c κs = search needs
+
+measure-requires : tie.Need-measure-requires
+measure-requires c κs = search needs
+
+-- what was measured
+known-at : (d : tie.After-measure) (v : Sizes) → d .measure .result ≡ Sized v
+    → Known (d .before .before .before .before .before .args .head .«length_size») (tolsOf (d .before .target-of .result)) (d .before .before .before .before .before .args .list .now) (d .before .before .before .before .before .args .item .now) v
+known-at d v e = known _ _ _ _ v (ap measuredOf (sym e) ∙ d .measure .ensures)
+
+made-at : (d : tie.After-measure) (v : Sizes) → d .measure .result ≡ Sized v
+    → Assembled (d .before .before .before .before .before .args .head) (d .before .before .before .before .before .args .list .now) (d .before .before .before .before .before .args .item .now) (tolsOf (d .before .before .before .before .before .args .tols)) (tolsOf (d .before .target-of .result)) (d .before .target-of .ensures) v
+made-at d v e = assemble-known _ _ _ _ _ (d .before .target-of .ensures) v (known-at d v e)
+
+enum-known-measured : tie.Need-enum-known-measured
+enum-known-measured c = search needs
+
+add-count : tie.Need-add-count
+add-count c = let s = known-small _ _ _ _ _ (known-at (c .before .before .before .before) _ (c .before .before .measured .given .1)) in omega (arith, s .units)
+
+stream-len-requires : tie.Need-stream-len-requires
+stream-len-requires c κs = let s = known-small _ _ _ _ _ (known-at (c .before .before .before .before) _ (c .before .before .measured .given .1)) in (omega (arith, s .units), omega (arith, s .bytes))
+
+returns : tie.Need-returns
+returns c =
+    let a = c .before .before .before .before .before .before .before .before .before .before .before .args in
+    let m = made-at (c .before .before .before .before .before .before) _ (c .before .before .before .before .measured .given .1) in
+    written-short (assemble (a .head) (a .list .now) (a .item .now) (tolsOf (a .tols))) (a .out .now) (m .bytes) (m .given) (omega (arith, c .before .stream-len .ensures, m .long))
+
+put-stream-requires : tie.Need-put-stream-requires
+put-stream-requires c κs =
+    let a = c .before .before .before .before .before .before .before .before .before .before .before .before .args in
+    puts-stream _ _ _ _ _ (a .out .now) (known-at (c .before .before .before .before .before .before .before) _ (c .before .before .before .before .before .measured .given .1)) (omega (arith, c .before .before .stream-len .ensures))
+
+enum-known-measured-2 : tie.Need-enum-known-measured-2
+enum-known-measured-2 c = search needs
+
+same-length : tie.Need-same-length
+same-length c = search needs
+
+returns-2 : tie.Need-returns-2
+returns-2 c =
+    let a = c .before .before .before .before .before .before .before .before .before .before .before .before .before .before .before .args in
+    let m = made-at (c .before .before .before .before .before .before .before .before .before .before) _ (c .before .before .before .before .before .before .before .before .measured .given .1) in
+    written-fits (assemble (a .head) (a .list .now) (a .item .now) (tolsOf (a .tols))) (a .out .now) (m .bytes) (m .given)
+    _ _ (c .before .before .before .before .before .stream-len .ensures ∙ m .long) (c .before .before .before .before .if1 .left) (c .before .before .put-stream .ensures ∙ ap (sets (a .out .now) 0) (m .found))
+
+returns-3 : tie.Need-returns-3
+returns-3 c =
+    let a = c .before .before .before .before .before .before .before .before .args in
+    written-refused (assemble (a .head) (a .list .now) (a .item .now) (tolsOf (a .tols))) (a .out .now) _
+    (assemble-unknown (a .head) (a .list .now) (a .item .now) (tolsOf (a .tols)) _ (c .before .before .before .before .target-of .ensures) _
+    (unknown _ _ _ _ _ (ap measuredOf (sym (c .before .measured2 .given .1)) ∙ c .before .before .before .measure .ensures)))
+
+pub access-unit-annex-b-spec : {M : Type 1} → statement M
+access-unit-annex-b-spec =
+    tie.close
+    (tie.spec
+    target-of-requires
+    measure-requires
+    enum-known-measured
+    add-count
+    stream-len-requires
+    returns
+    put-stream-requires
+    enum-known-measured-2
+    same-length
+    returns-2
+    returns-3)

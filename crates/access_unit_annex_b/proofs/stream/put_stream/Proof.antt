@@ -1,0 +1,69 @@
+-- `stream::put_stream` stores the stream of an access unit: what leads, the list's units, the rest.
+use Rattle.access_unit.specs.Answers.{tolsOf}
+use Rattle.unit_list.proofs.Turns.{start-fits, start-units, start-refused}
+use Rattle.access_unit_annex_b.proofs.Putting.{puts-listable, lead-le, puts-leading, puts-listed, puts-following, put-whole}
+use borrow.Author.Needs.{needs}
+use native.Mathlib.Omega.{arith}
+use Rattle.access_unit_annex_b.proofs.stream.put_stream.Statement.{statement}
+use Rattle.access_unit_annex_b.proofs.stream.put_stream.Tie as tie
+
+start-requires : tie.Need-start-requires
+start-requires c κs = search needs
+
+enum-known-c : tie.Need-enum-known-c
+enum-known-c c = search needs
+
+enum-told : tie.Need-enum-told
+enum-told c = search needs
+
+returns : tie.Need-returns
+returns c =
+    let s = c .before .before .before .before .before .before in
+    absurd (puts-listable (s .args .length-size) (tolsOf (s .args .target)) (s .args .list .now) (s .args .item .now) (s .args .sizes) (s .args .out .now) (s .pre) _ (start-refused _ _ (c .before .before .start .ensures) _ (c .enum-told .given .1)))
+
+wide-requires : tie.Need-wide-requires
+wide-requires c κs = search needs
+
+put-kept-requires : tie.Need-put-kept-requires
+put-kept-requires c κs = let s = c .before .before .before .before .before .before .before .before .before in puts-leading (s .args .length-size) (tolsOf (s .args .target)) (s .args .list .now) (s .args .item .now) (s .args .sizes) (s .args .out .now) (s .pre) _ (c .before .wide .ensures .0)
+
+put-units-requires : tie.Need-put-units-requires
+put-units-requires c κs =
+    let s = c .before .before .before .before .before .before .before .before .before .before .before .before .before in
+    let t = c .before .before .before .before .before .before .before .before .before .start .ensures in
+    let g = c .before .before .before .before .before .before .before .c .given in
+    (start-fits _ _ t _ (g .1), puts-listed (s .args .length-size) (tolsOf (s .args .target)) (s .args .list .now) (s .args .item .now) (s .args .sizes) (s .args .out .now) (s .pre) _ (c .before .before .before .before .before .wide .ensures .0) _ _ (c .before .before .before .put-kept .ensures) _ (start-units _ _ t _ (g .1)))
+
+sub-rest : tie.Need-sub-rest
+sub-rest c = let s = c .before .before .before .before .before .before .before .before .before .before .before .before .before .before .before .before .before in let l = lead-le (s .args .length-size) (tolsOf (s .args .target)) (s .args .list .now) (s .args .item .now) (s .args .sizes) (s .args .out .now) (s .pre) _ (c .before .before .before .before .before .before .before .before .before .wide .ensures .0) in omega arith
+
+put-kept-requires-2 : tie.Need-put-kept-requires-2
+put-kept-requires-2 c κs =
+    let s = c .before .before .before .before .before .before .before .before .before .before .before .before .before .before .before .before .before .before in
+    puts-following (s .args .length-size) (tolsOf (s .args .target)) (s .args .list .now) (s .args .item .now) (s .args .sizes) (s .args .out .now) (s .pre) _ (c .before .before .before .before .before .before .before .before .before .before .wide .ensures .0) _ _ (c .before .before .before .before .before .before .before .before .put-kept .ensures) _
+    (start-units _ _ (c .before .before .before .before .before .before .before .before .before .before .before .before .before .before .start .ensures) _ (c .before .before .before .before .before .before .before .before .before .before .before .before .c .given .1)) _ _ (c .before .before .before .before .put-units .ensures)
+
+same-length : tie.Need-same-length
+same-length c = search needs
+
+returns-2 : tie.Need-returns-2
+returns-2 c =
+    let s = c .before .before .before .before .before .before .before .before .before .before .before .before .before .before .before .before .before .before .before .before .before in
+    put-whole (s .args .length-size) (tolsOf (s .args .target)) (s .args .list .now) (s .args .item .now) (s .args .sizes) (s .args .out .now) (s .pre) _ (c .before .before .before .before .before .before .before .before .before .before .before .before .before .wide .ensures .0) _ _ (c .before .before .before .before .before .before .before .before .before .before .before .put-kept .ensures) _
+    (start-units _ _ (c .before .before .before .before .before .before .before .before .before .before .before .before .before .before .before .before .before .start .ensures) _ (c .before .before .before .before .before .before .before .before .before .before .before .before .before .before .before .c .given .1)) _ _ (c .before .before .before .before .before .before .before .put-units .ensures) _ _ (c .before .before .put-kept2 .ensures)
+
+pub put-stream-spec : {M : Type 1} → statement M
+put-stream-spec =
+    tie.close
+    (tie.spec
+    start-requires
+    enum-known-c
+    enum-told
+    returns
+    wide-requires
+    put-kept-requires
+    put-units-requires
+    sub-rest
+    put-kept-requires-2
+    same-length
+    returns-2)

@@ -1,0 +1,76 @@
+-- `stream::put_units` stores the units of a list behind a cursor. The loop's invariant: what is stored and what is left make the whole.
+use Prim.Native.Nat.{_+_, _-_}
+use lib.ListN.{length}
+use lib.Seq.{sets}
+use Rattle.unit_list.specs.Walk.{Fits}
+use Rattle.unit_list.specs.Find.{unitsLeft}
+use Rattle.access_unit_annex_b.specs.Inside.{foundBytes}
+use Rattle.unit_list.proofs.Turns.{ListTurn, list-found, list-none}
+use Rattle.access_unit_annex_b.proofs.Storing.{Remaining, remaining-start, remaining-room, remaining-more, remaining-end}
+use borrow.Author.Needs.{needs}
+use native.Mathlib.Omega.{arith}
+use Rattle.access_unit_annex_b.proofs.stream.put_units.Statement.{statement}
+use Rattle.access_unit_annex_b.proofs.stream.put_units.Tie as tie
+
+abbrev Inv-loop : tie.InvT-loop
+Inv-loop list out₀ to here₀ end₀ out here end =
+    Fits list here
+    × Remaining list (length out₀) (to + length (foundBytes list (unitsLeft list here₀))) (sets out₀ to (foundBytes list (unitsLeft list here₀))) (unitsLeft list here) out end
+
+abbrev μ-loop : tie.MeasureT-loop
+μ-loop list out₀ to here₀ end₀ out here end = length list - here .at
+
+loop-holds : tie.Need-loop-holds Inv-loop μ-loop
+loop-holds c = let p = c .before .before .pre in (p .0, remaining-start _ _ _ _ (p .1))
+
+step-requires : tie.Need-step-requires Inv-loop μ-loop
+step-requires c κs = c .loop .inv .0
+
+enum-known-a : tie.Need-enum-known-a Inv-loop μ-loop
+enum-known-a c = search needs
+
+same-length : tie.Need-same-length Inv-loop μ-loop
+same-length c = c .before .before .loop .inv .1 .storing .same
+
+returns : tie.Need-returns Inv-loop μ-loop
+returns c =
+    let l = c .before .before .loop in
+    let list = c .before .before .before .before .before .args .list .now in
+    remaining-end _ _ _ _ _ _ _ (l .inv .1) (list-none list (l .here) (c .before .step .result) (c .before .step .ensures .0) (c .match .keys2))
+
+-- the unit that the step found
+turn-at : (c : tie.After-known-told Inv-loop μ-loop)
+    → ListTurn (c .before .before .before .before .before .before .before .args .list .now) (c .before .before .before .before .loop .here) (c .before .a .given .0 .0) (c .before .a .given .0 .1 .0)
+turn-at c = list-found _ _ _ (c .before .before .before .step .ensures) _ _ (c .before .a .given .1)
+
+put-unit-requires : tie.Need-put-unit-requires Inv-loop μ-loop
+put-unit-requires c κs =
+    let t = turn-at (c .before) in
+    let l = c .before .before .before .before .before .loop in
+    (t .inside, remaining-room _ _ _ _ _ _ _ (l .inv .1) _ (unitsLeft _ (c .before .before .a .given .0 .1 .0)) (t .rest) (t .inside))
+
+loop-less : tie.Need-loop-less Inv-loop μ-loop
+loop-less c = let t = turn-at (c .before .before .before .before) in omega (arith, t .passed .start, t .passed .next, t .inside)
+
+loop-again : tie.Need-loop-again Inv-loop μ-loop
+loop-again c =
+    let u = c .before .before .before .before in
+    let t = turn-at u in
+    let l = u .before .before .before .before .loop in
+    let p = c .before .before .put-unit .ensures in
+    (t .passed .fits, remaining-more _ _ _ _ _ _ _ (l .inv .1) _ (unitsLeft _ (u .before .a .given .0 .1 .0)) (t .rest) (t .inside) _ _ (p .0) (p .1))
+
+pub put-units-spec : {M : Type 1} → statement M
+put-units-spec =
+    tie.close
+    (tie.spec
+    Inv-loop
+    μ-loop
+    loop-holds
+    step-requires
+    enum-known-a
+    same-length
+    returns
+    put-unit-requires
+    loop-less
+    loop-again)

@@ -1,0 +1,42 @@
+// The access unit of a still as an Annex B stream.
+pub mod stream;
+
+use access_unit::Target;
+use access_unit::kept;
+use access_unit::lengths;
+use access_unit::sizes;
+use access_unit::sizes::Measured;
+use error::Refusal;
+use error::Written;
+use full::VvcConfig;
+ghost use mathlib.Core.Path.{_≡_};
+ghost use Rattle.error.specs.Outcome.{lentOutput, counted};
+ghost use Rattle.error.specs.Answers.{writtenOf};
+ghost use Rattle.access_unit.specs.AccessUnit.{assemble};
+ghost use Rattle.access_unit.specs.Answers.{tolsOf};
+
+// The access unit as a stream, each unit behind a start code. Refusals: 23, 21, 4, then in byte order 1 and 5, 19, 20.
+pub fn access_unit_annex_b(
+    head: VvcConfig,
+    list: &[u8],
+    item: &[u8],
+    tols: Target,
+    out: &mut [u8],
+) -> Written
+    ensures { λ r. ⌜ (writtenOf r, now (out .exit)) ≡ lentOutput (counted (assemble head (now (list .entry)) (now (item .entry)) (tolsOf tols))) (now (out .entry)) ⌝ }
+{
+    let target = kept::target_of(head, tols);
+    let measured = sizes::measure(list, item, head.length_size, target);
+    match measured {
+        Measured::Sized(sizes) => {
+            let count = sizes.listed + sizes.kept;
+            let len = lengths::stream_len(count, sizes.lengths);
+            if out.len() < len {
+                return Written::Refused(Refusal::BufferTooShort);
+            }
+            stream::put_stream(list, item, head.length_size, target, sizes, out);
+            Written::Bytes(len)
+        }
+        Measured::Refused(e) => Written::Refused(e),
+    }
+}

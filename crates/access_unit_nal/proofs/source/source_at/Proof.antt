@@ -1,0 +1,93 @@
+-- `source::source_at` finds where unit k of the access unit lies, by its number among the kept units or the list's.
+use mathlib.Core.Path.{refl, sym, ap, _∙_, subst}
+use Rattle.access_unit.specs.Answers.{tolsOf}
+use Rattle.access_unit.specs.Inside.{measuredOf}
+use Rattle.access_unit.proofs.Gathering.{Known, known, unknown}
+use Rattle.access_unit_nal.specs.Inside.{Numbered}
+use Rattle.access_unit_nal.proofs.Sources.{source-unknown, has-kept, at-listed, at-past, KeptAt, kept-number}
+use borrow.Author.Needs.{needs}
+use native.Mathlib.Omega.{arith}
+use Rattle.access_unit_nal.proofs.source.source_at.Statement.{statement}
+use Rattle.access_unit_nal.proofs.source.source_at.Tie as tie
+
+-- what was measured
+known-at : (c : tie.After-known-told)
+    → Known (c .before .before .before .before .before .before .args .length-size) (tolsOf (c .before .before .before .before .before .before .args .target)) (c .before .before .before .before .before .before .args .list .now) (c .before .before .before .before .before .before .args .item .now) (c .before .measured .given .0 .0)
+known-at c = known _ _ _ _ _ (ap measuredOf (sym (c .before .measured .given .1)) ∙ c .before .before .before .measure .ensures)
+
+-- the kept unit that stands as number k
+kept-at : (c : tie.After-wide)
+    → KeptAt (c .before .before .before .before .before .before .before .before .before .before .before .args .length-size) (tolsOf (c .before .before .before .before .before .before .before .before .before .before .before .args .target)) (c .before .before .before .before .before .before .before .before .before .before .before .args .list .now) (c .before .before .before .before .before .before .before .before .before .before .before .args .item .now) (c .before .before .before .before .before .before .before .before .before .before .before .args .k) (c .before .before .before .before .before .before .measured .given .0 .0) (known-at (c .before .before .before .before .before)) (c .wide .result) (c .wide .ensures .0) (c .before .before .n .given .0 .0)
+kept-at c = kept-number _ _ _ _ _ _ (known-at (c .before .before .before .before .before)) _ (c .wide .ensures .0) _ (subst (Numbered _ _) (c .before .before .n .given .1) (c .before .before .before .before .number-of .ensures))
+
+measure-requires : tie.Need-measure-requires
+measure-requires c κs = search needs
+
+enum-known-measured : tie.Need-enum-known-measured
+enum-known-measured c = search needs
+
+enum-told : tie.Need-enum-told
+enum-told c = search needs
+
+returns : tie.Need-returns
+returns c =
+    let a = c .before .before .before .before .before .args in
+    (source-unknown (a .length-size) (tolsOf (a .target)) (a .list .now) (a .item .now) (a .k) _ (unknown _ _ _ _ _ (ap measuredOf (sym (c .enum-told .given .1)) ∙ c .before .before .measure .ensures)), omega arith)
+
+number-of-requires : tie.Need-number-of-requires
+number-of-requires c κs = search needs
+
+enum-known-n : tie.Need-enum-known-n
+enum-known-n c = search needs
+
+wide-requires : tie.Need-wide-requires
+wide-requires c κs = search needs
+
+kept-unit-requires : tie.Need-kept-unit-requires
+kept-unit-requires c κs =
+    has-kept _ _ _ _ (c .before .before .before .before .before .before .before .before .before .before .before .args .k) _ (known-at (c .before .before .before .before .before)) _ (c .wide .ensures .0) _ (kept-at c .within)
+
+enum-known-n-2 : tie.Need-enum-known-n-2
+enum-known-n-2 c = search needs
+
+find-requires : tie.Need-find-requires
+find-requires c κs = search needs
+
+enum-told-2 : tie.Need-enum-told-2
+enum-told-2 c = search needs
+
+returns-2 : tie.Need-returns-2
+returns-2 c = (kept-at (c .before) .is _ (c .kept-unit .ensures .0), c .kept-unit .ensures .1)
+
+returns-3 : tie.Need-returns-3
+returns-3 c =
+    let a = c .before .before .before .before .before .before .before .before .before .before .before .before .args in
+    let g = c .before .before .before .n2 .given in
+    let h = subst (Numbered (c .before .before .before .before .before .before .before .measured .given .0 .0) (a .k)) (g .1) (c .before .before .before .before .before .number-of .ensures) in
+    let f = c .before .find .ensures in
+    (at-listed (a .length-size) (tolsOf (a .target)) (a .list .now) (a .item .now) (a .k) _ (known-at (c .before .before .before .before .before .before)) (a .length-size) refl (h .0) (rw (h .1) at (h .2)) _ (rw (h .1) at (f .unit)), f .inside)
+
+returns-4 : tie.Need-returns-4
+returns-4 c =
+    let a = c .before .before .before .before .before .before .before .before .before .args in
+    let h = subst (Numbered (c .before .before .before .before .measured .given .0 .0) (a .k)) (c .enum-told2 .given .1) (c .before .before .number-of .ensures) in
+    (at-past (a .length-size) (tolsOf (a .target)) (a .list .now) (a .item .now) (a .k) _ (known-at (c .before .before .before)) (a .length-size) refl (h .0) (h .1) (h .2), omega arith)
+
+pub source-at-spec : {M : Type 1} → statement M
+source-at-spec =
+    tie.close
+    (tie.spec
+    measure-requires
+    enum-known-measured
+    enum-told
+    returns
+    number-of-requires
+    enum-known-n
+    wide-requires
+    kept-unit-requires
+    enum-known-n-2
+    find-requires
+    enum-told-2
+    returns-2
+    returns-3
+    returns-4)

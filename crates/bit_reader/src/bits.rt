@@ -1,0 +1,133 @@
+// For the crates further down: bits at a position, where the bytes are few enough that their bits can be counted.
+use super::BitPosition;
+use super::BitsRead;
+use super::ByteOffset;
+use error::Refusal;
+ghost use mathlib.Core.Path.{_≡_};
+ghost use mathlib.Core.List.{List};
+ghost use Prim.Native.Nat.{ℕ, _+_, _*_, _%_, _≤_, _<_, _^_};
+ghost use lib.Dec.{leb};
+ghost use lib.ListN.{length};
+ghost use Rattle.error.specs.Parse.{value, bind};
+ghost use Rattle.bit_reader.specs.Bits.{bitAt, u, skip, align, zerosBeforeOne, ue};
+ghost use Rattle.bit_reader.specs.Answers.{parsed, refusalOf};
+
+// The bit at a position, the highest of each byte first.
+fn bit(s: &[u8], p: usize) -> u32
+    requires { ⌜ p < 8 * length (now s) ⌝ }
+    ensures { λ r. ⌜ r ≡ bitAt (now (s .entry)) p ⌝ }
+{
+    ((s[p / 8] >> (7 - p % 8)) % 2) as u32
+}
+
+// Whether `n` bits are left from a position on.
+fn has_bits(s: &[u8], from: usize, n: usize) -> bool
+    requires { ⌜ length (now s) ≤ 2 ^ 30 ⌝ }
+    ensures { λ r. ⌜ r ≡ leb (from + n) (8 * length (now (s .entry))) ⌝ }
+{
+    let total = s.len() * 8;
+    if total < from {
+        return false;
+    }
+    n <= total - from
+}
+
+// The number of the `n` bits from a position on, u(n). Refusal: 11.
+pub fn read_bits(s: &[u8], at: BitPosition, n: usize) -> BitsRead
+    requires { ⌜ (n ≤ 32) × (length (now s) ≤ 2 ^ 30) ⌝ }
+    ensures { λ r. ⌜ parsed r ≡ u n (now (s .entry)) (at .0) ⌝ }
+{
+    let from = at.0;
+    if !has_bits(s, from, n) {
+        return BitsRead::Refused(Refusal::BitsRunOut);
+    }
+    let mut v: u32 = 0;
+    let mut k: usize = 0;
+    while k < n {
+        v = v * 2 + bit(s, from + k);
+        k += 1;
+    }
+    BitsRead::Value(v, BitPosition(from + n))
+}
+
+// Passes over `n` bits; the value is 0. Refusal: 11.
+pub fn skip_bits(s: &[u8], at: BitPosition, n: usize) -> BitsRead
+    requires { ⌜ length (now s) ≤ 2 ^ 30 ⌝ }
+    ensures { λ r. ⌜ parsed r ≡ bind (skip n (now (s .entry)) (at .0)) (λ _ q. value 0 q) ⌝ }
+{
+    let from = at.0;
+    if !has_bits(s, from, n) {
+        return BitsRead::Refused(Refusal::BitsRunOut);
+    }
+    BitsRead::Value(0, BitPosition(from + n))
+}
+
+// The zeros before the next 1, at most 31, and the position behind the 1. Refusals: 11, 12.
+fn zeros_before_one(s: &[u8], at: BitPosition) -> BitsRead
+    requires { ⌜ length (now s) ≤ 2 ^ 30 ⌝ }
+    ensures { λ r. ⌜ parsed r ≡ zerosBeforeOne 0 32 (now (s .entry)) (at .0) ⌝ }
+{
+    let mut p = at.0;
+    let mut z: u32 = 0;
+    while z < 32 {
+        if !has_bits(s, p, 1) {
+            return BitsRead::Refused(Refusal::BitsRunOut);
+        }
+        if bit(s, p) == 1 {
+            return BitsRead::Value(z, BitPosition(p + 1));
+        }
+        p += 1;
+        z += 1;
+    }
+    BitsRead::Refused(Refusal::CodeTooLong)
+}
+
+// The Exp-Golomb code from a position on, ue(v). Refusals: 11, 12.
+pub fn exp_golomb(s: &[u8], at: BitPosition) -> BitsRead
+    requires { ⌜ length (now s) ≤ 2 ^ 30 ⌝ }
+    ensures { λ r. ⌜ parsed r ≡ ue (now (s .entry)) (at .0) ⌝ }
+{
+    let zeros = zeros_before_one(s, at);
+    let BitsRead::Value(z, behind) = zeros else {
+        return zeros;
+    };
+    let low = read_bits(s, behind, z as usize);
+    let BitsRead::Value(v, next) = low else {
+        return low;
+    };
+    BitsRead::Value((1u32 << z) - 1 + v, next)
+}
+
+// On to the next whole byte, which is the position itself where it is one.
+pub fn align(at: BitPosition) -> BitPosition
+    requires { ⌜ at .0 ≤ 2 ^ 60 ⌝ }
+    ensures { λ r. ⌜ ((s : List ℕ) → align s (at .0) ≡ value tt (r .0)) ⌝ }
+{
+    BitPosition((at.0 + 7) / 8 * 8)
+}
+
+// The byte offset of a position at a whole byte.
+pub fn byte_offset(at: BitPosition) -> ByteOffset
+    requires { ⌜ at .0 % 8 ≡ 0 ⌝ }
+    ensures { λ r. ⌜ 8 * r .0 ≡ at .0 ⌝ }
+{
+    ByteOffset(at.0 / 8)
+}
+
+// The position of a byte's highest bit.
+pub fn bit_position(o: ByteOffset) -> BitPosition
+    requires { ⌜ o .0 ≤ 2 ^ 60 ⌝ }
+    ensures { λ r. ⌜ r .0 ≡ 8 * o .0 ⌝ }
+{
+    BitPosition(o.0 * 8)
+}
+
+// The refusal of a refused read; of a value, which no caller asks for, 11.
+pub fn refusal(r: BitsRead) -> Refusal
+    ensures { λ e. ⌜ e ≡ refusalOf r ⌝ }
+{
+    match r {
+        BitsRead::Refused(e) => e,
+        BitsRead::Value(_, _) => Refusal::BitsRunOut,
+    }
+}

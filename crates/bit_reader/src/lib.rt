@@ -1,0 +1,18 @@
+// For the crates further down: bits read from an RBSP.
+pub mod behind;
+pub mod bits;
+pub mod reader;
+
+use error::Refusal;
+
+// A count of bits from the highest bit of the first byte.
+pub struct BitPosition(pub usize);
+
+// A count of bytes. It and a bit position are different counts, converted only at whole bytes.
+pub struct ByteOffset(pub usize);
+
+// A number of bits and the position behind them, or a refusal.
+pub enum BitsRead {
+    Value(u32, BitPosition),
+    Refused(Refusal),
+}

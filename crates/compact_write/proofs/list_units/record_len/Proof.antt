@@ -1,0 +1,45 @@
+-- `list_units::record_len` gives the length of the record of units that are measured, or the refusal that comes first.
+use Prim.Native.Nat.{_≤_}
+use mathlib.Core.Path.{sym, _∙_}
+use mathlib.Core.Logic.{⊎-elim, inl, inr}
+use native.Mathlib.Omega.{arith}
+use borrow.Author.Needs.{needs}
+use borrow.Author.Tests.{ltb-true, ltb-false, not-true, not-false}
+use Rattle.compact_write.proofs.ListUnits.{length-outside, length-count, length-long, length-given}
+use Rattle.compact_write.proofs.list_units.record_len.Statement.{statement}
+use Rattle.compact_write.proofs.list_units.record_len.Tie as tie
+
+-- the count was tested
+counted : (c : tie.Else3) → (2 ≤ c .before .before .before .before .before .before .args .sum .count) × (c .before .before .before .before .before .before .args .sum .count ≤ 33)
+counted c = (omega (arith, c .before .before .if2 .left), ltb-false 33 (c .before .before .before .before .before .before .args .sum .count) (c .if3 .left))
+
+outside-requires : tie.Need-outside-requires
+outside-requires c κs = search needs
+
+returns : tie.Need-returns
+returns c = let a = c .before .before .args in length-outside (a .config) (a .sum) (sym (c .before .outside .ensures) ∙ c .if1 .taken)
+
+returns-2 : tie.Need-returns-2
+returns-2 c =
+    let a = c .before .before .before .before .args in
+    length-count (a .config) (a .sum) (sym (c .before .before .before .outside .ensures) ∙ c .before .before .if1 .left)
+    (⊎-elim (λ h. inl (h .taken)) (λ h. inr (ltb-true 33 (a .sum .count) (h .2 .taken))) (c .if2 .came))
+
+returns-3 : tie.Need-returns-3
+returns-3 c =
+    let a = c .before .before .before .before .before .before .before .before .args in
+    let n = counted (c .before .before) in
+    length-long (a .config) (a .sum) (sym (c .before .before .before .before .before .before .before .outside .ensures) ∙ c .before .before .before .before .before .before .if1 .left) (n .0) (n .1) (not-true (a .sum .fits) (c .if4 .taken))
+
+add-t10 : tie.Need-add-t10
+add-t10 c = search needs
+
+returns-4 : tie.Need-returns-4
+returns-4 c =
+    let a = c .before .before .before .before .before .before .before .before .before .args in
+    let n = counted (c .before .before .before) in
+    length-given (a .config) (a .sum) (sym (c .before .before .before .before .before .before .before .before .outside .ensures) ∙ c .before .before .before .before .before .before .before .if1 .left) (n .0) (n .1) (not-false (a .sum .fits) (c .before .if4 .left))
+
+pub record-len-spec : {M : Type 1} → statement M
+record-len-spec =
+    tie.close (tie.spec outside-requires returns returns-2 returns-3 add-t10 returns-4)

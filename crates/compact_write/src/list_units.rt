@@ -1,0 +1,155 @@
+// For this crate's calls: the units of a unit list, measured and stored as a compact record.
+use boxes::place;
+use compact::CompactVvcConfig;
+use error::Counted;
+use error::Refusal;
+use error::Written;
+use split::walk as items;
+use unit_list::ListCursor;
+use unit_list::ListStep;
+use unit_list::walk;
+use unit_list::write;
+ghost use mathlib.Core.Path.{_≡_};
+ghost use mathlib.Core.List.{_∷_};
+ghost use Prim.Native.Nat.{_+_, _≤_, _<_, _^_};
+ghost use lib.Seq.{sets};
+ghost use Rattle.error.specs.Outcome.{lentOutput, counted};
+ghost use Rattle.error.specs.Answers.{countOf, writtenOf};
+ghost use Rattle.unit_list.specs.Walk.{Fits};
+ghost use Rattle.unit_list.specs.Find.{unitsLeft};
+ghost use Rattle.compact_write.specs.Inside.{adding, summed, nothing, sumOf, SumFits, recordLength, recordOf};
+ghost use Rattle.compact.specs.Units.{Copies, foundBytes, firstByte};
+
+// The units seen so far: how many, the bytes that they take behind lengths of one byte, and whether all fit such a length.
+pub struct UnitSum {
+    pub count: usize,
+    pub room: usize,
+    pub fits: bool,
+}
+
+// All units of a list, or that it is malformed.
+pub enum ListSum {
+    Sum(UnitSum),
+    Malformed,
+}
+
+// One unit more.
+fn add(sum: UnitSum, len: usize) -> UnitSum
+    requires { ⌜ sum .count + sum .room + len < 2 ^ 32 ⌝ }
+    ensures { λ r. ⌜ r ≡ adding len sum ⌝ }
+{
+    let count = sum.count + 1;
+    let room = sum.room + 1 + len;
+    if 255 < len {
+        return UnitSum {
+            count: count,
+            room: room,
+            fits: false,
+        };
+    }
+    let fits = sum.fits;
+    UnitSum {
+        count: count,
+        room: room,
+        fits: fits,
+    }
+}
+
+// Measures the units behind a cursor.
+fn units_sum(list: &[u8], c: ListCursor) -> ListSum
+    requires { ⌜ Fits (now list) c ⌝ }
+    ensures { λ r. ⌜ (sumOf r ≡ summed (now (list .entry)) nothing (unitsLeft (now (list .entry)) c)) × SumFits r ⌝ }
+{
+    let mut here = c;
+    let mut sum = UnitSum {
+        count: 0,
+        room: 0,
+        fits: true,
+    };
+    loop {
+        match walk::step(list, here) {
+            ListStep::Unit(a, next) => {
+                sum = add(sum, a.len);
+                here = next;
+            }
+            ListStep::End => return ListSum::Sum(sum),
+            ListStep::Malformed => return ListSum::Malformed,
+        }
+    }
+}
+
+// Stores the units behind a cursor from a place on, each behind a length of one byte.
+fn put_units(list: &[u8], c: ListCursor, out: &mut [u8], to: usize)
+    requires { ⌜ Fits (now list) c × Copies 1 (now list) (unitsLeft (now list) c) (now out) to ⌝ }
+    ensures { λ _. ⌜ now (out .exit) ≡ sets (now (out .entry)) to (foundBytes 1 (now (list .entry)) (unitsLeft (now (list .entry)) c)) ⌝ }
+{
+    let mut here = c;
+    let mut at = to;
+    loop {
+        let ListStep::Unit(a, next) = walk::step(list, here) else {
+            return;
+        };
+        write::put_unit(list, a, out, at, 1);
+        at = at + 1 + a.len;
+        here = next;
+    }
+}
+
+// The first byte of a record: the flag, the prefix size minus 1, the unit count minus 2.
+fn first_byte(config: CompactVvcConfig, count: usize) -> u8
+    requires { ⌜ (1 ≤ config .«length_size») × (config .«length_size» ≤ 4) × (2 ≤ count) × (count ≤ 33) ⌝ }
+    ensures { λ r. ⌜ r ≡ firstByte config count ⌝ }
+{
+    let low = (config.length_size - 1) * 32 + (count - 2) as u8;
+    if config.multi_layer_flag {
+        return 128 + low;
+    }
+    low
+}
+
+// Stores the record of `count` units behind a cursor: the first byte, the units.
+fn store_record(config: CompactVvcConfig, count: usize, list: &[u8], c: ListCursor, out: &mut [u8])
+    requires { ⌜ (1 ≤ config .«length_size») × (config .«length_size» ≤ 4) × (2 ≤ count) × (count ≤ 33) × Fits (now list) c × Copies 1 (now list) (unitsLeft (now list) c) (now out) 1 ⌝ }
+    ensures { λ _. ⌜ now (out .exit) ≡ sets (now (out .entry)) 0 (firstByte config count ∷ foundBytes 1 (now (list .entry)) (unitsLeft (now (list .entry)) c)) ⌝ }
+{
+    let first = first_byte(config, count);
+    place::put(out, 0, first);
+    put_units(list, c, out, 1);
+}
+
+// How long the record of units that are measured is. Refusals: 4, 8, 9.
+fn record_len(config: CompactVvcConfig, sum: UnitSum) -> Counted
+    requires { ⌜ sum .room ≤ 2 ^ 32 ⌝ }
+    ensures { λ r. ⌜ countOf r ≡ recordLength config sum ⌝ }
+{
+    if items::outside(config.length_size) {
+        return Counted::Refused(Refusal::PrefixSize);
+    }
+    if sum.count < 2 || 33 < sum.count {
+        return Counted::Refused(Refusal::CompactUnitCount);
+    }
+    if !sum.fits {
+        return Counted::Refused(Refusal::CompactUnitTooLong);
+    }
+    Counted::Count(1 + sum.room)
+}
+
+// The record of the units behind a cursor. Refusals: 21, 4, 8, 9, 20.
+pub fn put_record(config: CompactVvcConfig, list: &[u8], c: ListCursor, out: &mut [u8]) -> Written
+    requires { ⌜ Fits (now list) c ⌝ }
+    ensures { λ r. ⌜ (writtenOf r, now (out .exit)) ≡ lentOutput (counted (recordOf config (now (list .entry)) (unitsLeft (now (list .entry)) c))) (now (out .entry)) ⌝ }
+{
+    let ListSum::Sum(sum) = units_sum(list, c) else {
+        return Written::Refused(Refusal::UnitList);
+    };
+    match record_len(config, sum) {
+        Counted::Count(len) => {
+            if out.len() < len {
+                return Written::Refused(Refusal::BufferTooShort);
+            }
+            store_record(config, sum.count, list, c, out);
+            Written::Bytes(len)
+        }
+        Counted::Refused(e) => Written::Refused(e),
+    }
+}

@@ -1,0 +1,30 @@
+-- Laws of units that were counted: they all read, or give the count's refusal.
+use Prim.Native.Nat.{ℕ}
+use mathlib.Core.Path.{_≡_, refl, ap}
+use mathlib.Core.List.{List, map}
+use native.Mathlib.Omega.{arith}
+use Rattle.error.specs.Outcome.{Outcome, accept, refuse}
+use Rattle.boxes.specs.Parts.{held}
+use Rattle.boxes.specs.Walk.{countFound}
+use Rattle.boxes.specs.declared.Span.{Span}
+use Rattle.unit_list.specs.Walk.{Fits}
+use Rattle.unit_list.specs.Find.{unitsLeft}
+use Rattle.unit_list.specs.declared.ListCursor.{ListCursor}
+use Rattle.grouping.specs.Units.{spansOf, unitsAt, Readable, heldUnits}
+
+module _ (s : List ℕ) (c : ListCursor) (n : ℕ) where
+  -- units that were counted read
+  pub counted-read : Fits s c → accept n ≡ countFound (unitsLeft s c) → (accept (unitsAt s c) ≡ heldUnits s (unitsLeft s c)) × Readable s c
+  unfolding unitsAt
+  counted-read f e = go (unitsLeft s c) refl
+    where
+      go : (o : Outcome (List Span)) → unitsLeft s c ≡ o → (accept (map (held s) (spansOf (unitsLeft s c))) ≡ heldUnits s (unitsLeft s c)) × Readable s c
+      go (accept us) g = (rw g, record { fits = f; spans = us; left = g })
+      go (refuse m) g = absurd (let z : _≡_ {A = ℕ} 0 1 = cc (ap countFound g) in omega arith)
+
+  pub counted-refused : refuse n ≡ countFound (unitsLeft s c) → refuse n ≡ heldUnits s (unitsLeft s c)
+  counted-refused e = go (unitsLeft s c) e
+    where
+      go : (o : Outcome (List Span)) → refuse n ≡ countFound o → refuse n ≡ heldUnits s o
+      go (accept us) g = absurd (let z : _≡_ {A = ℕ} 0 1 = cc in omega arith)
+      go (refuse m) g = let z : n ≡ m = cc in ap refuse z

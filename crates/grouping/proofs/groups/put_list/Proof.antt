@@ -1,0 +1,34 @@
+-- `groups::put_list` stores the list's first byte, and the arrays behind it.
+use Prim.Native.Nat.{ℕ}
+use mathlib.Core.Path.{ap, _∙_}
+use mathlib.Core.List.{List}
+use native.Mathlib.Omega.{arith}
+use borrow.Author.Needs.{needs}
+use lib.ListN.{length, length-set}
+use lib.Seq.{sets}
+use Rattle.unit_list.specs.UnitList.{encode}
+use Rattle.grouping.specs.Units.{unitsAt}
+use Rattle.grouping.proofs.ArrayWalk.{allArrays}
+use Rattle.grouping.proofs.groups.put_list.Statement.{statement}
+use Rattle.grouping.proofs.groups.put_list.Tie as tie
+
+put-requires : tie.Need-put-requires
+put-requires c κs = search needs
+
+put-groups-requires : tie.Need-put-groups-requires
+unfolding encode
+put-groups-requires c κs =
+    let l = ap length (c .before .before .before .put .ensures) ∙ length-set (c .before .before .before .before .before .before .before .args .out .now) 0 1 in
+    (c .before .before .before .before .before .before .before .pre .0, omega (arith, c .before .before .before .before .before .before .before .pre .1))
+
+same-length : tie.Need-same-length
+same-length c = search needs
+
+returns : tie.Need-returns
+unfolding encode
+returns c =
+    let a = c .before .before .before .before .before .before .before .before .before .before .args in
+    c .before .before .put-groups .ensures ∙ ap (λ (l : List ℕ). sets l 1 (allArrays (unitsAt (a .list .now) (a .c)))) (c .before .before .before .before .before .before .put .ensures)
+
+pub put-list-spec : {M : Type 1} → statement M
+put-list-spec = tie.close (tie.spec put-requires put-groups-requires same-length returns)

@@ -1,0 +1,70 @@
+-- `units::first_having` finds the first unit of a type. The loop's invariant: those of the type that are left are all of them.
+use Prim.Native.Nat.{_-_}
+use mathlib.Core.Path.{_≡_, refl, sym, ap, _∙_}
+use borrow.Author.Needs.{needs}
+use lib.ListN.{length}
+use Rattle.grouping.specs.Grouping.{havingType, first}
+use Rattle.grouping.specs.Units.{Readable, unitsAt, Stepped}
+use Rattle.grouping.proofs.Walks.{stepped-to, ended, nearer}
+use Rattle.grouping.proofs.OfType.{having-none, having-same, having-other}
+use Rattle.grouping.proofs.units.first_having.Statement.{statement}
+use Rattle.grouping.proofs.units.first_having.Tie as tie
+
+abbrev Inv-loop : tie.InvT-loop
+Inv-loop list t here₀ here = Readable list here × (havingType t (unitsAt list here) ≡ havingType t (unitsAt list here₀))
+
+abbrev μ-loop : tie.MeasureT-loop
+μ-loop list t here₀ here = length list - here .at
+
+loop-holds : tie.Need-loop-holds Inv-loop μ-loop
+loop-holds c = (c .before .pre, refl)
+
+next-unit-requires : tie.Need-next-unit-requires Inv-loop μ-loop
+next-unit-requires c κs = c .loop .inv .0
+
+enum-known-a : tie.Need-enum-known-a Inv-loop μ-loop
+enum-known-a c = search needs
+
+enum-told : tie.Need-enum-told Inv-loop μ-loop
+enum-told c = search needs
+
+returns : tie.Need-returns Inv-loop μ-loop
+returns c =
+    let e = ended _ _ _ (c .before .before .next-unit .ensures) (c .enum-told .given .1) in
+    let t = c .before .before .before .before .before .args .t in
+    (sym (ap first (ap (havingType t) e ∙ having-none t)) ∙ ap first (c .before .before .before .loop .inv .1), tt)
+
+-- the unit that the step found
+step-here : (c : tie.After-known-told Inv-loop μ-loop)
+    → Stepped (c .before .before .before .before .before .before .args .list .now) (c .before .before .before .before .loop .here) (c .before .a .given .0 .0) (c .before .a .given .0 .1 .0) (c .before .a .given .0 .1 .1 .0)
+step-here c = stepped-to _ _ _ (c .before .before .before .next-unit .ensures) _ _ _ (c .before .a .given .1)
+
+returns-2 : tie.Need-returns-2 Inv-loop μ-loop
+returns-2 c =
+    let u = step-here (c .before) in
+    let h = having-same (c .before .before .before .before .before .before .before .args .t) _ _ _ _ _ (u .turn) (sym (u .type-is) ∙ c .if1 .taken) in
+    (sym (ap first h) ∙ ap first (c .before .before .before .before .before .loop .inv .1), u .inside)
+
+loop-less : tie.Need-loop-less Inv-loop μ-loop
+loop-less c = nearer _ _ _ _ _ (step-here (c .before))
+
+loop-again : tie.Need-loop-again Inv-loop μ-loop
+loop-again c =
+    let u = step-here (c .before) in
+    let h = having-other (c .before .before .before .before .before .before .before .args .t) _ _ _ _ _ (u .turn) (λ e. c .if1 .left (u .type-is ∙ e)) in
+    (u .readable, sym h ∙ c .before .before .before .before .before .loop .inv .1)
+
+pub first-having-spec : {M : Type 1} → statement M
+first-having-spec =
+    tie.close
+    (tie.spec
+    Inv-loop
+    μ-loop
+    loop-holds
+    next-unit-requires
+    enum-known-a
+    enum-told
+    returns
+    returns-2
+    loop-less
+    loop-again)

@@ -1,0 +1,114 @@
+// For the crates further down: units grouped by type. Those behind a cursor are measured and stored as arrays, one for each type, the types by
+// first appearance.
+use super::units;
+use super::units::UnitStep;
+use boxes::place;
+use nal::UNIT_TYPES;
+use unit_list::ListCursor;
+use unit_list::write;
+ghost use mathlib.Core.Path.{_≡_};
+ghost use Prim.Native.Nat.{_+_, _≤_, _<_, _^_};
+ghost use lib.ListN.{length};
+ghost use lib.Seq.{sets};
+ghost use Rattle.unit_list.specs.UnitList.{encodeUnits, encodeArray, encodeArrays, encode};
+ghost use Rattle.grouping.specs.Grouping.{havingType, group, grouped};
+ghost use Rattle.grouping.specs.Units.{Readable, unitsAt};
+
+// How many bytes the units of a type take, each behind a length of 4 bytes.
+fn group_len(list: &[u8], c: ListCursor, t: u8) -> usize
+    requires { ⌜ Readable (now list) c ⌝ }
+    ensures { λ r. ⌜ (r ≡ length (encodeUnits 4 (havingType t (unitsAt (now (list .entry)) c)))) × (r ≤ 2 ^ 31) ⌝ }
+{
+    let mut here = c;
+    let mut len: usize = 0;
+    loop {
+        let UnitStep::Unit(a, kind, next) = units::next_unit(list, here) else {
+            return len;
+        };
+        if kind == t {
+            len = len + 4 + a.len;
+        }
+        here = next;
+    }
+}
+
+// How many bytes the arrays take: each is its length, complete and type, and its units. An array is counted at the first unit of its type.
+pub fn groups_len(list: &[u8], c: ListCursor) -> usize
+    requires { ⌜ Readable (now list) c ⌝ }
+    ensures { λ r. ⌜ (r ≡ length (encodeArrays 4 (grouped (unitsAt (now (list .entry)) c)))) × (r < 2 ^ 62) ⌝ }
+{
+    let mut here = c;
+    let mut seen = [false; UNIT_TYPES];
+    let mut len: usize = 0;
+    loop {
+        let UnitStep::Unit(_, t, next) = units::next_unit(list, here) else {
+            return len;
+        };
+        let i = place::wide(t);
+        if !seen[i] {
+            seen[i] = true;
+            len = len + 6 + group_len(list, c, t);
+        }
+        here = next;
+    }
+}
+
+// Stores the units of a type from a place on; the place behind them.
+fn put_group_units(list: &[u8], c: ListCursor, t: u8, out: &mut [u8], at: usize) -> usize
+    requires { ⌜ Readable (now list) c × (at + length (encodeUnits 4 (havingType t (unitsAt (now list) c))) ≤ length (now out)) ⌝ }
+    ensures { λ r. ⌜ (r ≡ at + length (encodeUnits 4 (havingType t (unitsAt (now (list .entry)) c)))) × (now (out .exit) ≡ sets (now (out .entry)) at (encodeUnits 4 (havingType t (unitsAt (now (list .entry)) c)))) ⌝ }
+{
+    let mut here = c;
+    let mut to = at;
+    loop {
+        let UnitStep::Unit(a, kind, next) = units::next_unit(list, here) else {
+            return to;
+        };
+        if kind == t {
+            write::put_unit(list, a, out, to, 4);
+            to = to + 4 + a.len;
+        }
+        here = next;
+    }
+}
+
+// Stores the array of a type from a place on; the place behind it. It is complete.
+fn put_group(list: &[u8], c: ListCursor, t: u8, out: &mut [u8], at: usize) -> usize
+    requires { ⌜ Readable (now list) c × (at + length (encodeArray 4 (group (unitsAt (now list) c) t)) ≤ length (now out)) ⌝ }
+    ensures { λ r. ⌜ (r ≡ at + length (encodeArray 4 (group (unitsAt (now (list .entry)) c) t))) × (now (out .exit) ≡ sets (now (out .entry)) at (encodeArray 4 (group (unitsAt (now (list .entry)) c) t))) ⌝ }
+{
+    let from = at + 4;
+    let to = put_group_units(list, c, t, out, at + 6);
+    write::put_array_head(out, at, to - from, 1, t);
+    to
+}
+
+// Stores the arrays from a place on, each at the first unit of its type.
+fn put_groups(list: &[u8], c: ListCursor, out: &mut [u8], at: usize)
+    requires { ⌜ Readable (now list) c × (at + length (encodeArrays 4 (grouped (unitsAt (now list) c))) ≤ length (now out)) ⌝ }
+    ensures { λ _. ⌜ now (out .exit) ≡ sets (now (out .entry)) at (encodeArrays 4 (grouped (unitsAt (now (list .entry)) c))) ⌝ }
+{
+    let mut here = c;
+    let mut stored = [false; UNIT_TYPES];
+    let mut to = at;
+    loop {
+        let UnitStep::Unit(_, t, next) = units::next_unit(list, here) else {
+            return;
+        };
+        let i = place::wide(t);
+        if !stored[i] {
+            stored[i] = true;
+            to = put_group(list, c, t, out, to);
+        }
+        here = next;
+    }
+}
+
+// Stores the list of the arrays at the front: a byte 01, the arrays.
+pub fn put_list(list: &[u8], c: ListCursor, out: &mut [u8])
+    requires { ⌜ Readable (now list) c × (length (encode (grouped (unitsAt (now list) c))) ≤ length (now out)) ⌝ }
+    ensures { λ _. ⌜ now (out .exit) ≡ sets (now (out .entry)) 0 (encode (grouped (unitsAt (now (list .entry)) c))) ⌝ }
+{
+    place::put(out, 0, 1);
+    put_groups(list, c, out, 1);
+}

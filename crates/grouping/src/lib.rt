@@ -1,0 +1,3 @@
+// Units grouped by type.
+pub mod groups;
+pub mod units;

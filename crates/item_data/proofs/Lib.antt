@@ -1,0 +1,4 @@
+pub mod Stills
+pub mod Measured
+pub mod Restored
+pub mod Examples

@@ -1,0 +1,62 @@
+-- `item_data` restores the item of stored bytes, or gives the refusal that comes first.
+use mathlib.Core.Path.{sym, ap, _∙_}
+use native.Mathlib.Omega.{arith}
+use borrow.Author.Needs.{needs}
+use lib.Seq.{sets}
+use Rattle.error.specs.Answers.{countOf}
+use Rattle.boxes.proofs.Output.{written-refused, written-short, written-fits}
+use Rattle.compact.specs.ItemData.{restore}
+use Rattle.item_data.specs.Inside.{restoredBytes}
+use Rattle.item_data.proofs.Measured.{Told, told, told-refused}
+use Rattle.item_data.proofs.item_data.Statement.{statement}
+use Rattle.item_data.proofs.item_data.Tie as tie
+
+-- the item that was measured
+told-at : (c : tie.After-len) → Told (restore (c .before .before .before .before .before .args .config) (c .before .before .before .before .before .args .stored .now)) (c .len .given .0 .0)
+told-at c = told _ _ (sym (ap countOf (c .len .given .1)) ∙ c .before .before .item-len .ensures)
+
+item-len-requires : tie.Need-item-len-requires
+item-len-requires c κs = search needs
+
+enum-known-len : tie.Need-enum-known-len
+enum-known-len c = search needs
+
+returns : tie.Need-returns
+returns c =
+    let t = told-at (c .before .before) in
+    written-short _ (c .before .before .before .before .before .before .before .args .out .now) (t .bytes) (t .given) (omega (arith, t .long, c .if1 .taken))
+
+store-item-requires : tie.Need-store-item-requires
+store-item-requires c κs = let t = told-at (c .before .before .before) in record { item = t .bytes; found = t .given; room = omega (arith, t .long, c .before .if1 .left) }
+
+enum-known-e : tie.Need-enum-known-e
+enum-known-e c = search needs
+
+same-length : tie.Need-same-length
+same-length c = search needs
+
+returns-2 : tie.Need-returns-2
+returns-2 c =
+    let a = c .before .before .before .before .before .before .before .before .before .before .before .args in
+    let t = told-at (c .before .before .before .before .before .before) in
+    written-fits _ (a .out .now) (t .bytes) (t .given) _ _ (t .long) (c .before .before .before .before .if1 .left)
+    (c .before .before .store-item .ensures ∙ ap (sets (a .out .now) 0) (ap restoredBytes (t .given)))
+
+returns-3 : tie.Need-returns-3
+returns-3 c =
+    let a = c .before .before .before .before .before .before .args in
+    written-refused (restore (a .config) (a .stored .now)) (a .out .now) _
+    (told-refused _ _ (sym (ap countOf (c .before .e .given .1)) ∙ c .before .before .before .item-len .ensures))
+
+pub item-data-spec : {M : Type 1} → statement M
+item-data-spec =
+    tie.close
+    (tie.spec
+    item-len-requires
+    enum-known-len
+    returns
+    store-item-requires
+    enum-known-e
+    same-length
+    returns-2
+    returns-3)

@@ -1,0 +1,58 @@
+-- `still::still_of` finds what follows the header of the unit at a span, if that is the header of a still.
+use native.Mathlib.Omega.{arith}
+use borrow.Author.Needs.{needs}
+use Rattle.item_data.proofs.Stills.{one-short, one-layer, one-type, one-temporal, one-still}
+use Rattle.item_data.proofs.still.still_of.Statement.{statement}
+use Rattle.item_data.proofs.still.still_of.Tie as tie
+
+returns : tie.Need-returns
+returns c =
+    let b = c .before .before in
+    (one-short (b .args .item .now) (b .args .a) (b .pre) (c .if1 .taken), tt)
+
+shared-slice-read-first : tie.Need-shared-slice-read-first
+shared-slice-read-first c = search needs
+
+add-second : tie.Need-add-second
+add-second c = search needs
+
+shared-slice-read-second : tie.Need-shared-slice-read-second
+shared-slice-read-second c = search needs
+
+returns-2 : tie.Need-returns-2
+returns-2 c =
+    let b = c .before .before .before .before .before in
+    (one-layer (b .args .item .now) (b .args .a) (b .pre) (omega (arith, c .before .before .before .if1 .left)) (c .if2 .taken), tt)
+
+returns-3 : tie.Need-returns-3
+returns-3 c =
+    let b = c .before .before .before .before .before .before in
+    (one-type (b .args .item .now) (b .args .a) (b .pre) (omega (arith, c .before .before .before .before .if1 .left)) (c .if3 .taken), tt)
+
+returns-4 : tie.Need-returns-4
+returns-4 c =
+    let b = c .before .before .before .before .before .before .before in
+    (one-temporal (b .args .item .now) (b .args .a) (b .pre) (omega (arith, c .before .before .before .before .before .if1 .left)) (c .if4 .taken), tt)
+
+add-t9 : tie.Need-add-t9
+add-t9 c = search needs
+
+returns-5 : tie.Need-returns-5
+returns-5 c =
+    let b = c .before .before .before .before .before .before .before .before in
+    let e = c .before .before .before .before .before .before .if1 .left in
+    (one-still (b .args .item .now) (b .args .a) (b .pre) (omega arith) (c .before .before .before .if2 .left) (c .before .before .if3 .left) (c .before .if4 .left), omega arith)
+
+pub still-of-spec : {M : Type 1} → statement M
+still-of-spec =
+    tie.close
+    (tie.spec
+    returns
+    shared-slice-read-first
+    add-second
+    shared-slice-read-second
+    returns-2
+    returns-3
+    returns-4
+    add-t9
+    returns-5)

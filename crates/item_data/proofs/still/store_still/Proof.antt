@@ -1,0 +1,50 @@
+-- `still::store_still` leaves the length, the header and the stored bytes from the front on.
+use borrow.Author.Needs.{needs}
+use Rattle.item_data.proofs.Stills.{still-stored}
+use Rattle.item_data.proofs.still.store_still.Statement.{statement}
+use Rattle.item_data.proofs.still.store_still.Tie as tie
+
+nal-header-requires : tie.Need-nal-header-requires
+nal-header-requires c κs = search needs
+
+add-put-number : tie.Need-add-put-number
+add-put-number c = search needs
+
+put-number-requires : tie.Need-put-number-requires
+put-number-requires c κs = search needs
+
+slice-aggregate-copy : tie.Need-slice-aggregate-copy
+slice-aggregate-copy c = search needs
+
+copy-requires : tie.Need-copy-requires
+copy-requires c κs = search needs
+
+add-copy : tie.Need-add-copy
+add-copy c = search needs
+
+copy-requires-2 : tie.Need-copy-requires-2
+copy-requires-2 c κs = search needs
+
+same-length : tie.Need-same-length
+same-length c = search needs
+
+returns : tie.Need-returns
+returns c =
+    let a = c .before .before .before .before .before .before .before .before .before .before .before .before .before .before .before .before .args in
+    let n = c .before .before .before .before .before .before .before .before .before .before .before .put-number in
+    let x = c .before .before .before .before .before .before .copy in
+    still-stored (a .stored .now) (a .out .now) (n .last .0) (x .last .1 .0) _ (a .size) (c .before .before .before .before .before .before .before .before .before .before .before .before .before .nal-header .result) (c .before .before .before .before .before .before .before .before .before .before .before .before .before .nal-header .ensures) (n .ensures) (x .ensures) (c .before .before .copy2 .ensures)
+
+pub store-still-spec : {M : Type 1} → statement M
+store-still-spec =
+    tie.close
+    (tie.spec
+    nal-header-requires
+    add-put-number
+    put-number-requires
+    slice-aggregate-copy
+    copy-requires
+    add-copy
+    copy-requires-2
+    same-length
+    returns)

@@ -1,0 +1,82 @@
+-- `strip_item_data` gives the bytes to store for an item: 23, a copy, or what follows its one unit's header.
+use Prim.Native.Nat.{ℕ}
+use mathlib.Core.Path.{_≡_, sym, ap, _∙_, subst}
+use mathlib.Core.List.{List}
+use borrow.Author.Needs.{needs}
+use Rattle.error.specs.Outcome.{Outcome, accept, lentOutput, counted}
+use Rattle.boxes.specs.Parts.{held}
+use Rattle.compact.specs.ItemData.{strip}
+use Rattle.item_data.specs.Inside.{payloadOf, PayloadFits}
+use Rattle.boxes.proofs.Output.{written-refused}
+use Rattle.item_data.proofs.Stills.{strip-too-long, strip-copy, strip-unit}
+use Rattle.item_data.proofs.strip_item_data.Statement.{statement}
+use Rattle.item_data.proofs.strip_item_data.Tie as tie
+
+returns : tie.Need-returns
+returns c =
+    let a = c .before .before .before .args in
+    written-refused _ (a .out .now) 23 (strip-too-long (a .config) (a .item .now) (c .if1 .taken))
+
+put-all-requires : tie.Need-put-all-requires
+put-all-requires c κs = search needs
+
+same-length : tie.Need-same-length
+same-length c = search needs
+
+returns-2 : tie.Need-returns-2
+returns-2 c =
+    let a = c .before .before .before .before .before .before .before .before .args in
+    c .before .before .put-all .ensures
+    ∙ ap (λ (o : Outcome (List ℕ)). lentOutput (counted o) (a .out .now)) (sym (strip-copy (a .config) (a .item .now) (c .before .before .before .before .before .if1 .left) (c .before .before .before .before .if2 .taken)))
+
+find-still-requires : tie.Need-find-still-requires
+find-still-requires c κs = search needs
+
+enum-known-a : tie.Need-enum-known-a
+enum-known-a c = search needs
+
+enum-told : tie.Need-enum-told
+enum-told c = search needs
+
+returns-3 : tie.Need-returns-3
+returns-3 c =
+    let a = c .before .before .before .before .before .before .before .args in
+    let f = c .before .before .find-still in
+    written-refused _ (a .out .now) 24
+    (strip-unit (a .config) (a .item .now) (c .before .before .before .before .if1 .left) (c .before .before .before .if2 .left) ∙ sym (f .ensures .0) ∙ ap (payloadOf (a .item .now)) (c .enum-told .given .1))
+
+part-requires : tie.Need-part-requires
+part-requires c κs = subst (PayloadFits (c .before .before .before .before .before .before .before .before .args .item .now)) (c .before .a .given .1) (c .before .before .before .find-still .ensures .1)
+
+put-all-requires-2 : tie.Need-put-all-requires-2
+put-all-requires-2 c κs = search needs
+
+same-length-2 : tie.Need-same-length-2
+same-length-2 c = search needs
+
+returns-4 : tie.Need-returns-4
+returns-4 c =
+    let a = c .before .before .before .before .before .before .before .before .before .before .before .before .before .args in
+    let f = c .before .before .before .before .before .before .before .before .find-still in
+    let g = c .before .before .before .before .before .before .a .given in
+    let h : accept (held (a .item .now) (g .0 .0)) ≡ strip (a .config) (a .item .now) =
+    sym (ap (payloadOf (a .item .now)) (g .1)) ∙ f .ensures .0 ∙ sym (strip-unit (a .config) (a .item .now) (c .before .before .before .before .before .before .before .before .before .before .if1 .left) (c .before .before .before .before .before .before .before .before .before .if2 .left)) in
+    c .before .before .put-all2 .ensures
+    ∙ ap (λ (o : Outcome (List ℕ)). lentOutput (counted o) (a .out .now)) (ap accept (c .before .before .before .before .part .ensures .holds) ∙ h)
+
+pub strip-item-data-spec : {M : Type 1} → statement M
+strip-item-data-spec =
+    tie.close
+    (tie.spec
+    returns
+    put-all-requires
+    same-length
+    returns-2
+    find-still-requires
+    enum-known-a
+    enum-told
+    returns-3
+    part-requires
+    put-all-requires-2
+    same-length-2
+    returns-4)

@@ -1,0 +1,48 @@
+// The item data of a compact still: restored from stored bytes, and stripped to them again.
+pub mod copied;
+pub mod lengths;
+pub mod still;
+
+use boxes::place;
+use compact::CompactVvcConfig;
+use error::Counted;
+use error::LARGEST_INPUT;
+use error::Refusal;
+use error::Written;
+use still::Still;
+ghost use mathlib.Core.Path.{_≡_};
+ghost use Rattle.error.specs.Outcome.{lentOutput, counted};
+ghost use Rattle.error.specs.Answers.{writtenOf};
+ghost use Rattle.compact.specs.ItemData.{restore, strip};
+
+// Restores the item data of stored bytes: a copy with the flag set, else their unit behind its length. Refusals: 23, 4, 6, 20.
+pub fn item_data(config: CompactVvcConfig, stored: &[u8], out: &mut [u8]) -> Written
+    ensures { λ r. ⌜ (writtenOf r, now (out .exit)) ≡ lentOutput (counted (restore config (now (stored .entry)))) (now (out .entry)) ⌝ }
+{
+    match lengths::item_len(config, stored) {
+        Counted::Count(len) => {
+            if out.len() < len {
+                return Written::Refused(Refusal::BufferTooShort);
+            }
+            still::store_item(config, stored, out);
+            Written::Bytes(len)
+        }
+        Counted::Refused(e) => Written::Refused(e),
+    }
+}
+
+// The bytes to store for an item: a copy with the flag set, else what follows its one unit's header. Refusals: 23, 24, 20.
+pub fn strip_item_data(config: CompactVvcConfig, item: &[u8], out: &mut [u8]) -> Written
+    ensures { λ r. ⌜ (writtenOf r, now (out .exit)) ≡ lentOutput (counted (strip config (now (item .entry)))) (now (out .entry)) ⌝ }
+{
+    if LARGEST_INPUT < item.len() {
+        return Written::Refused(Refusal::InputTooLong);
+    }
+    if config.multi_layer_flag {
+        return copied::put_all(item, out);
+    }
+    let Still::Payload(a) = still::find_still(config.length_size, item) else {
+        return Written::Refused(Refusal::NotOneStill);
+    };
+    copied::put_all(place::part(item, a), out)
+}

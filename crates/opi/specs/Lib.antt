@@ -1,0 +1,2 @@
+pub mod Opi
+pub mod Answers

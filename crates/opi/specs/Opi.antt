@@ -1,0 +1,28 @@
+-- An OPI's operating point as bits (H.266 7.3.2.2), and of a unit.
+use mathlib.Core.List.{List}
+use mathlib.Core.Option.{Option, none, some}
+use Prim.Native.Nat.{ℕ}
+use lib.ListN.{drop}
+use Rattle.error.specs.Logic.{if_then_else_}
+use Rattle.error.specs.Parse.{Parsed, value, refused, bind, Parser, _>>=_, _>>_, refusing}
+use Rattle.rbsp.specs.Rbsp.{rbsp}
+use Rattle.bit_reader.specs.Bits.{u, isSet, ue}
+
+-- 7.3.2.2, operating_point_information_rbsp( ) up to opi_ols_idx, which is refused where it is not there: no number is said of it
+unfoldable pub opiPoint : Parser ℕ
+opiPoint = do
+  present ← u 1  -- opi_ols_info_present_flag
+  u 1  -- opi_htid_info_present_flag
+  if isSet present then ue else refusing 0  -- opi_ols_idx
+
+abbrev pub whereRead : {A : Type 0} → Parsed A → Option A
+whereRead (value a p) = some a
+whereRead (refused e) = none
+
+-- the operating point of an OPI unit: "from its RBSP: two flag bits, first one 1, Exp-Golomb"; absent where it does not read
+unfoldable pub opiOlsIdx : List ℕ → Option ℕ
+opiOlsIdx unit = whereRead (opiPoint (rbsp (drop 2 unit)) 0)
+
+-- an OPI's operating point (`opiPoint`) from the answers of the three reads, each from where the one before it left the reader
+abbrev pub pointOf : Parsed ℕ → Parsed ℕ → Parsed ℕ → Parsed ℕ
+pointOf ols htid idx = bind ols (λ present _. bind htid (λ _ _. if isSet present then idx else refused 0))

@@ -1,0 +1,135 @@
+-- How long an assembled stream is: by the units of the list, and by the length of the item.
+use Prim.Native.Nat.{ℕ, _+_, _*_, _^_, _≤_}
+use mathlib.Core.Path.{_≡_, refl, sym, ap, _∙_}
+use mathlib.Core.Bool.{Bool, true, false}
+use mathlib.Core.List.{List, [], _∷_, _++_, map}
+use mathlib.Core.Option.{Option}
+use native.Mathlib.Omega.{arith}
+use lib.ListN.{length, drop, length-append, length-map, length-take}
+use Rattle.error.specs.Logic.{if_then_else_}
+use Rattle.error.specs.Outcome.{Outcome, accept, refuse, andThen}
+use Rattle.error.specs.Parse.{Parsed, value, refused, many, outcome}
+use Rattle.boxes.specs.Parts.{held}
+use Rattle.boxes.specs.declared.Span.{Span}
+use Rattle.unit_list.specs.UnitList.{Array, decode, unitsOf, encode}
+use Rattle.unit_list.specs.Answers.{listUnits}
+use Rattle.unit_list.proofs.Arrays.{Sound, room, run-value}
+use Rattle.unit_list.proofs.Encode.{units-encode}
+use Rattle.unit_list.proofs.Accepted.{accepted}
+use Rattle.split.specs.Item.{itemUnit}
+use Rattle.split.specs.Answers.{leftOf}
+use Rattle.split.specs.Stream.{annexB}
+use Rattle.split.proofs.Items.{unit-read, unit-advances}
+use Rattle.full.specs.declared.VvcConfig.{VvcConfig}
+use Rattle.access_unit.specs.AccessUnit.{targetOf, keeps, kept, startCode, assemble}
+use Rattle.access_unit.specs.Inside.{keptLeft, lengths, Gathered, gather, sizesOf}
+use Rattle.access_unit.proofs.Sums.{lengths-append}
+use Rattle.access_unit.proofs.Streams.{stream-length}
+use Rattle.access_unit.proofs.Gathering.{gathered}
+use Rattle.access_unit.proofs.Answering.{assemble-unknown, assemble-known}
+use Rattle.path.proofs.Expansion.{then-accept}
+
+-- so many bytes units have behind start codes of four bytes
+abbrev pub streamed : List (List ℕ) → ℕ
+streamed us = 4 * length us + lengths us
+
+-- the stream of units and of one more
+pub stream-more : (us : List (List ℕ)) (u : List ℕ) → length (annexB startCode (us ++ (u ∷ []))) ≡ streamed us + (4 + length u)
+unfolding lengths
+stream-more us u = omega (arith, stream-length (us ++ (u ∷ [])), length-append us (u ∷ []), lengths-append us (u ∷ []))
+
+-- units that lie in s
+pub held-room : (s : List ℕ) (us : List Span) → streamed (map (held s) us) ≤ room 4 us
+unfolding room lengths
+held-room s [] = omega arith
+held-room s (a ∷ us) = omega (arith, held-room s us, length-take (a .len) (drop (a .start) s))
+
+-- ### the list's units
+
+-- a list with units was not too long
+list-lent : (list : List ℕ) (us : List Span) → listUnits list ≡ accept us → length list ≤ 2 ^ 30
+list-lent list us e = let x = then-accept (decode list) (λ xs. accept (unitsOf xs)) us e in accepted list (x .0) (x .1) .lent
+
+-- those of an encoded list are those of its arrays
+pub encoded-units : (xs : List (Array (List ℕ))) → Sound xs → (us : List Span) → listUnits (encode xs) ≡ accept us → map (held (encode xs)) us ≡ unitsOf xs
+encoded-units xs sound us e =
+    let u = units-encode xs (list-lent (encode xs) us e) sound in
+    let y : accept us ≡ accept (u .spans) = sym e ∙ u .read in
+    let z : us ≡ u .spans = cc in
+    ap (map (held (encode xs))) z ∙ u .bytes
+
+-- ### the item's units
+
+kept-room : (item : List ℕ) (target : Option ℕ) (xs : List Span) → room 4 (kept item target xs) ≤ room 4 xs
+unfolding kept room
+kept-room item target [] = omega arith
+kept-room item target (a ∷ xs) = go (keeps target (held item a)) (kept-room item target xs)
+  where
+    go : (b : Bool) → room 4 (kept item target xs) ≤ room 4 xs → room 4 (if b then a ∷ kept item target xs else kept item target xs) ≤ 4 + a .len + room 4 xs
+    go true h = omega arith
+    go false h = omega arith
+
+module _ (size : ℕ) (item : List ℕ) (some : 1 ≤ size) where
+  -- a unit has at least one byte and a prefix of at least one: five bytes of the stream for two of the item; with a prefix of four, as many
+  record ItemFits (p : ℕ) (xs : List Span) : Type 0 where
+    most : 5 * p + 2 * room 4 xs ≤ 5 * length item
+    same : size ≡ 4 → p + room 4 xs ≤ length item
+
+  units-fit : (p : ℕ) (xs : List Span) (r : ℕ) → many (itemUnit size) item p ≡ value xs r → p ≤ length item → ItemFits p xs
+  unfolding room
+  units-fit =
+      run-value (itemUnit size) item (unit-advances size item) (λ p xs r. p ≤ length item → ItemFits p xs)
+      (λ p g h. record { most = omega arith; same = λ e. omega arith })
+      (λ p a q xs r x m h.
+      let u = unit-read size item p a q x in
+      let f = m (u .fits) in
+      record {
+        most = omega (arith, f .most, u .start, u .some, u .next);
+        same = λ e. let g = f .same e in omega (arith, u .start, u .next);
+      })
+
+  kept-fit : (target : Option ℕ) (ks : List Span) → keptLeft size target item 0 ≡ accept ks → ItemFits 0 ks
+  unfolding keptLeft leftOf
+  kept-fit target ks e = go (many (itemUnit size) item 0) refl e
+    where
+      go : (x : Parsed (List Span)) → many (itemUnit size) item 0 ≡ x → andThen (outcome x) (λ xs. accept (kept item target xs)) ≡ accept ks → ItemFits 0 ks
+      go (refused n) w f = let z : _≡_ {A = ℕ} 0 1 = cc in absurd (omega arith)
+      go (value xs r) w f =
+          let y : kept item target xs ≡ ks = cc in
+          let u = units-fit 0 xs r w (omega arith) in
+          let k = kept-room item target xs in
+          rw (← y) (record { most = omega (arith, u .most); same = λ e. let g = u .same e in omega arith })
+
+-- ### the stream
+
+module _ (h : VvcConfig) (list item : List ℕ) (tols : Option ℕ) (b : List ℕ) where
+  pub record Parts : Type 0 where
+    pub units : List Span
+    pub listed : listUnits list ≡ accept units
+    pub most : 2 * length b ≤ 2 * streamed (map (held list) units) + 5 * length item
+    pub same : h .«length_size» ≡ 4 → length b ≤ streamed (map (held list) units) + length item
+
+  pub assembled-parts : assemble h list item tols ≡ accept b → Parts
+  assembled-parts e = go (gather (h .«length_size») (targetOf h tols) list item) refl
+    where
+      go : (o : Outcome Gathered) → gather (h .«length_size») (targetOf h tols) list item ≡ o → Parts
+      go (refuse n) f =
+          let x = sym (assemble-unknown h list item tols (targetOf h tols) refl n f) ∙ e in
+          let z : _≡_ {A = ℕ} 0 1 = cc in
+          absurd (omega arith)
+      go (accept g) f =
+          let a = assemble-known h list item tols (targetOf h tols) refl (sizesOf list item g) (record { parts = g; found = f; sized = refl }) in
+          let x : accept b ≡ accept (a .bytes) = sym e ∙ a .given in
+          let y : b ≡ a .bytes = cc in
+          let l = ap length y in
+          let k = gathered (h .«length_size») (targetOf h tols) list item g f in
+          let i = kept-fit (h .«length_size») item (k .some) (targetOf h tols) (g .kept) (k .found) in
+          let r = held-room item (g .kept) in
+          let m = length-map (g .units) (held list) in
+          let n = length-map (g .kept) (held item) in
+          record {
+            units = g .units;
+            listed = k .listed;
+            most = omega (arith, a .long, i .most);
+            same = λ s. let t = i .same s in omega (arith, a .long);
+          }

@@ -1,0 +1,60 @@
+-- What the whole path asks of a still, in plain terms.
+use Prim.Native.Nat.{ℕ, _+_, _-_, _^_, _≤_, _<_}
+use mathlib.Core.Path.{_≡_}
+use mathlib.Core.Bool.{false}
+use mathlib.Core.List.{List, [], map}
+use lib.ListN.{length, getD}
+use Rattle.error.specs.Outcome.{accept}
+use Rattle.error.specs.Parse.{Parsed, value, refused}
+use Rattle.boxes.specs.Parts.{held}
+use Rattle.boxes.specs.declared.Span.{Span}
+use Rattle.compact.specs.Compact.{CompactParsed, compactRecord, parseCompact}
+use Rattle.compact.specs.declared.CompactVvcConfig.{CompactVvcConfig}
+use Rattle.expand.specs.Expand.{Picture, FullHead, toFull}
+use Rattle.grouping.specs.Order.{typeAt}
+
+-- a list of bytes
+abbrev pub Bytes : List ℕ → Type 0
+Bytes s = (i : ℕ) → getD s i 0 < 256
+
+-- contains no 00 00 01, and does not end in 00
+pub record Clean (u : List ℕ) : Type 0 where
+  pub free : (i : ℕ) → i + 2 < length u → getD u i 0 ≡ 0 → getD u (i + 1) 0 ≡ 0 → getD u (i + 2) 0 ≡ 1 → ⊥
+  pub ends : 0 < length u → getD u (length u - 1) 0 ≡ 0 → ⊥
+
+-- at most one unit of a type: no two places
+abbrev pub AtMostOne : ℕ → List (List ℕ) → Type 0
+AtMostOne t us = (i j : ℕ) → i < j → j < length us → typeAt us i ≡ t → typeAt us j ≡ t → ⊥
+
+-- the units of a compact record, in their order
+abbrev unitsRead : List ℕ → Parsed (CompactVvcConfig × List Span) → List (List ℕ)
+unitsRead C (value r p) = map (held C) (r .1)
+unitsRead C (refused e) = []
+
+abbrev pub unitsIn : List ℕ → List (List ℕ)
+unitsIn C = unitsRead C (compactRecord C 0)
+
+-- A compact record C that reads and expands, and picture bytes S, "as the mission describes".
+pub record Still (C S : List ℕ) (pic : Picture) : Type 0 where
+  pub bytes : Bytes C
+  pub picture-bytes : Bytes S
+  pub read : CompactParsed
+  pub list : List ℕ
+  pub reads : parseCompact C ≡ accept (read, list)
+  pub full : FullHead
+  pub full-list : List ℕ
+  pub expands : toFull (read .config) pic list ≡ accept (full, full-list)
+  -- multi-layer flag clear, prefix size 1, 2 or 4
+  pub plain : read .config .«multi_layer_flag» ≡ false
+  pub size : read .config .«length_size» ≡ 3 → ⊥
+  pub chroma : pic .chroma ≤ 3
+  pub depth : pic .depth ≤ 15
+  pub one-opi : AtMostOne 12 (unitsIn C)
+  pub one-dci : AtMostOne 13 (unitsIn C)
+  -- no empty unit; no unit nor S contains 00 00 01 or ends in 00
+  pub some : (k : ℕ) → k < length (unitsIn C) → 0 < length (getD (unitsIn C) k [])
+  pub clean : (k : ℕ) → k < length (unitsIn C) → Clean (getD (unitsIn C) k [])
+  pub picture-clean : Clean S
+  -- S may be empty; with its header it fits its prefix
+  pub short : length S ≤ 2 ^ 29
+  pub fits : 2 + length S < 256 ^ (read .config .«length_size»)

@@ -1,0 +1,56 @@
+-- The flag byte and the levels are stored above one sublayer.
+use borrow.Author.Tests.{lt-ltb, le-ltb}
+use native.Mathlib.Numerals.{add-one}
+use mathlib.Core.Path.{refl, ap, _∙_}
+use lib.ListN.{length, length-set}
+use native.Mathlib.Omega.{arith}
+use borrow.Author.Needs.{needs}
+use Rattle.ptl_record_write.proofs.write.put_level_part.Statement.{statement}
+use Rattle.ptl_record_write.proofs.write.put_level_part.Tie as tie
+
+returns : tie.Need-returns
+returns c = rw (le-ltb _ _ (c .if1 .taken)) (omega arith, refl)
+
+level-count-requires : tie.Need-level-count-requires
+level-count-requires c κs = search needs
+
+flag-byte-requires : tie.Need-flag-byte-requires
+flag-byte-requires c κs = search needs
+
+put-requires : tie.Need-put-requires
+put-requires c κs = search needs
+
+add-put-levels : tie.Need-add-put-levels
+add-put-levels c = search needs
+
+put-levels-requires : tie.Need-put-levels-requires
+put-levels-requires c κs =
+    let g = c .before .before .before .before .before .before .before .before .before in
+    let h = rw (lt-ltb 1 (g .args .sublayers) (c .before .before .before .before .before .before .before .if1 .left)) at (g .pre .1) in
+    let m = c .before .before .before .before .before .before .level-count .ensures in
+    (omega (arith, m .1), rw (m .0) (omega (arith, h, ap length (c .before .before .before .put .ensures), length-set (g .args .out .now) (g .args .at) (c .before .before .before .before .before .flag-byte .result))))
+
+same-length : tie.Need-same-length
+same-length c = search needs
+
+returns-2 : tie.Need-returns-2
+returns-2 c =
+    let a = c .before .before .before .before .before .before .before .before .before .before .before .before .args in
+    let m = c .before .before .before .before .before .before .before .before .before .level-count .ensures .0 in
+    let x = rw m at (c .before .before .put-levels .ensures .0) in
+    let y = rw m at (c .before .before .put-levels .ensures .1) in
+    rw (lt-ltb 1 (a .sublayers) (c .before .before .before .before .before .before .before .before .before .before .if1 .left))
+    (omega arith, y ∙ rw (c .before .before .before .before .before .before .put .ensures, c .before .before .before .before .before .before .before .before .flag-byte .ensures, m, add-one (a .at)))
+
+pub put-level-part-spec : {M : Type 1} → statement M
+put-level-part-spec =
+    tie.close
+    (tie.spec
+    returns
+    level-count-requires
+    flag-byte-requires
+    put-requires
+    add-put-levels
+    put-levels-requires
+    same-length
+    returns-2)

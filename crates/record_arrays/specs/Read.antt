@@ -1,0 +1,25 @@
+-- An array of a full record read (ISO/IEC 14496-15 11.2.4.2). Reserved bits are ignored.
+use Prim.Native.Nat.{ℕ, _/_, _%_}
+use mathlib.Core.Bool.{Bool, _||_}
+use lib.Dec.{eqb}
+use Rattle.error.specs.Logic.{if_then_else_}
+use Rattle.error.specs.Parse.{Parser, _>>=_, give, times}
+use Rattle.boxes.specs.Bytes.{uint, chunk}
+use Rattle.boxes.specs.declared.Span.{Span}
+use Rattle.unit_list.specs.UnitList.{Array}
+
+-- OPI and DCI arrays have no count: they hold one unit
+abbrev pub holdsOne : ℕ → Bool
+holdsOne t = eqb t 12 || eqb t 13
+
+-- how many bytes the count of units takes in an array of a type
+abbrev pub countLen : ℕ → ℕ
+countLen t = if holdsOne t then 0 else 2
+
+-- one array of the record
+unfoldable pub recordArray : Parser (Array Span)
+recordArray = do
+  b ← uint 1  -- array_completeness 1, reserved 2, NAL_unit_type 5
+  n ← if holdsOne (b % 32) then give 1 else uint 2  -- num_nalus
+  units ← times n (chunk 2)  -- nal_unit_length, nal_unit
+  give (record { complete = b / 128; unitType = b % 32; units = units })

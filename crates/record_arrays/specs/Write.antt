@@ -1,0 +1,34 @@
+-- The arrays of a full record written (ISO/IEC 14496-15 11.2.4.2), and whether they fit their places.
+use Prim.Native.Nat.{ℕ, _+_, _*_}
+use mathlib.Core.Bool.{Bool, true, _&&_}
+use mathlib.Core.List.{List, [], _∷_, _++_}
+use lib.Dec.{leb, eqb}
+use lib.ListN.{length}
+use Rattle.error.specs.Logic.{if_then_else_}
+use Rattle.boxes.specs.Bytes.{toBe}
+use Rattle.unit_list.specs.UnitList.{Array, encodeUnits}
+use Rattle.record_arrays.specs.Read.{holdsOne}
+
+-- array_completeness 1, 00, NAL_unit_type 5; "unit count 16 (none for 12 and 13)"; units with 16-bit lengths
+unfoldable pub arrayBytes : Array (List ℕ) → List ℕ
+arrayBytes a =
+    ((a .complete * 128 + a .unitType) ∷ [])
+    ++ (if holdsOne (a .unitType) then [] else toBe 2 (length (a .units)))
+    ++ encodeUnits 2 (a .units)
+
+unfoldable pub arraysBytes : List (Array (List ℕ)) → List ℕ
+arraysBytes [] = []
+arraysBytes (a ∷ xs) = arrayBytes a ++ arraysBytes xs
+
+unfoldable pub unitsFit : List (List ℕ) → Bool
+unitsFit [] = true
+unitsFit (u ∷ us) = leb (length u) 65535 && unitsFit us
+
+-- "65,535 units, a unit above 65,535 bytes, type 12 or 13 without exactly one unit"
+unfoldable pub arrayFits : Array (List ℕ) → Bool
+arrayFits a =
+    leb (length (a .units)) 65535 && (unitsFit (a .units) && (if holdsOne (a .unitType) then eqb (length (a .units)) 1 else true))
+
+unfoldable pub arraysFit : List (Array (List ℕ)) → Bool
+arraysFit [] = true
+arraysFit (a ∷ xs) = arrayFits a && arraysFit xs

@@ -1,0 +1,2 @@
+// The arrays of a full record.
+pub mod array;

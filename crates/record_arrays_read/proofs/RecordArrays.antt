@@ -1,0 +1,238 @@
+-- Laws of the arrays of a record and of their units: what stands before the units, one array measured and stored, and the bytes of many.
+use Prim.Native.Nat.{ℕ, suc, _+_, _-_, _/_, _%_, _≤_, _<_}
+use mathlib.Core.Path.{_≡_, refl, sym, ap, _∙_, subst}
+use mathlib.Core.Bool.{Bool, true, false}
+use mathlib.Core.List.{List, [], _∷_, _++_, append-assoc}
+use native.Mathlib.Omega.{arith}
+use lib.ListN.{length, getD, take, set, length-append}
+use lib.Seq.{sets, length-sets, take-length}
+use Rattle.error.specs.Logic.{if_then_else_}
+use Rattle.error.specs.Parse.{Parsed, value, refused, bind, give, times}
+use Rattle.boxes.specs.Bytes.{be, uint, chunk, toBe, toChunk}
+use Rattle.boxes.specs.Parts.{held}
+use Rattle.boxes.specs.declared.Span.{Span}
+use Rattle.boxes.proofs.Numbers.{length-toBe}
+use Rattle.boxes.proofs.Sets.{sets-append, set-before}
+use Rattle.boxes.proofs.Fields.{uint-there, uint-short, chunk-read}
+use Rattle.unit_list.specs.UnitList.{Array, encodeUnits, encodeArray, encodeArrays}
+use Rattle.unit_list.specs.Walk.{chunkStepped}
+use Rattle.unit_list.specs.declared.ChunkRead.{ChunkRead}
+use Rattle.unit_list.specs.declared.ChunkRead.the-variants as C
+use Rattle.unit_list.proofs.Arrays.{be-one}
+use Rattle.unit_list.proofs.Encode.{length-toChunk}
+use Rattle.unit_list.proofs.Accepted.{held-long}
+use Rattle.unit_list.proofs.Steps.{chunk-bytes, chunk-refused}
+use Rattle.record_arrays.specs.Read.{holdsOne, countLen, recordArray}
+use Rattle.record_arrays_read.specs.Inside.{arrayHead, arrayHeadOf, ArrayHeadFits, unitsInList, arrayInList, arraysInList, roomTaken, storedBytes, Stores, StoredAt}
+use Rattle.record_arrays_read.specs.declared.ArrayHead.{ArrayHead}
+use Rattle.record_arrays_read.specs.declared.ArrayHeadRead.{ArrayHeadRead}
+use Rattle.record_arrays_read.specs.declared.ArrayHeadRead.the-variants as A
+use Rattle.record_arrays_read.specs.declared.list.Stored.{Stored}
+
+-- a byte that is there
+pub byte-read : (s : List ℕ) (p : ℕ) → p < length s → uint 1 s p ≡ value (getD s p 0) (p + 1)
+byte-read s p h = uint-there 1 s p (omega arith) ∙ ap (λ (b : ℕ). value b (p + 1)) (be-one s p)
+
+-- ### units
+
+-- the bytes of one unit in a list
+abbrev pub unitInList : List ℕ → Span → List ℕ
+unitInList s a = toChunk 4 (held s a)
+
+pub units-none : (s : List ℕ) → unitsInList s [] ≡ []
+unfolding encodeUnits
+units-none s = refl
+
+pub units-more : (s : List ℕ) (a : Span) (us : List Span) → unitsInList s (a ∷ us) ≡ unitInList s a ++ unitsInList s us
+unfolding encodeUnits
+units-more s a us = refl
+
+-- the unit that a walk found
+pub record UnitAt (s : List ℕ) (p : ℕ) (a : Span) : Type 0 where
+  pub read : chunk 2 s p ≡ value a (a .start + a .len)
+  pub start : a .start ≡ p + 2
+  pub inside : a .start + a .len ≤ length s
+  pub room : length (unitInList s a) ≡ 4 + a .len
+
+module _ (s : List ℕ) (p : ℕ) (r : ChunkRead) (said : chunkStepped r ≡ chunk 2 (take (length s) s) p) where
+  pub unit-short : r ≡ C.Short → chunk 2 s p ≡ refused 1
+  unit-short e = rw take-length at (chunk-refused r (chunk 2 (take (length s) s) p) said e)
+
+  pub unit-at : (a : Span) → r ≡ C.Bytes a → UnitAt s p a
+  unit-at a e =
+      let g : chunk 2 s p ≡ value a (a .start + a .len) = rw take-length at (chunk-bytes r (chunk 2 (take (length s) s) p) a said e) in
+      let w = chunk-read 2 s p a (a .start + a .len) g in
+      record { read = g; start = w .start; inside = w .fits; room = length-toChunk 4 (held s a) ∙ ap (λ (n : ℕ). 4 + n) (held-long s a (w .fits)) }
+
+-- ### what stands before the units of an array
+
+abbrev headWith : ℕ → ℕ → ArrayHead
+headWith b n = record { complete = b / 128; «unit_type» = b % 32; count = n }
+
+module _ (s : List ℕ) (p : ℕ) where
+  pub array-none : length s ≤ p → arrayHead s p ≡ refused 1
+  unfolding arrayHead
+  array-none h = rw (uint-short 1 s p (omega arith))
+
+  module _ (some : p < length s) where
+    first : uint 1 s p ≡ value (getD s p 0) (p + 1)
+    first = byte-read s p some
+
+    count-short : (b : Bool) → length s < p + 1 + (if b then 0 else 2) → (if b then give 1 else uint 2) s (p + 1) ≡ refused 1
+    count-short true h = absurd (omega arith)
+    count-short false h = uint-short 2 s (p + 1) (omega arith)
+
+    count-there : (b : Bool) → p + 1 + (if b then 0 else 2) ≤ length s
+        → (if b then give 1 else uint 2) s (p + 1) ≡ value (if b then 1 else be s (p + 1) 2) (p + 1 + (if b then 0 else 2))
+    count-there true h = ap (value 1) (omega arith)
+    count-there false h = uint-there 2 s (p + 1) (omega arith)
+
+    pub array-short : length s < p + 1 + countLen (getD s p 0 % 32) → arrayHead s p ≡ refused 1
+    unfolding arrayHead
+    array-short h = rw (first, count-short (holdsOne (getD s p 0 % 32)) h)
+
+    array-counted : p + 1 + countLen (getD s p 0 % 32) ≤ length s
+        → arrayHead s p ≡ value (headWith (getD s p 0) (if holdsOne (getD s p 0 % 32) then 1 else be s (p + 1) 2)) (p + 1 + countLen (getD s p 0 % 32))
+    unfolding arrayHead
+    array-counted h = rw (first, count-there (holdsOne (getD s p 0 % 32)) h)
+
+    -- the same of fields that were read one by one
+    pub array-headed : (complete t len n : ℕ) → complete ≡ getD s p 0 / 128 → t ≡ getD s p 0 % 32 → len ≡ countLen t
+        → n ≡ (if holdsOne t then 1 else be s (p + 1) 2) → p + 1 + len ≤ length s
+        → value (record { complete = complete; «unit_type» = t; count = n }) (p + 1 + len) ≡ arrayHead s p
+    array-headed complete t len n c e l k h =
+        let m : len ≡ countLen (getD s p 0 % 32) = l ∙ ap countLen e in
+        rw (k, m, e, c) (sym (array-counted (omega arith)))
+
+-- what the answer says once it is known which it is
+pub record HeadAt (s : List ℕ) (p : ℕ) (h : ArrayHead) (q : ℕ) : Type 0 where
+  pub read : arrayHead s p ≡ value h q
+  pub after : p + 1 ≤ q
+  pub inside : q ≤ length s
+
+module _ (s : List ℕ) (p : ℕ) (r : ArrayHeadRead) (f : (arrayHeadOf r ≡ arrayHead s p) × ArrayHeadFits s p r) where
+  pub head-short : r ≡ A.Short → arrayHead s p ≡ refused 1
+  head-short e = sym (f .0) ∙ ap arrayHeadOf e
+
+  pub head-at : (h : ArrayHead) (q : ℕ) → r ≡ A.Head h q → HeadAt s p h q
+  head-at h q e =
+      let g = subst (λ (r : ArrayHeadRead). (arrayHeadOf r ≡ arrayHead s p) × ArrayHeadFits s p r) e f in
+      record { read = sym (g .0); after = g .1 .0; inside = g .1 .1 }
+
+-- ### one array
+
+abbrev withUnits : ArrayHead → List Span → Array Span
+withUnits h us = record { complete = h .complete; unitType = h .«unit_type»; units = us }
+
+-- an array is its head and its units
+abbrev behind-head : (s : List ℕ) → ArrayHead → ℕ → Parsed (Array Span)
+behind-head s h q = bind (times (h .count) (chunk 2) s q) (λ us r. value (withUnits h us) r)
+
+counted : (s : List ℕ) (b : ℕ) (x : Parsed ℕ)
+    → bind x (λ n r. bind (times n (chunk 2) s r) (λ us t. value (withUnits (headWith b n) us) t)) ≡ bind (bind x (λ n r. value (headWith b n) r)) (behind-head s)
+unfolding times
+counted s b (value n r) = refl
+counted s b (refused e) = refl
+
+array-split : (s : List ℕ) (p : ℕ) → recordArray s p ≡ bind (arrayHead s p) (behind-head s)
+unfolding recordArray arrayHead
+array-split s p = go (uint 1 s p)
+  where
+    go : (x : Parsed ℕ)
+        → bind x (λ b q. bind ((if holdsOne (b % 32) then give 1 else uint 2) s q) (λ n r. bind (times n (chunk 2) s r) (λ us t. value (withUnits (headWith b n) us) t)))
+        ≡ bind (bind x (λ b q. bind ((if holdsOne (b % 32) then give 1 else uint 2) s q) (λ n r. value (headWith b n) r))) (behind-head s)
+    go (value b q) = counted s b ((if holdsOne (b % 32) then give 1 else uint 2) s q)
+    go (refused e) = refl
+
+-- what stands before the units in a list
+abbrev headBytes : ArrayHead → ℕ → List ℕ
+headBytes h rest = toBe 4 rest ++ (h .complete ∷ h .«unit_type» ∷ [])
+
+head-long : (h : ArrayHead) (rest : ℕ) → length (headBytes h rest) ≡ 6
+head-long h rest = length-append (toBe 4 rest) (h .complete ∷ h .«unit_type» ∷ []) ∙ rw (length-toBe 4 rest)
+
+array-bytes : (s : List ℕ) (h : ArrayHead) (us : List Span) → arrayInList s (withUnits h us) ≡ headBytes h (2 + length (unitsInList s us)) ++ unitsInList s us
+unfolding encodeArray toChunk
+array-bytes s h us =
+    let e : length (h .complete ∷ h .«unit_type» ∷ unitsInList s us) ≡ 2 + length (unitsInList s us) = omega arith in
+    rw e (sym (append-assoc (toBe 4 (2 + length (unitsInList s us))) (h .complete ∷ h .«unit_type» ∷ []) (unitsInList s us)))
+
+array-long : (s : List ℕ) (h : ArrayHead) (us : List Span) → length (arrayInList s (withUnits h us)) ≡ 6 + length (unitsInList s us)
+array-long s h us =
+    let l = head-long h (2 + length (unitsInList s us)) in
+    ap length (array-bytes s h us) ∙ length-append (headBytes h (2 + length (unitsInList s us))) (unitsInList s us) ∙ omega arith
+
+-- a run behind another may be stored before it
+sets-before : (d : List ℕ) (i j : ℕ) (xs ys : List ℕ) → i + length xs ≤ j → sets (sets d j ys) i xs ≡ sets (sets d i xs) j ys
+sets-before d i j xs [] h = refl
+sets-before d i j xs (y ∷ ys) h =
+    sets-before (set d j y) i (suc j) xs ys (omega arith) ∙ ap (λ (l : List ℕ). sets l (suc j) ys) (set-before d i j y xs h)
+
+module _ (s : List ℕ) (p : ℕ) where
+  pub array-refused : (e : ℕ) → arrayHead s p ≡ refused e → recordArray s p ≡ refused e
+  array-refused e w = array-split s p ∙ ap (λ (x : Parsed ArrayHead). bind x (behind-head s)) w
+
+  module _ (h : ArrayHead) (q : ℕ) (w : arrayHead s p ≡ value h q) where
+    pub array-units : recordArray s p ≡ bind (times (h .count) (chunk 2) s q) (λ us r. value (withUnits h us) r)
+    array-units = array-split s p ∙ ap (λ (x : Parsed ArrayHead). bind x (behind-head s)) w
+
+    -- measured
+    array-measured : (x : Parsed (List Span)) (m : Parsed ℕ) → m ≡ roomTaken unitsInList s 0 x
+        → bind m (λ room r. value (6 + room) r) ≡ roomTaken arrayInList s 0 (bind x (λ us r. value (withUnits h us) r))
+    array-measured (value us r) m e = rw e (ap (λ (n : ℕ). value n r) (let l = array-long s h us in omega arith))
+    array-measured (refused j) m e = rw e
+
+    pub array-room : (m : Parsed ℕ) → m ≡ roomTaken unitsInList s 0 (times (h .count) (chunk 2) s q)
+        → bind m (λ room r. value (6 + room) r) ≡ roomTaken arrayInList s 0 (recordArray s p)
+    array-room m e = array-measured (times (h .count) (chunk 2) s q) m e ∙ ap (roomTaken arrayInList s 0) (sym array-units)
+
+    -- stored
+    module _ (out : List ℕ) (to : ℕ) (stores : Stores arrayInList s (recordArray s p) out to) where
+      units-of : (x : Parsed (List Span)) → bind x (λ us r. value (withUnits h us) r) ≡ value (stores .what) (stores .behind) → Stores unitsInList s x out (to + 6)
+      units-of (value us r) g =
+          let u : withUnits h us ≡ stores .what = cc in
+          let b = ap (λ (a : Array Span). length (arrayInList s a)) u in
+          let l = array-long s h us in
+          let f = stores .fits in
+          record { what = us; behind = r; read = refl; fits = omega arith }
+      units-of (refused e) g = absurd (let z : _≡_ {A = ℕ} 0 1 = cc in omega arith)
+
+      pub stores-units : Stores unitsInList s (times (h .count) (chunk 2) s q) out (to + 6)
+      stores-units = units-of (times (h .count) (chunk 2) s q) (sym array-units ∙ stores .read)
+
+      pub head-room : (d : List ℕ) (r : Stored) → StoredAt unitsInList s (times (h .count) (chunk 2) s q) out (to + 6) d r → to + 6 ≤ length d
+      head-room d r i =
+          let k = ap length (i .written) ∙ length-sets out (to + 6) (storedBytes unitsInList s (times (h .count) (chunk 2) s q)) in
+          let f = stores-units .fits in
+          omega arith
+
+      stored-of : (x : Parsed (List Span)) → Stores unitsInList s x out (to + 6) → (d : List ℕ) (r : Stored) → StoredAt unitsInList s x out (to + 6) d r
+          → (e : List ℕ) → e ≡ sets d to (headBytes h (r .to - to - 4)) → StoredAt arrayInList s (bind x (λ us r. value (withUnits h us) r)) out to e r
+      stored-of (refused j) g d r i e v = absurd (let w = g .read in let z : _≡_ {A = ℕ} 0 1 = cc in omega arith)
+      stored-of (value us j) g d r i e v =
+          let t = i .to in
+          let n : r .to - to - 4 ≡ 2 + length (unitsInList s us) = omega arith in
+          let l = head-long h (2 + length (unitsInList s us)) in
+          let k : to + length (headBytes h (2 + length (unitsInList s us))) ≡ to + 6 = omega arith in
+          record {
+            written =
+                v ∙ rw (n, i .written, array-bytes s h us)
+                (sets-before out to (to + 6) (headBytes h (2 + length (unitsInList s us))) (unitsInList s us) (omega arith)
+                ∙ rw k at (sets-append out to (headBytes h (2 + length (unitsInList s us))) (unitsInList s us)));
+            from = i .from;
+            to = t ∙ (let m = array-long s h us in omega arith);
+          }
+
+      pub stored-array : (d : List ℕ) (r : Stored) → StoredAt unitsInList s (times (h .count) (chunk 2) s q) out (to + 6) d r
+          → (e : List ℕ) → e ≡ sets d to (headBytes h (r .to - to - 4)) → StoredAt arrayInList s (recordArray s p) out to e r
+      stored-array d r i e v = rw array-units (stored-of (times (h .count) (chunk 2) s q) stores-units d r i e v)
+
+-- ### arrays
+
+pub arrays-none : (s : List ℕ) → arraysInList s [] ≡ []
+unfolding encodeArrays
+arrays-none s = refl
+
+pub arrays-more : (s : List ℕ) (a : Array Span) (xs : List (Array Span)) → arraysInList s (a ∷ xs) ≡ arrayInList s a ++ arraysInList s xs
+unfolding encodeArrays
+arrays-more s a xs = refl

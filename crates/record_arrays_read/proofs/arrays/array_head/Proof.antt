@@ -1,0 +1,72 @@
+-- The head of an array: 1 where its first byte or its count is not there.
+use Prim.Native.Nat.{_+_, _%_, _≤_}
+use mathlib.Core.Path.{_≡_, sym, ap, _∙_}
+use native.Mathlib.Omega.{arith}
+use borrow.Author.Needs.{needs}
+use lib.ListN.{length, getD}
+use Rattle.record_arrays.specs.Read.{countLen}
+use Rattle.record_arrays_read.proofs.RecordArrays.{array-none, array-short, array-headed}
+use Rattle.record_arrays_read.proofs.arrays.array_head.Statement.{statement}
+use Rattle.record_arrays_read.proofs.arrays.array_head.Tie as tie
+
+returns : tie.Need-returns
+returns c = let a = c .before .before .args in (sym (array-none (a .«record» .now) (a .at) (c .if1 .taken)), tt)
+
+shared-slice-read-first : tie.Need-shared-slice-read-first
+shared-slice-read-first c = search needs
+
+complete-of-requires : tie.Need-complete-of-requires
+complete-of-requires c κs = search needs
+
+unit-type-of-requires : tie.Need-unit-type-of-requires
+unit-type-of-requires c κs = search needs
+
+add-units : tie.Need-add-units
+add-units c = search needs
+
+count-len-requires : tie.Need-count-len-requires
+count-len-requires c κs = search needs
+
+add-units-2 : tie.Need-add-units-2
+add-units-2 c = search needs
+
+-- the count takes what the type in the first byte says
+count-at : (c : tie.After-count-len) → c .count-len .result ≡ countLen (getD (c .before .before .before .before .before .before .args .«record» .now) (c .before .before .before .before .before .before .args .at) 0 % 32)
+count-at c = c .count-len .ensures .0 ∙ ap countLen (c .before .unit-type-of .ensures)
+
+returns-2 : tie.Need-returns-2
+returns-2 c =
+    let a = c .before .before .before .before .before .before .before .args in
+    let n = count-at (c .before) in
+    (sym (array-short (a .«record» .now) (a .at) (omega (arith, c .before .before .before .before .before .if1 .left)) (omega (arith, c .if2 .taken))), tt)
+
+add-unit-count : tie.Need-add-unit-count
+add-unit-count c = search needs
+
+unit-count-requires : tie.Need-unit-count-requires
+unit-count-requires c κs = let n = c .before .count-len .ensures .0 in omega (arith, c .if2 .left)
+
+returns-3 : tie.Need-returns-3
+returns-3 c =
+    let a = c .before .before .before .before .before .before .before .before .args in
+    let l : a .at + 1 + c .before .before .count-len .result ≤ length (a .«record» .now) = omega (arith, c .before .if2 .left) in (
+      array-headed (a .«record» .now) (a .at) (omega (arith, c .before .before .before .before .before .before .if1 .left)) _ _ _ _
+          (c .before .before .before .before .complete-of .ensures) (c .before .before .before .unit-type-of .ensures) (c .before .before .count-len .ensures .0) (c .unit-count .ensures) l,
+      (omega arith, omega (arith, l)),
+    )
+
+pub array-head-spec : {M : Type 1} → statement M
+array-head-spec =
+    tie.close
+    (tie.spec
+    returns
+    shared-slice-read-first
+    complete-of-requires
+    unit-type-of-requires
+    add-units
+    count-len-requires
+    add-units-2
+    returns-2
+    add-unit-count
+    unit-count-requires
+    returns-3)

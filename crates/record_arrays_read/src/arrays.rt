@@ -1,0 +1,75 @@
+// For the crates further down: the head of an array, and the arrays of a full record read into a unit list.
+use super::ArrayHead;
+use super::ArrayHeadRead;
+use super::ListRead;
+use super::list;
+use super::room;
+use super::room::ListRoom;
+use boxes::place;
+use error::Refusal;
+ghost use mathlib.Core.Path.{_≡_};
+ghost use Prim.Native.Nat.{_+_, _≤_, _^_};
+ghost use lib.ListN.{length};
+ghost use Rattle.error.specs.Logic.{if_then_else_};
+ghost use Rattle.error.specs.Outcome.{lentOutput};
+ghost use Rattle.boxes.specs.Bytes.{be};
+ghost use Rattle.record_arrays.specs.Read.{holdsOne, countLen};
+ghost use Rattle.record_arrays_read.specs.Inside.{arrayHead, arrayHeadOf, ArrayHeadFits, countedArrays, listGiven, listOf};
+
+// How many units an array of the type has, by the count that stands at a place; one where there is no count.
+fn unit_count(record: &[u8], at: usize, unit_type: u8) -> usize
+    requires { ⌜ at + countLen «unit_type» ≤ length (now «record») ⌝ }
+    ensures { λ r. ⌜ r ≡ (if holdsOne «unit_type» then 1 else be (now («record» .entry)) at 2) ⌝ }
+{
+    if record_arrays::array::holds_one(unit_type) {
+        return 1;
+    }
+    place::number(record, at, 2)
+}
+
+// The head of the array at a place.
+pub fn array_head(record: &[u8], at: usize) -> ArrayHeadRead
+    requires { ⌜ length (now «record») ≤ 2 ^ 30 ⌝ }
+    ensures { λ r. ⌜ (arrayHeadOf r ≡ arrayHead (now («record» .entry)) at) × ArrayHeadFits (now («record» .entry)) at r ⌝ }
+{
+    if record.len() <= at {
+        return ArrayHeadRead::Short;
+    }
+    let first = record[at];
+    let complete = record_arrays::array::complete_of(first);
+    let unit_type = record_arrays::array::unit_type_of(first);
+    let units = at + 1 + record_arrays::array::count_len(unit_type);
+    if record.len() < units {
+        return ArrayHeadRead::Short;
+    }
+    let count = unit_count(record, at + 1, unit_type);
+    ArrayHeadRead::Head(
+        ArrayHead {
+            complete: complete,
+            unit_type: unit_type,
+            count: count,
+        },
+        units,
+    )
+}
+
+// The arrays of a record, whose count stands at a place, measured first and then stored as a unit list. Refusals: 1, 20.
+pub fn read_list(record: &[u8], at: usize, out: &mut [u8]) -> ListRead
+    requires { ⌜ length (now «record») ≤ 2 ^ 30 ⌝ }
+    ensures { λ r. ⌜ (listOf r, now (out .exit)) ≡ lentOutput (listGiven (now («record» .entry)) (countedArrays (now («record» .entry)) at)) (now (out .entry)) ⌝ }
+{
+    if record.len() <= at {
+        return ListRead::Refused(Refusal::Truncated);
+    }
+    let n = place::wide(record[at]);
+    let ListRoom::Room(room, consumed) = room::arrays_room(record, at + 1, n) else {
+        return ListRead::Refused(Refusal::Truncated);
+    };
+    let len = 1 + room;
+    if out.len() < len {
+        return ListRead::Refused(Refusal::BufferTooShort);
+    }
+    place::put(out, 0, 1);
+    list::put_arrays(record, at + 1, n, out, 1);
+    ListRead::Read(consumed, len)
+}

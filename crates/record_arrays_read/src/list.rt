@@ -1,0 +1,69 @@
+// For this crate's call: the arrays of a full record, known to be there, stored as those of a unit list.
+use super::ArrayHeadRead;
+use unit_list::ChunkRead;
+use unit_list::walk;
+use unit_list::write;
+ghost use mathlib.Core.Path.{_≡_};
+ghost use Prim.Native.Nat.{_+_, _≤_, _^_};
+ghost use lib.ListN.{length};
+ghost use lib.Seq.{sets};
+ghost use Rattle.error.specs.Parse.{times};
+ghost use Rattle.boxes.specs.Bytes.{chunk};
+ghost use Rattle.record_arrays.specs.Read.{recordArray};
+ghost use Rattle.record_arrays_read.specs.Inside.{unitsInList, arrayInList, arraysInList, storedBytes, Stores, StoredAt};
+
+// Where storing stands: the next place of the record and that of the output.
+pub struct Stored {
+    pub from: usize,
+    pub to: usize,
+}
+
+// Stores `count` units of the record from a place on.
+fn put_units(record: &[u8], from: usize, count: usize, out: &mut [u8], to: usize) -> Stored
+    requires { ⌜ (length (now «record») ≤ 2 ^ 30) × (from ≤ length (now «record»)) × Stores unitsInList (now «record») (times count (chunk 2) (now «record») from) (now out) to ⌝ }
+    ensures { λ r. ⌜ StoredAt unitsInList (now («record» .entry)) (times count (chunk 2) (now («record» .entry)) from) (now (out .entry)) to (now (out .exit)) r ⌝ }
+{
+    let mut left = count;
+    let mut at = from;
+    let mut next = to;
+    while 0 < left {
+        let ChunkRead::Bytes(a) = walk::chunk(record, at, record.len(), 2) else {
+            return Stored { from: at, to: next };
+        };
+        write::put_unit(record, a, out, next, 4);
+        next = next + 4 + a.len;
+        at = a.start + a.len;
+        left -= 1;
+    }
+    Stored { from: at, to: next }
+}
+
+// Stores the array at a place of the record: its units, and then what stands before them.
+fn put_array(record: &[u8], at: usize, out: &mut [u8], to: usize) -> Stored
+    requires { ⌜ (length (now «record») ≤ 2 ^ 30) × Stores arrayInList (now «record») (recordArray (now «record») at) (now out) to ⌝ }
+    ensures { λ r. ⌜ StoredAt arrayInList (now («record» .entry)) (recordArray (now («record» .entry)) at) (now (out .entry)) to (now (out .exit)) r ⌝ }
+{
+    let ArrayHeadRead::Head(head, units) = super::arrays::array_head(record, at) else {
+        return Stored { from: at, to: to };
+    };
+    let stored = put_units(record, units, head.count, out, to + 6);
+    let rest = stored.to - to - 4;
+    write::put_array_head(out, to, rest, head.complete, head.unit_type);
+    stored
+}
+
+// Stores `count` arrays of the record from a place on.
+pub fn put_arrays(record: &[u8], from: usize, count: usize, out: &mut [u8], to: usize)
+    requires { ⌜ (length (now «record») ≤ 2 ^ 30) × Stores arraysInList (now «record») (times count recordArray (now «record») from) (now out) to ⌝ }
+    ensures { λ _. ⌜ now (out .exit) ≡ sets (now (out .entry)) to (storedBytes arraysInList (now («record» .entry)) (times count recordArray (now («record» .entry)) from)) ⌝ }
+{
+    let mut left = count;
+    let mut at = from;
+    let mut next = to;
+    while 0 < left {
+        let stored = put_array(record, at, out, next);
+        at = stored.from;
+        next = stored.to;
+        left -= 1;
+    }
+}

@@ -1,0 +1,69 @@
+// For this crate's call: the room that the arrays of a full record take in a unit list.
+use super::ArrayHeadRead;
+use unit_list::ChunkRead;
+use unit_list::walk;
+ghost use mathlib.Core.Path.{_≡_};
+ghost use Prim.Native.Nat.{_≤_, _^_};
+ghost use lib.ListN.{length};
+ghost use Rattle.error.specs.Parse.{times};
+ghost use Rattle.boxes.specs.Bytes.{chunk};
+ghost use Rattle.record_arrays.specs.Read.{recordArray};
+ghost use Rattle.record_arrays_read.specs.Inside.{roomOf, RoomFits, roomTaken, unitsInList, arrayInList, arraysInList};
+
+// How many bytes units or arrays take in a list, and the place behind them in the record; or that they are not all there.
+pub enum ListRoom {
+    Room(usize, usize),
+    Short,
+}
+
+// Measures `count` units from a place on.
+fn units_room(record: &[u8], from: usize, count: usize) -> ListRoom
+    requires { ⌜ (length (now «record») ≤ 2 ^ 30) × (from ≤ length (now «record»)) ⌝ }
+    ensures { λ r. ⌜ (roomOf r ≡ roomTaken unitsInList (now («record» .entry)) 0 (times count (chunk 2) (now («record» .entry)) from)) × RoomFits (now («record» .entry)) from r ⌝ }
+{
+    let mut left = count;
+    let mut at = from;
+    let mut room: usize = 0;
+    while 0 < left {
+        let ChunkRead::Bytes(a) = walk::chunk(record, at, record.len(), 2) else {
+            return ListRoom::Short;
+        };
+        room = room + 4 + a.len;
+        at = a.start + a.len;
+        left -= 1;
+    }
+    ListRoom::Room(room, at)
+}
+
+// Measures the array at a place.
+fn array_room(record: &[u8], at: usize) -> ListRoom
+    requires { ⌜ length (now «record») ≤ 2 ^ 30 ⌝ }
+    ensures { λ r. ⌜ (roomOf r ≡ roomTaken arrayInList (now («record» .entry)) 0 (recordArray (now («record» .entry)) at)) × RoomFits (now («record» .entry)) at r ⌝ }
+{
+    let ArrayHeadRead::Head(head, units) = super::arrays::array_head(record, at) else {
+        return ListRoom::Short;
+    };
+    let ListRoom::Room(room, behind) = units_room(record, units, head.count) else {
+        return ListRoom::Short;
+    };
+    ListRoom::Room(6 + room, behind)
+}
+
+// Measures `count` arrays from a place on.
+pub fn arrays_room(record: &[u8], from: usize, count: usize) -> ListRoom
+    requires { ⌜ (length (now «record») ≤ 2 ^ 30) × (from ≤ length (now «record»)) ⌝ }
+    ensures { λ r. ⌜ (roomOf r ≡ roomTaken arraysInList (now («record» .entry)) 0 (times count recordArray (now («record» .entry)) from)) × RoomFits (now («record» .entry)) from r ⌝ }
+{
+    let mut left = count;
+    let mut at = from;
+    let mut room: usize = 0;
+    while 0 < left {
+        let ListRoom::Room(more, behind) = array_room(record, at) else {
+            return ListRoom::Short;
+        };
+        room += more;
+        at = behind;
+        left -= 1;
+    }
+    ListRoom::Room(room, at)
+}

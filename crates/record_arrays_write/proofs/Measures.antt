@@ -1,0 +1,289 @@
+-- Laws of measuring: what is measured and what is left make the whole, for the units of an array and for arrays.
+use Prim.Native.Nat.{ℕ, _+_, _-_, _*_, _^_, _≤_, _<_}
+use mathlib.Core.Path.{_≡_, refl, sym, ap, _∙_, subst}
+use mathlib.Core.Bool.{Bool, true, false, _&&_}
+use mathlib.Core.List.{List, [], _∷_, _++_, map}
+use native.Mathlib.Omega.{arith}
+use lib.ListN.{length, length-append}
+use Rattle.error.specs.Logic.{if_then_else_}
+use Rattle.error.specs.Outcome.{Outcome, accept, refuse, andThen}
+use Rattle.boxes.specs.Bytes.{toBe, toChunk}
+use Rattle.boxes.specs.Parts.{held}
+use Rattle.boxes.specs.Walk.{more}
+use Rattle.boxes.specs.declared.Span.{Span}
+use Rattle.boxes.proofs.Numbers.{length-toBe}
+use Rattle.unit_list.specs.UnitList.{Array, encodeUnits, heldArray, heldArrays}
+use Rattle.unit_list.specs.Walk.{unitsFrom, unitsStepped, UnitStepFits, arraysFrom, arraysStepped, ArrayStepFits, Fits, Entered}
+use Rattle.unit_list.specs.declared.ListCursor.{ListCursor}
+use Rattle.unit_list.specs.declared.ListStep.{ListStep}
+use Rattle.unit_list.specs.declared.ListStep.the-variants as L
+use Rattle.unit_list.specs.declared.ArrayStep.{ArrayStep}
+use Rattle.unit_list.specs.declared.ArrayStep.the-variants as A
+use Rattle.unit_list.proofs.Encode.{length-toChunk}
+use Rattle.unit_list.proofs.Accepted.{held-long}
+use Rattle.record_arrays.specs.Read.{holdsOne, countLen}
+use Rattle.record_arrays.specs.Write.{arrayBytes, arraysBytes, unitsFit, arrayFits, arraysFit}
+use Rattle.record_arrays_write.specs.Inside.{joined, nothing, ofUnit, arrayBy, unitsMeasure, arraysMeasure, measuredBy, behind, arrayMeasured, Takes, ArrayWithin}
+use Rattle.record_arrays_write.specs.declared.measure.Measure.{Measure}
+use Rattle.record_arrays_write.specs.declared.measure.ArrayMeasured.{ArrayMeasured}
+use Rattle.record_arrays_write.specs.declared.measure.ArrayMeasured.the-variants as R
+
+and-assoc : (a b c : Bool) → (a && b) && c ≡ a && (b && c)
+and-assoc true b c = refl
+and-assoc false b c = refl
+
+and-yes : (b : Bool) → b && true ≡ b
+and-yes true = refl
+and-yes false = refl
+
+same-measure : {n m k l : ℕ} {f g : Bool} → n ≡ m → k ≡ l → f ≡ g
+    → _≡_ {A = Measure} (record { count = n; len = k; fits = f }) (record { count = m; len = l; fits = g })
+same-measure p q r = rw (p, q, r)
+
+joined-assoc : (a b c : Measure) → joined (joined a b) c ≡ joined a (joined b c)
+joined-assoc a b c = same-measure (omega arith) (omega arith) (and-assoc (a .fits) (b .fits) (c .fits))
+
+joined-nothing : (m : Measure) → joined m nothing ≡ m
+joined-nothing m = same-measure (omega arith) (omega arith) (and-yes (m .fits))
+
+nothing-joined : (m : Measure) → joined nothing m ≡ m
+nothing-joined m = same-measure (omega arith) (omega arith) refl
+
+-- nothing measuredBy, one more, all
+pub behind-start : (o : Outcome Measure) → behind nothing o ≡ o
+behind-start (accept m) = ap accept (nothing-joined m)
+behind-start (refuse e) = refl
+
+pub behind-more : (v m : Measure) (o : Outcome Measure) → behind (joined v m) o ≡ behind v (behind m o)
+behind-more v m (accept n) = ap accept (joined-assoc v m n)
+behind-more v m (refuse e) = refl
+
+pub behind-end : (v : Measure) → accept v ≡ behind v (accept nothing)
+behind-end v = ap accept (sym (joined-nothing v))
+
+-- ---- the units of an array
+
+length-units : (u : List ℕ) (us : List (List ℕ)) → length (encodeUnits 2 (u ∷ us)) ≡ 2 + length u + length (encodeUnits 2 us)
+unfolding encodeUnits
+length-units u us = let l = length-toChunk 2 u in length-append (toChunk 2 u) (encodeUnits 2 us) ∙ omega arith
+
+units-none : (s : List ℕ) → unitsMeasure s [] ≡ nothing
+unfolding encodeUnits unitsFit
+units-none s = refl
+
+units-more : (s : List ℕ) (a : Span) → a .start + a .len ≤ length s → (o : Outcome (List Span))
+    → measuredBy (unitsMeasure s) (more a o) ≡ behind (ofUnit (a .len)) (measuredBy (unitsMeasure s) o)
+unfolding unitsFit
+units-more s a h (refuse e) = refl
+units-more s a h (accept us) =
+    let l = held-long s a h in
+    let k = length-units (held s a) (map (held s) us) in
+    ap accept (same-measure (omega arith) (omega arith) (rw l))
+
+-- a step inside an array
+module _ (s : List ℕ) (here : ListCursor) (r : ListStep) (f : (unitsStepped s r ≡ unitsFrom s here) × UnitStepFits s here r) where
+  pub units-end : r ≡ L.End → unitsFrom s here ≡ accept []
+  units-end e = sym (sym (ap (unitsStepped s) e) ∙ f .0)
+
+  pub units-malformed : r ≡ L.Malformed → unitsFrom s here ≡ refuse 21
+  units-malformed e = sym (sym (ap (unitsStepped s) e) ∙ f .0)
+
+  module _ (a : Span) (next : ListCursor) (e : r ≡ L.Unit a next) where
+    passed : (unitsStepped s (L.Unit a next) ≡ unitsFrom s here) × UnitStepFits s here (L.Unit a next)
+    passed = subst (λ (r : ListStep). (unitsStepped s r ≡ unitsFrom s here) × UnitStepFits s here r) e f
+
+    pub units-next : unitsFrom s here ≡ more a (unitsFrom s next)
+    units-next = sym (passed .0)
+
+    -- where the unit lies, and where the walk goes on
+    pub record Ahead : Type 0 where
+      pub fits : Fits s next
+      pub inside : a .start + a .len ≤ length s
+      pub on : here .at + 4 + a .len ≤ next .at
+      pub end : next .end ≡ here .end
+      pub room : next .at ≤ 2 ^ 30
+      pub less : length s - next .at < length s - here .at
+
+    pub ahead : Ahead
+    ahead =
+        let p = passed .1 .0 in
+        let g = p .fits in
+        record {
+          fits = g;
+          inside = omega (arith, p .next, g .before, g .within);
+          on = omega (arith, p .start, p .next);
+          end = passed .1 .1;
+          room = omega (arith, g .before, g .within, g .lent);
+          less = omega (arith, p .start, p .next, g .before, g .within);
+        }
+
+-- the walk from c has come to `here` and has measured v
+pub record MeasuringUnits (s : List ℕ) (c here : ListCursor) (v : Measure) : Type 0 where
+  pub fits : Fits s here
+  pub end : here .end ≡ c .end
+  pub len : c .at + v .len ≤ here .at
+  pub count : c .at + v .count ≤ here .at
+  pub whole : behind v (measuredBy (unitsMeasure s) (unitsFrom s here)) ≡ measuredBy (unitsMeasure s) (unitsFrom s c)
+
+module _ (s : List ℕ) (c : ListCursor) where
+  pub units-start : Fits s c → MeasuringUnits s c c nothing
+  units-start h = record { fits = h; end = refl; len = omega arith; count = omega arith; whole = behind-start (measuredBy (unitsMeasure s) (unitsFrom s c)) }
+
+  module _ (here : ListCursor) (v : Measure) (i : MeasuringUnits s c here v) (r : ListStep) (f : (unitsStepped s r ≡ unitsFrom s here) × UnitStepFits s here r) where
+    pub units-ended : r ≡ L.End → (accept v ≡ measuredBy (unitsMeasure s) (unitsFrom s c)) × ((c .at + v .len ≤ c .end) × (c .at + v .count ≤ c .end))
+    units-ended e = (
+      behind-end v ∙ ap (λ (m : Measure). behind v (accept m)) (sym (units-none s)) ∙ ap (λ (o : Outcome (List Span)). behind v (measuredBy (unitsMeasure s) o)) (sym (units-end s here r f e)) ∙ i .whole,
+      (omega (arith, i .len, i .fits .before, i .end), omega (arith, i .count, i .fits .before, i .end)),
+    )
+
+    pub units-refused : r ≡ L.Malformed → refuse 21 ≡ measuredBy (unitsMeasure s) (unitsFrom s c)
+    units-refused e = ap (λ (o : Outcome (List Span)). behind v (measuredBy (unitsMeasure s) o)) (sym (units-malformed s here r f e)) ∙ i .whole
+
+    module _ (a : Span) (next : ListCursor) (e : r ≡ L.Unit a next) where
+      pub unit-small : a .len < 2 ^ 32
+      unit-small = let h = ahead s here r f a next e in omega (arith, h .on, h .room)
+
+      pub units-add : (v .count + ofUnit (a .len) .count < 2 ^ 32) × (v .len + ofUnit (a .len) .len < 2 ^ 32)
+      units-add =
+          let h = ahead s here r f a next e in
+          (omega (arith, i .count, h .on, h .room), omega (arith, i .len, h .on, h .room))
+
+      pub units-again : MeasuringUnits s c next (joined v (ofUnit (a .len)))
+      units-again =
+          let h = ahead s here r f a next e in
+          record {
+            fits = h .fits;
+            end = h .end ∙ i .end;
+            len = omega (arith, i .len, h .on);
+            count = omega (arith, i .count, h .on);
+            whole =
+                behind-more v (ofUnit (a .len)) (measuredBy (unitsMeasure s) (unitsFrom s next))
+                ∙ ap (behind v) (sym (units-more s a (h .inside) (unitsFrom s next)))
+                ∙ ap (λ (o : Outcome (List Span)). behind v (measuredBy (unitsMeasure s) o)) (sym (units-next s here r f a next e)) ∙ i .whole;
+          }
+
+-- ---- arrays
+
+count-small : (b : Bool) → (if b then 0 else 2) ≤ 2
+count-small true = omega arith
+count-small false = omega arith
+
+length-array : (a : Array (List ℕ)) → length (arrayBytes a) ≡ 1 + countLen (a .unitType) + length (encodeUnits 2 (a .units))
+unfolding arrayBytes
+length-array a = go (holdsOne (a .unitType))
+  where
+    go : (b : Bool) → length ((a .complete * 128 + a .unitType) ∷ ((if b then [] else toBe 2 (length (a .units))) ++ encodeUnits 2 (a .units)))
+        ≡ 1 + (if b then 0 else 2) + length (encodeUnits 2 (a .units))
+    go true = omega arith
+    go false = let l = length-append (toBe 2 (length (a .units))) (encodeUnits 2 (a .units)) in let k = length-toBe 2 (length (a .units)) in omega arith
+
+arrays-none : (s : List ℕ) → accept nothing ≡ measuredBy (arraysMeasure s) (accept [])
+unfolding arraysBytes arraysFit
+arrays-none s = refl
+
+module _ (s : List ℕ) (complete t : ℕ) where
+  abbrev pub arrayWith : List Span → Array Span
+  arrayWith us = record { complete = complete; unitType = t; units = us }
+
+  array-more : (us : List Span) (xs : List (Array Span)) → joined (arrayBy t (unitsMeasure s us)) (arraysMeasure s xs) ≡ arraysMeasure s (arrayWith us ∷ xs)
+  unfolding arraysBytes arraysFit arrayFits
+  array-more us xs =
+      let l = length-array (heldArray s (arrayWith us)) in
+      let k = length-append (arrayBytes (heldArray s (arrayWith us))) (arraysBytes (heldArrays s xs)) in
+      same-measure (omega arith) (omega arith) refl
+
+  arrays-more : (m : Measure) (u : Outcome (List Span)) (rest : Outcome (List (Array Span))) → accept m ≡ measuredBy (unitsMeasure s) u
+      → behind (arrayBy t m) (measuredBy (arraysMeasure s) rest) ≡ measuredBy (arraysMeasure s) (andThen u (λ us. more (arrayWith us) rest))
+  arrays-more m (refuse n) rest e = absurd (let z : _≡_ {A = ℕ} 0 1 = cc in omega arith)
+  arrays-more m (accept us) (refuse n) e = refl
+  arrays-more m (accept us) (accept xs) e =
+      let y : m ≡ unitsMeasure s us = cc in
+      rw y (ap accept (array-more us xs))
+
+  arrays-unread : (u : Outcome (List Span)) (rest : Outcome (List (Array Span))) → refuse 21 ≡ measuredBy (unitsMeasure s) u
+      → refuse 21 ≡ measuredBy (arraysMeasure s) (andThen u (λ us. more (arrayWith us) rest))
+  arrays-unread (refuse n) rest e = e
+  arrays-unread (accept us) rest e = absurd (let z : _≡_ {A = ℕ} 0 1 = cc in omega arith)
+
+-- a step over one array
+module _ (s : List ℕ) (here : ListCursor) (r : ArrayStep) (f : (arraysStepped s r ≡ arraysFrom s here) × ArrayStepFits s here r) where
+  pub array-end : r ≡ A.End → arraysFrom s here ≡ accept []
+  array-end e = sym (sym (ap (arraysStepped s) e) ∙ f .0)
+
+  pub array-malformed : r ≡ A.Malformed → arraysFrom s here ≡ refuse 21
+  array-malformed e = sym (sym (ap (arraysStepped s) e) ∙ f .0)
+
+  pub end-measured : r ≡ A.End → accept nothing ≡ measuredBy (arraysMeasure s) (arraysFrom s here)
+  end-measured e = arrays-none s ∙ ap (measuredBy (arraysMeasure s)) (sym (array-end e))
+
+  pub malformed-measured : r ≡ A.Malformed → refuse 21 ≡ measuredBy (arraysMeasure s) (arraysFrom s here)
+  malformed-measured e = ap (measuredBy (arraysMeasure s)) (sym (array-malformed e))
+
+  module _ (b : ℕ) (c : ListCursor) (e : r ≡ A.Array b c) where
+    pub entered : (arraysStepped s (A.Array b c) ≡ arraysFrom s here) × Entered s here b c
+    entered = subst (λ (r : ArrayStep). (arraysStepped s r ≡ arraysFrom s here) × ArrayStepFits s here r) e f
+
+    pub unread-measured : refuse 21 ≡ measuredBy (unitsMeasure s) (unitsFrom s c) → refuse 21 ≡ measuredBy (arraysMeasure s) (arraysFrom s here)
+    unread-measured h = arrays-unread s b (c .«unit_type») (unitsFrom s c) (arraysFrom s c) h ∙ ap (measuredBy (arraysMeasure s)) (entered .0)
+
+    module _ (m : Measure) (h : accept m ≡ measuredBy (unitsMeasure s) (unitsFrom s c)) (w : (c .at + m .len ≤ c .end) × (c .at + m .count ≤ c .end)) where
+      pub units-few : m .len < 2 ^ 32
+      units-few = let g = entered .1 .fits in omega (arith, w .0, g .within, g .lent)
+
+      pub array-measured : arrayMeasured s (R.Array (arrayBy (c .«unit_type») m) c) ≡ measuredBy (arraysMeasure s) (arraysFrom s here)
+      array-measured = arrays-more s b (c .«unit_type») m (unitsFrom s c) (arraysFrom s c) h ∙ ap (measuredBy (arraysMeasure s)) (entered .0)
+
+      pub array-takes : Takes s here (arrayBy (c .«unit_type») m) c
+      array-takes =
+          let g = entered .1 in
+          let k = count-small (holdsOne (c .«unit_type»)) in
+          record {
+            one = refl;
+            len = omega (arith, w .0, g .first);
+            on = omega (arith, g .first, g .fits .before);
+            fits = g .fits;
+          }
+
+-- the walk from c has come to `here` and has measured v
+pub record MeasuringArrays (s : List ℕ) (c here : ListCursor) (v : Measure) : Type 0 where
+  pub fits : Fits s here
+  pub len : v .len ≤ here .end
+  pub count : v .count ≤ here .end
+  pub whole : behind v (measuredBy (arraysMeasure s) (arraysFrom s here)) ≡ measuredBy (arraysMeasure s) (arraysFrom s c)
+
+module _ (s : List ℕ) (c : ListCursor) where
+  pub arrays-start : Fits s c → MeasuringArrays s c c nothing
+  arrays-start h = record { fits = h; len = omega arith; count = omega arith; whole = behind-start (measuredBy (arraysMeasure s) (arraysFrom s c)) }
+
+  module _ (here : ListCursor) (v : Measure) (i : MeasuringArrays s c here v) (r : ArrayMeasured) (f : (arrayMeasured s r ≡ measuredBy (arraysMeasure s) (arraysFrom s here)) × ArrayWithin s here r) where
+    pub arrays-ended : r ≡ R.End → (accept v ≡ measuredBy (arraysMeasure s) (arraysFrom s c)) × ((v .len ≤ length s) × (v .count ≤ length s))
+    arrays-ended e = (
+      behind-end v ∙ ap (behind v) (sym (ap (arrayMeasured s) e) ∙ f .0) ∙ i .whole,
+      (omega (arith, i .len, i .fits .within), omega (arith, i .count, i .fits .within)),
+    )
+
+    pub arrays-refused : r ≡ R.Malformed → refuse 21 ≡ measuredBy (arraysMeasure s) (arraysFrom s c)
+    arrays-refused e = ap (behind v) (sym (ap (arrayMeasured s) e) ∙ f .0) ∙ i .whole
+
+    module _ (m : Measure) (d : ListCursor) (e : r ≡ R.Array m d) where
+      took : (arrayMeasured s (R.Array m d) ≡ measuredBy (arraysMeasure s) (arraysFrom s here)) × Takes s here m d
+      took = subst (λ (r : ArrayMeasured). (arrayMeasured s r ≡ measuredBy (arraysMeasure s) (arraysFrom s here)) × ArrayWithin s here r) e f
+
+      pub arrays-add : (v .count + m .count < 2 ^ 32) × (v .len + m .len < 2 ^ 32)
+      arrays-add =
+          let t = took .1 in
+          let g = t .fits in
+          (omega (arith, i .count, t .one, t .on, g .within, g .lent), omega (arith, i .len, t .len, g .within, g .lent))
+
+      pub arrays-less : length s - d .end < length s - here .end
+      arrays-less = let t = took .1 in omega (arith, t .on, t .fits .within)
+
+      pub arrays-again : MeasuringArrays s c d (joined v m)
+      arrays-again =
+          let t = took .1 in
+          record {
+            fits = t .fits;
+            len = omega (arith, i .len, t .len);
+            count = omega (arith, i .count, t .one, t .on);
+            whole = behind-more v m (measuredBy (arraysMeasure s) (arraysFrom s d)) ∙ ap (behind v) (took .0) ∙ i .whole;
+          }

@@ -1,0 +1,299 @@
+-- Laws of storing what is found, one thing behind the other: what is stored and what is left make the whole.
+use Prim.Native.Nat.{ℕ, _+_, _-_, _*_, _≤_, _<_}
+use mathlib.Core.Path.{_≡_, refl, sym, ap, _∙_}
+use mathlib.Core.Bool.{true, false}
+use mathlib.Core.Logic.{⊎-elim}
+use mathlib.Core.List.{List, [], _∷_, _++_}
+use native.Mathlib.Omega.{arith}
+use native.Mathlib.Numerals.{add-one}
+use lib.ListN.{length, set, length-append, length-set}
+use lib.Seq.{sets, length-sets}
+use types.Run.{OneOf}
+use denote.Enum.Declared.{tagOf}
+use Rattle.error.specs.Outcome.{Outcome, accept, refuse, andThen}
+use Rattle.boxes.specs.Bytes.{toBe, toChunk}
+use Rattle.boxes.specs.Parts.{held}
+use Rattle.boxes.specs.Walk.{more}
+use Rattle.boxes.specs.declared.Span.{Span}
+use Rattle.boxes.proofs.Sets.{sets-append}
+use Rattle.unit_list.specs.UnitList.{Array, largestType, encodeUnits, heldArray}
+use Rattle.unit_list.specs.Walk.{unitsFrom, unitsStepped, UnitStepFits, arraysFrom, arraysStepped, ArrayStepFits, Fits}
+use Rattle.unit_list.specs.declared.ListCursor.{ListCursor}
+use Rattle.unit_list.specs.declared.ListStep.{ListStep}
+use Rattle.unit_list.specs.declared.ListStep.the-variants as L
+use Rattle.unit_list.specs.declared.ArrayStep.{ArrayStep}
+use Rattle.unit_list.specs.declared.ArrayStep.the-variants as A
+use Rattle.unit_list.proofs.ListStep as list-step
+use Rattle.unit_list.proofs.ArrayStep as array-step
+use Rattle.unit_list.proofs.Encode.{length-toChunk}
+use Rattle.unit_list.proofs.Accepted.{held-long}
+use Rattle.record_arrays.specs.Read.{holdsOne}
+use Rattle.record_arrays.specs.Write.{arrayBytes, arraysBytes}
+use Rattle.record_arrays_write.specs.Inside.{unitsMeasure, measuredBy, Puts, bytesOf, unitsInRecord, countBytes, arrayInRecord, arraysInRecord}
+use Rattle.record_arrays_write.specs.declared.measure.Measure.{Measure}
+use Rattle.record_arrays_write.proofs.Measures.{ahead, units-next, entered, arrayWith}
+
+-- what is to be put, once it is known what was found
+pub put-room : {A : Type 0} (f : A → List ℕ) (o : Outcome A) (out : List ℕ) (to : ℕ) → Puts f o out to → to + length (bytesOf f o) ≤ length out
+put-room f o out to h = rw (h .found) (h .room)
+
+pub puts-found : {A : Type 0} (f : A → List ℕ) (o : Outcome A) (out : List ℕ) (to : ℕ) (a : A) → o ≡ accept a → to + length (f a) ≤ length out → Puts f o out to
+puts-found f o out to a e h = record { it = a; found = e; room = h }
+
+module _ {A : Type 0} (f : List A → List ℕ) (out₀ : List ℕ) (to₀ : ℕ) (o₀ : Outcome (List A)) where
+  -- the walk has come to where o is left, to be stored from place `to` of the output on
+  pub record Putting (o : Outcome (List A)) (out : List ℕ) (to : ℕ) : Type 0 where
+    pub puts : Puts f o out to
+    pub same : length out ≡ length out₀
+    pub place : to + length (bytesOf f o) ≡ to₀ + length (bytesOf f o₀)
+    pub whole : sets out to (bytesOf f o) ≡ sets out₀ to₀ (bytesOf f o₀)
+
+  pub putting-start : Puts f o₀ out₀ to₀ → Putting o₀ out₀ to₀
+  putting-start h = record { puts = h; same = refl; place = refl; whole = refl }
+
+  module _ (o : Outcome (List A)) (out : List ℕ) (to : ℕ) (i : Putting o out to) where
+    pub putting-never : (n : ℕ) → o ≡ refuse n → ⊥
+    putting-never n e = let f = i .puts .found in let z : _≡_ {A = ℕ} 0 1 = cc in omega arith
+
+    pub putting-end : f [] ≡ [] → o ≡ accept [] → (to ≡ to₀ + length (bytesOf f o₀)) × (out ≡ sets out₀ to₀ (bytesOf f o₀))
+    putting-end none e =
+        let b : bytesOf f o ≡ [] = rw (e, none) in
+        let l : length (bytesOf f o) ≡ 0 = rw b in
+        (omega (arith, i .place), ap (λ (x : List ℕ). sets out to x) (sym b) ∙ i .whole)
+
+    -- the first of what is left, and its bytes
+    module _ (a : A) (bytes : List ℕ) (step : (xs : List A) → f (a ∷ xs) ≡ bytes ++ f xs) where
+      first : (xs : List A) → o ≡ accept (a ∷ xs) → to + (length bytes + length (f xs)) ≤ length out
+      first xs e =
+          let g = i .puts .found in
+          let u : i .puts .it ≡ a ∷ xs = cc in
+          let h = i .puts .room in
+          let l = ap (λ (x : List A). length (f x)) u ∙ ap length (step xs) ∙ length-append bytes (f xs) in
+          omega arith
+
+      pub putting-room : (rest : Outcome (List A)) → o ≡ more a rest → to + length bytes ≤ length out
+      putting-room (accept xs) e = let h = first xs e in omega arith
+      putting-room (refuse n) e = absurd (putting-never n e)
+
+      pub putting-again : (rest : Outcome (List A)) → o ≡ more a rest → (d : List ℕ) → d ≡ sets out to bytes → (next : ℕ) → next ≡ to + length bytes → Putting rest d next
+      putting-again (refuse n) e d g next k = absurd (putting-never n e)
+      putting-again (accept xs) e d g next k =
+          let l : length d ≡ length out = ap length g ∙ length-sets out to bytes in
+          let b : bytesOf f o ≡ bytes ++ f xs = ap (bytesOf f) e ∙ step xs in
+          let m = ap length b ∙ length-append bytes (f xs) in
+          let r = first xs e in
+          record {
+            puts = record { it = xs; found = refl; room = omega arith };
+            same = l ∙ i .same;
+            place = omega (arith, i .place);
+            whole = rw (g, k) (sets-append out to bytes (f xs)) ∙ ap (λ (x : List ℕ). sets out to x) (sym b) ∙ i .whole;
+          }
+
+-- ---- the units of an array
+
+units-nil : (s : List ℕ) → unitsInRecord s [] ≡ []
+unfolding encodeUnits
+units-nil s = refl
+
+units-first : (s : List ℕ) (a : Span) (us : List Span) → unitsInRecord s (a ∷ us) ≡ toChunk 2 (held s a) ++ unitsInRecord s us
+unfolding encodeUnits
+units-first s a us = refl
+
+-- the walk from c has come to `here`
+pub record PuttingUnits (s : List ℕ) (c : ListCursor) (out₀ : List ℕ) (to₀ : ℕ) (here : ListCursor) (out : List ℕ) (to : ℕ) : Type 0 where
+  pub fits : Fits s here
+  pub putting : Putting (unitsInRecord s) out₀ to₀ (unitsFrom s c) (unitsFrom s here) out to
+
+module _ (s : List ℕ) (c : ListCursor) (out₀ : List ℕ) (to₀ : ℕ) where
+  pub units-start : Fits s c → Puts (unitsInRecord s) (unitsFrom s c) out₀ to₀ → PuttingUnits s c out₀ to₀ c out₀ to₀
+  units-start h p = record { fits = h; putting = putting-start (unitsInRecord s) out₀ to₀ (unitsFrom s c) p }
+
+  module _ (here : ListCursor) (out : List ℕ) (to : ℕ) (i : PuttingUnits s c out₀ to₀ here out to) (r : ListStep)
+      (f : (unitsStepped s r ≡ unitsFrom s here) × UnitStepFits s here r) where
+    pub units-done : OneOf (1 ∷ 2 ∷ []) (tagOf list-step.the-type r)
+        → (to ≡ to₀ + length (bytesOf (unitsInRecord s) (unitsFrom s c))) × (out ≡ sets out₀ to₀ (bytesOf (unitsInRecord s) (unitsFrom s c)))
+    units-done = go r f
+      where
+        go : (r : ListStep) → (unitsStepped s r ≡ unitsFrom s here) × UnitStepFits s here r → OneOf (1 ∷ 2 ∷ []) (tagOf list-step.the-type r)
+            → (to ≡ to₀ + length (bytesOf (unitsInRecord s) (unitsFrom s c))) × (out ≡ sets out₀ to₀ (bytesOf (unitsInRecord s) (unitsFrom s c)))
+        go (L.Unit a next) f k = absurd (⊎-elim (λ h. omega arith) (λ h. omega arith) k)
+        go L.End f k = putting-end (unitsInRecord s) out₀ to₀ (unitsFrom s c) (unitsFrom s here) out to (i .putting) (units-nil s) (sym (f .0))
+        go L.Malformed f k = absurd (putting-never (unitsInRecord s) out₀ to₀ (unitsFrom s c) (unitsFrom s here) out to (i .putting) 21 (sym (f .0)))
+
+    module _ (a : Span) (next : ListCursor) (e : r ≡ L.Unit a next) where
+      unit-long : length (toChunk 2 (held s a)) ≡ 2 + a .len
+      unit-long = let l = held-long s a (ahead s here r f a next e .inside) in length-toChunk 2 (held s a) ∙ rw l
+
+      pub unit-room : (a .start + a .len ≤ length s) × (to + 2 + a .len ≤ length out)
+      unit-room =
+          let h = putting-room (unitsInRecord s) out₀ to₀ (unitsFrom s c) (unitsFrom s here) out to (i .putting) a (toChunk 2 (held s a)) (units-first s a) (unitsFrom s next) (units-next s here r f a next e) in
+          (ahead s here r f a next e .inside, omega (arith, unit-long))
+
+      pub units-less : length s - next .at < length s - here .at
+      units-less = ahead s here r f a next e .less
+
+      pub units-again : (d : List ℕ) → d ≡ sets out to (toChunk 2 (held s a)) → PuttingUnits s c out₀ to₀ next d (to + 2 + a .len)
+      units-again d g =
+          record {
+            fits = ahead s here r f a next e .fits;
+            putting =
+                putting-again (unitsInRecord s) out₀ to₀ (unitsFrom s c) (unitsFrom s here) out to (i .putting) a (toChunk 2 (held s a)) (units-first s a)
+                (unitsFrom s next) (units-next s here r f a next e) d g (to + 2 + a .len) (omega (arith, unit-long));
+          }
+
+-- ---- one array
+
+-- a byte and two runs, stored one behind the other
+pub three-stored : (d : List ℕ) (to x : ℕ) (xs ys : List ℕ) → sets (sets (set d to x) (to + 1) xs) (to + 1 + length xs) ys ≡ sets d to (x ∷ (xs ++ ys))
+three-stored d to x xs ys = rw (add-one to) (sets-append (set d to x) _ xs ys)
+
+module _ (s : List ℕ) (complete t : ℕ) (us : List Span) where
+  pub array-parts : arrayInRecord s complete t us ≡ (complete * 128 + t) ∷ (countBytes s t us ++ unitsInRecord s us)
+  unfolding arrayBytes
+  array-parts = refl
+
+  pub array-long : length (arrayInRecord s complete t us) ≡ 1 + length (countBytes s t us) + length (unitsInRecord s us)
+  array-long = ap length array-parts ∙ (let l = length-append (countBytes s t us) (unitsInRecord s us) in omega arith)
+
+-- the count: none, or two bytes
+module _ (s : List ℕ) (t : ℕ) (o : Outcome (List Span)) where
+  pub count-none : holdsOne t ≡ true → bytesOf (countBytes s t) o ≡ []
+  count-none e = go o
+    where
+      go : (o : Outcome (List Span)) → bytesOf (countBytes s t) o ≡ []
+      go (accept us) = rw e
+      go (refuse n) = refl
+
+  pub count-two : holdsOne t ≡ false → (m : Measure) → accept m ≡ measuredBy (unitsMeasure s) o → bytesOf (countBytes s t) o ≡ toBe 2 (m .count)
+  count-two e m = go o
+    where
+      go : (o : Outcome (List Span)) → accept m ≡ measuredBy (unitsMeasure s) o → bytesOf (countBytes s t) o ≡ toBe 2 (m .count)
+      go (accept us) h = let y : m ≡ unitsMeasure s us = cc in rw (e, y)
+      go (refuse n) h = absurd (let z : _≡_ {A = ℕ} 0 1 = cc in omega arith)
+
+  pub count-never : (out : List ℕ) (to n : ℕ) → Puts (countBytes s t) o out to → refuse n ≡ measuredBy (unitsMeasure s) o → ⊥
+  count-never out to n p h = go o (p .found) h
+    where
+      go : (o : Outcome (List Span)) → o ≡ accept (p .it) → refuse n ≡ measuredBy (unitsMeasure s) o → ⊥
+      go (accept us) e h = let z : _≡_ {A = ℕ} 0 1 = cc in omega arith
+      go (refuse k) e h = let z : _≡_ {A = ℕ} 0 1 = cc in omega arith
+
+-- what the three stores of an array need and leave
+module _ (s : List ℕ) (complete t : ℕ) (o : Outcome (List Span)) (out : List ℕ) (to : ℕ) (h : Puts (arrayInRecord s complete t) o out to) where
+  module _ (b : ℕ) (is : b ≡ complete * 128 + t) (d₁ : List ℕ) (e₁ : d₁ ≡ set out to b) where
+    one-long : length d₁ ≡ length out
+    one-long = ap length e₁ ∙ length-set out to _
+
+    pub count-puts : Puts (countBytes s t) o d₁ (to + 1)
+    count-puts = let l = array-long s complete t (h .it) in let k = one-long in record { it = h .it; found = h .found; room = omega (arith, h .room) }
+
+    module _ (d₂ : List ℕ) (at : ℕ) (e₂ : (at ≡ to + 1 + length (bytesOf (countBytes s t) o)) × (d₂ ≡ sets d₁ (to + 1) (bytesOf (countBytes s t) o))) where
+      two-long : length d₂ ≡ length out
+      two-long = ap length (e₂ .1) ∙ length-sets d₁ (to + 1) (bytesOf (countBytes s t) o) ∙ one-long
+
+      count-found : bytesOf (countBytes s t) o ≡ countBytes s t (h .it)
+      count-found = ap (bytesOf (countBytes s t)) (h .found)
+
+      pub units-puts : Puts (unitsInRecord s) o d₂ at
+      units-puts =
+          let l = array-long s complete t (h .it) in
+          let k = two-long in
+          let m = ap length count-found in
+          record { it = h .it; found = h .found; room = omega (arith, h .room, e₂ .0) }
+
+      pub array-stored : (d₃ : List ℕ) (end : ℕ) → (end ≡ at + length (bytesOf (unitsInRecord s) o)) × (d₃ ≡ sets d₂ at (bytesOf (unitsInRecord s) o))
+          → (end ≡ to + length (bytesOf (arrayInRecord s complete t) o)) × (d₃ ≡ sets out to (bytesOf (arrayInRecord s complete t) o))
+      array-stored d₃ end e₃ =
+          let us = h .it in
+          let u : bytesOf (unitsInRecord s) o ≡ unitsInRecord s us = ap (bytesOf (unitsInRecord s)) (h .found) in
+          let w : bytesOf (arrayInRecord s complete t) o ≡ arrayInRecord s complete t us = ap (bytesOf (arrayInRecord s complete t)) (h .found) in
+          let l = array-long s complete t us in
+          let m = ap length count-found in
+          let n = ap length u in
+          let k = ap length w in (
+            omega (arith, e₂ .0, e₃ .0),
+            e₃ .1 ∙ rw (e₂ .1, e₂ .0, e₁, is, u, w, count-found, array-parts s complete t us) (three-stored out to (complete * 128 + t) (countBytes s t us) (unitsInRecord s us)),
+          )
+
+-- ---- arrays
+
+arrays-nil : (s : List ℕ) → arraysInRecord s [] ≡ []
+unfolding arraysBytes
+arrays-nil s = refl
+
+arrays-first : (s : List ℕ) (a : Array Span) (xs : List (Array Span)) → arraysInRecord s (a ∷ xs) ≡ arrayBytes (heldArray s a) ++ arraysInRecord s xs
+unfolding arraysBytes
+arrays-first s a xs = refl
+
+-- the walk from c₀ has come to `here`
+pub record PuttingArrays (s : List ℕ) (c₀ : ListCursor) (out₀ : List ℕ) (to₀ : ℕ) (here : ListCursor) (out : List ℕ) (to : ℕ) : Type 0 where
+  pub fits : Fits s here
+  pub putting : Putting (arraysInRecord s) out₀ to₀ (arraysFrom s c₀) (arraysFrom s here) out to
+
+module _ (s : List ℕ) (c₀ : ListCursor) (out₀ : List ℕ) (to₀ : ℕ) where
+  pub arrays-start : Fits s c₀ × Puts (arraysInRecord s) (arraysFrom s c₀) out₀ to₀ → PuttingArrays s c₀ out₀ to₀ c₀ out₀ to₀
+  arrays-start h = record { fits = h .0; putting = putting-start (arraysInRecord s) out₀ to₀ (arraysFrom s c₀) (h .1) }
+
+  module _ (here : ListCursor) (out : List ℕ) (to : ℕ) (i : PuttingArrays s c₀ out₀ to₀ here out to) (r : ArrayStep)
+      (f : (arraysStepped s r ≡ arraysFrom s here) × ArrayStepFits s here r) where
+    pub arrays-done : OneOf (1 ∷ 2 ∷ []) (tagOf array-step.the-type r) → out ≡ sets out₀ to₀ (bytesOf (arraysInRecord s) (arraysFrom s c₀))
+    arrays-done = go r f
+      where
+        go : (r : ArrayStep) → (arraysStepped s r ≡ arraysFrom s here) × ArrayStepFits s here r → OneOf (1 ∷ 2 ∷ []) (tagOf array-step.the-type r)
+            → out ≡ sets out₀ to₀ (bytesOf (arraysInRecord s) (arraysFrom s c₀))
+        go (A.Array b c) f k = absurd (⊎-elim (λ h. omega arith) (λ h. omega arith) k)
+        go A.End f k = putting-end (arraysInRecord s) out₀ to₀ (arraysFrom s c₀) (arraysFrom s here) out to (i .putting) (arrays-nil s) (sym (f .0)) .1
+        go A.Malformed f k = absurd (putting-never (arraysInRecord s) out₀ to₀ (arraysFrom s c₀) (arraysFrom s here) out to (i .putting) 21 (sym (f .0)))
+
+    module _ (b : ℕ) (c : ListCursor) (e : r ≡ A.Array b c) where
+      -- the units of this array, since all are found
+      pub record HasUnits : Type 0 where
+        pub units : List Span
+        pub found : unitsFrom s c ≡ accept units
+        pub next : arraysFrom s here ≡ more (arrayWith s b (c .«unit_type») units) (arraysFrom s c)
+
+      has-units : HasUnits
+      has-units = go (unitsFrom s c) refl
+        where
+          go : (u : Outcome (List Span)) → unitsFrom s c ≡ u → HasUnits
+          go (accept us) w =
+              record {
+                units = us;
+                found = w;
+                next = sym (entered s here r f b c e .0)
+                    ∙ ap (λ (o : Outcome (List Span)). andThen o (λ us. more (arrayWith s b (c .«unit_type») us) (arraysFrom s c))) w;
+              }
+          go (refuse n) w =
+              absurd (putting-never (arraysInRecord s) out₀ to₀ (arraysFrom s c₀) (arraysFrom s here) out to (i .putting) n
+              (sym (entered s here r f b c e .0)
+              ∙ ap (λ (o : Outcome (List Span)). andThen o (λ us. more (arrayWith s b (c .«unit_type») us) (arraysFrom s c))) w))
+
+      pub array-needs : (b ≤ 1) × (c .«unit_type» ≤ largestType) × Fits s c × Puts (arrayInRecord s b (c .«unit_type»)) (unitsFrom s c) out to
+      array-needs =
+          let g = entered s here r f b c e .1 in
+          let u = has-units in
+          let a = arrayWith s b (c .«unit_type») (u .units) in (
+            g .complete,
+            g .unitType,
+            g .fits,
+            puts-found (arrayInRecord s b (c .«unit_type»)) (unitsFrom s c) out to (u .units) (u .found)
+                (putting-room (arraysInRecord s) out₀ to₀ (arraysFrom s c₀) (arraysFrom s here) out to (i .putting) a (arrayBytes (heldArray s a)) (arrays-first s a) (arraysFrom s c) (u .next)),
+          )
+
+      pub arrays-less : length s - c .end < length s - here .end
+      arrays-less = let g = entered s here r f b c e .1 in omega (arith, g .first, g .fits .before, g .fits .within)
+
+      pub arrays-again : (next : ℕ) (d : List ℕ)
+          → (next ≡ to + length (bytesOf (arrayInRecord s b (c .«unit_type»)) (unitsFrom s c))) × (d ≡ sets out to (bytesOf (arrayInRecord s b (c .«unit_type»)) (unitsFrom s c)))
+          → PuttingArrays s c₀ out₀ to₀ c d next
+      arrays-again next d h =
+          let g = entered s here r f b c e .1 in
+          let u = has-units in
+          let a = arrayWith s b (c .«unit_type») (u .units) in
+          let w : bytesOf (arrayInRecord s b (c .«unit_type»)) (unitsFrom s c) ≡ arrayBytes (heldArray s a) = ap (bytesOf (arrayInRecord s b (c .«unit_type»))) (u .found) in
+          record {
+            fits = g .fits;
+            putting =
+                putting-again (arraysInRecord s) out₀ to₀ (arraysFrom s c₀) (arraysFrom s here) out to (i .putting) a (arrayBytes (heldArray s a)) (arrays-first s a)
+                (arraysFrom s c) (u .next) d (h .1 ∙ ap (λ (x : List ℕ). sets out to x) w) next (h .0 ∙ ap (λ (x : List ℕ). to + length x) w);
+          }

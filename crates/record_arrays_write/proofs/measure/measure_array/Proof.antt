@@ -1,0 +1,93 @@
+-- One array: its units are measured behind its head.
+use mathlib.Core.Path.{sym, ap, _∙_, subst}
+use borrow.Author.Needs.{needs}
+use Rattle.record_arrays_write.specs.Inside.{measureOf, UnitsWithin}
+use Rattle.record_arrays_write.proofs.Measures.{entered, end-measured, malformed-measured, unread-measured, units-few, array-measured, array-takes}
+use Rattle.record_arrays_write.proofs.measure.measure_array.Statement.{statement}
+use Rattle.record_arrays_write.proofs.measure.measure_array.Tie as tie
+
+array-step-requires : tie.Need-array-step-requires
+array-step-requires c κs = search needs
+
+enum-known-first : tie.Need-enum-known-first
+enum-known-first c = search needs
+
+measure-units-requires : tie.Need-measure-units-requires
+measure-units-requires c κs =
+    let t = c .before .before .before .array-step in
+    let a = c .before .before .before .before .before .args in
+    let g = c .before .first .given in
+    entered (a .list .now) (a .c) (t .result) (t .ensures) (g .0 .0) (g .0 .1 .0) (g .1) .1 .fits
+
+enum-known-units : tie.Need-enum-known-units
+enum-known-units c = search needs
+
+enum-told : tie.Need-enum-told
+enum-told c = search needs
+
+returns : tie.Need-returns
+returns c =
+    let t = c .before .before .before .before .before .before .array-step in
+    let a = c .before .before .before .before .before .before .before .before .args in
+    let g = c .before .before .before .before .first .given in
+    let m = c .before .before .measure-units in
+    (unread-measured (a .list .now) (a .c) (t .result) (t .ensures) (g .0 .0) (g .0 .1 .0) (g .1) (sym (ap measureOf (c .enum-told .given .1)) ∙ m .ensures .0), tt)
+
+of-array-requires : tie.Need-of-array-requires
+of-array-requires c κs =
+    let t = c .before .before .before .before .before .before .before .array-step in
+    let a = c .before .before .before .before .before .before .before .before .before .args in
+    let g = c .before .before .before .before .before .first .given in
+    let m = c .before .before .before .measure-units in
+    let u = c .before .units .given in
+    units-few (a .list .now) (a .c) (t .result) (t .ensures) (g .0 .0) (g .0 .1 .0) (g .1) (u .0 .0)
+    (sym (ap measureOf (u .1)) ∙ m .ensures .0) (subst (UnitsWithin (g .0 .1 .0)) (u .1) (m .ensures .1))
+
+enum-told-2 : tie.Need-enum-told-2
+enum-told-2 c = search needs
+
+enum-told-3 : tie.Need-enum-told-3
+enum-told-3 c = search needs
+
+returns-2 : tie.Need-returns-2
+returns-2 c =
+    let t = c .before .before .before .before .before .before .before .before .array-step in
+    let a = c .before .before .before .before .before .before .before .before .before .before .args in
+    let g = c .before .before .before .before .before .before .first .given in
+    let m = c .before .before .before .before .measure-units in
+    let u = c .before .before .units .given in
+    let e = sym (ap measureOf (u .1)) ∙ m .ensures .0 in
+    let w = subst (UnitsWithin (g .0 .1 .0)) (u .1) (m .ensures .1) in
+    rw (c .of-array .ensures) (
+      array-measured (a .list .now) (a .c) (t .result) (t .ensures) (g .0 .0) (g .0 .1 .0) (g .1) (u .0 .0) e w,
+      array-takes (a .list .now) (a .c) (t .result) (t .ensures) (g .0 .0) (g .0 .1 .0) (g .1) (u .0 .0) e w,
+    )
+
+returns-3 : tie.Need-returns-3
+returns-3 c =
+    let t = c .before .before .array-step in
+    let a = c .before .before .before .before .args in
+    (end-measured (a .list .now) (a .c) (t .result) (t .ensures) (c .enum-told2 .given .1), tt)
+
+returns-4 : tie.Need-returns-4
+returns-4 c =
+    let t = c .before .before .array-step in
+    let a = c .before .before .before .before .args in
+    (malformed-measured (a .list .now) (a .c) (t .result) (t .ensures) (c .enum-told3 .given .1), tt)
+
+pub measure-array-spec : {M : Type 1} → statement M
+measure-array-spec =
+    tie.close
+    (tie.spec
+    array-step-requires
+    enum-known-first
+    measure-units-requires
+    enum-known-units
+    enum-told
+    returns
+    of-array-requires
+    enum-told-2
+    enum-told-3
+    returns-2
+    returns-3
+    returns-4)

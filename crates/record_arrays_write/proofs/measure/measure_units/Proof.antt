@@ -1,0 +1,91 @@
+-- The loop's invariant: the units measured and those left make the whole.
+use Prim.Native.Nat.{_-_}
+use borrow.Author.Needs.{needs}
+use lib.ListN.{length}
+use Rattle.record_arrays_write.proofs.Measures.{MeasuringUnits, ahead, units-start, units-ended, units-refused, unit-small, units-add, units-again}
+use Rattle.record_arrays_write.proofs.measure.measure_units.Statement.{statement}
+use Rattle.record_arrays_write.proofs.measure.measure_units.Tie as tie
+
+abbrev Inv-loop : tie.InvT-loop
+Inv-loop list c sum₀ here sum = MeasuringUnits list c here sum
+
+abbrev μ-loop : tie.MeasureT-loop
+μ-loop list c sum₀ here sum = length list - here .at
+
+loop-holds : tie.Need-loop-holds Inv-loop μ-loop
+loop-holds c = let b = c .before in units-start (b .args .list .now) (b .args .c) (b .pre)
+
+unit-step-requires : tie.Need-unit-step-requires Inv-loop μ-loop
+unit-step-requires c κs = c .loop .inv .fits
+
+enum-known-a : tie.Need-enum-known-a Inv-loop μ-loop
+enum-known-a c = search needs
+
+of-unit-requires : tie.Need-of-unit-requires Inv-loop μ-loop
+of-unit-requires c κs =
+    let t = c .before .before .before .unit-step in
+    let l = c .before .before .before .before .loop in
+    let a = c .before .before .before .before .before .before .args in
+    let g = c .before .a .given in
+    unit-small (a .list .now) (a .c) (l .here) (l .sum) (l .inv) (t .result) (t .ensures) (g .0 .0) (g .0 .1 .0) (g .1)
+
+add-requires : tie.Need-add-requires Inv-loop μ-loop
+add-requires c κs =
+    let t = c .before .before .before .before .unit-step in
+    let l = c .before .before .before .before .before .loop in
+    let a = c .before .before .before .before .before .before .before .args in
+    let g = c .before .before .a .given in
+    rw (c .of-unit .ensures) (units-add (a .list .now) (a .c) (l .here) (l .sum) (l .inv) (t .result) (t .ensures) (g .0 .0) (g .0 .1 .0) (g .1))
+
+loop-less : tie.Need-loop-less Inv-loop μ-loop
+loop-less c =
+    let t = c .before .before .before .before .before .unit-step in
+    let g = c .before .before .before .a .given in
+    ahead (c .before .before .before .before .before .before .before .before .args .list .now) (c .before .before .before .before .before .before .loop .here) (t .result) (t .ensures) (g .0 .0) (g .0 .1 .0) (g .1) .less
+
+loop-again : tie.Need-loop-again Inv-loop μ-loop
+loop-again c =
+    let t = c .before .before .before .before .before .unit-step in
+    let l = c .before .before .before .before .before .before .loop in
+    let a = c .before .before .before .before .before .before .before .before .args in
+    let g = c .before .before .before .a .given in
+    rw (c .add .ensures, c .before .of-unit .ensures)
+    (units-again (a .list .now) (a .c) (l .here) (l .sum) (l .inv) (t .result) (t .ensures) (g .0 .0) (g .0 .1 .0) (g .1))
+
+enum-told : tie.Need-enum-told Inv-loop μ-loop
+enum-told c = search needs
+
+returns : tie.Need-returns Inv-loop μ-loop
+returns c =
+    let t = c .before .before .unit-step in
+    let l = c .before .before .before .loop in
+    let a = c .before .before .before .before .before .args in
+    units-ended (a .list .now) (a .c) (l .here) (l .sum) (l .inv) (t .result) (t .ensures) (c .enum-told .given .1)
+
+enum-told-2 : tie.Need-enum-told-2 Inv-loop μ-loop
+enum-told-2 c = search needs
+
+returns-2 : tie.Need-returns-2 Inv-loop μ-loop
+returns-2 c =
+    let t = c .before .before .unit-step in
+    let l = c .before .before .before .loop in
+    let a = c .before .before .before .before .before .args in
+    (units-refused (a .list .now) (a .c) (l .here) (l .sum) (l .inv) (t .result) (t .ensures) (c .enum-told2 .given .1), tt)
+
+pub measure-units-spec : {M : Type 1} → statement M
+measure-units-spec =
+    tie.close
+    (tie.spec
+    Inv-loop
+    μ-loop
+    loop-holds
+    unit-step-requires
+    enum-known-a
+    of-unit-requires
+    add-requires
+    loop-less
+    loop-again
+    enum-told
+    returns
+    enum-told-2
+    returns-2)

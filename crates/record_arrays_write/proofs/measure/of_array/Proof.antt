@@ -1,0 +1,23 @@
+-- An array: its first byte, its count, its units.
+use borrow.Author.Needs.{needs}
+use Rattle.record_arrays_write.proofs.measure.of_array.Statement.{statement}
+use Rattle.record_arrays_write.proofs.measure.of_array.Tie as tie
+
+count-len-requires : tie.Need-count-len-requires
+count-len-requires c κs = search needs
+
+add-len : tie.Need-add-len
+add-len c = search needs
+
+add-len-2 : tie.Need-add-len-2
+add-len-2 c = search needs
+
+array-fits-requires : tie.Need-array-fits-requires
+array-fits-requires c κs = search needs
+
+returns : tie.Need-returns
+returns c = rw (c .before .before .count-len .ensures .0, c .array-fits .ensures)
+
+pub of-array-spec : {M : Type 1} → statement M
+of-array-spec =
+    tie.close (tie.spec count-len-requires add-len add-len-2 array-fits-requires returns)

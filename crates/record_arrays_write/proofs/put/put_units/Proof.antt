@@ -1,0 +1,93 @@
+-- The loop's invariant: the units stored and those left make the whole.
+use Prim.Native.Nat.{_-_}
+use native.Mathlib.Omega.{arith}
+use borrow.Author.Needs.{needs}
+use lib.ListN.{length}
+use Rattle.record_arrays_write.proofs.Stores.{PuttingUnits, units-start, units-done, unit-room, units-less, units-again}
+use Rattle.record_arrays_write.proofs.put.put_units.Statement.{statement}
+use Rattle.record_arrays_write.proofs.put.put_units.Tie as tie
+
+abbrev Inv-loop : tie.InvT-loop
+Inv-loop list out₀ to c at₀ out here at = PuttingUnits list c out₀ to here out at
+
+abbrev μ-loop : tie.MeasureT-loop
+μ-loop list out₀ to c at₀ out here at = length list - here .at
+
+loop-holds : tie.Need-loop-holds Inv-loop μ-loop
+loop-holds c = let b = c .before .before in units-start (b .args .list .now) (b .args .c) (b .args .out .now) (b .args .to) (b .pre .0) (b .pre .1)
+
+unit-step-requires : tie.Need-unit-step-requires Inv-loop μ-loop
+unit-step-requires c κs = c .loop .inv .fits
+
+enum-known-a : tie.Need-enum-known-a Inv-loop μ-loop
+enum-known-a c = search needs
+
+same-length : tie.Need-same-length Inv-loop μ-loop
+same-length c = c .before .before .loop .inv .putting .same
+
+returns : tie.Need-returns Inv-loop μ-loop
+returns c =
+    let t = c .before .unit-step in
+    let l = c .before .before .loop in
+    let a = c .before .before .before .before .before .args in
+    units-done (a .list .now) (a .c) (a .out .now) (a .to) (l .here) (l .out) (l .at) (l .inv) (t .result) (t .ensures) (c .match .keys2)
+
+put-unit-requires : tie.Need-put-unit-requires Inv-loop μ-loop
+put-unit-requires c κs =
+    let t = c .before .before .before .before .unit-step in
+    let l = c .before .before .before .before .before .loop in
+    let a = c .before .before .before .before .before .before .before .before .args in
+    let g = c .before .before .a .given in
+    let h = unit-room (a .list .now) (a .c) (a .out .now) (a .to) (l .here) (l .out) (l .at) (l .inv) (t .result) (t .ensures) (g .0 .0) (g .0 .1 .0) (g .1) in
+    (h .0, omega arith, h .1)
+
+add-at : tie.Need-add-at Inv-loop μ-loop
+add-at c =
+    let t = c .before .before .before .before .before .before .before .unit-step in
+    let l = c .before .before .before .before .before .before .before .before .loop in
+    let a = c .before .before .before .before .before .before .before .before .before .before .before .args in
+    let g = c .before .before .before .before .before .a .given in
+    let h = unit-room (a .list .now) (a .c) (a .out .now) (a .to) (l .here) (l .out) (l .at) (l .inv) (t .result) (t .ensures) (g .0 .0) (g .0 .1 .0) (g .1) in
+    omega arith
+
+add-at-2 : tie.Need-add-at-2 Inv-loop μ-loop
+add-at-2 c =
+    let t = c .before .before .before .before .before .before .before .before .unit-step in
+    let l = c .before .before .before .before .before .before .before .before .before .loop in
+    let a = c .before .before .before .before .before .before .before .before .before .before .before .before .args in
+    let g = c .before .before .before .before .before .before .a .given in
+    let h = unit-room (a .list .now) (a .c) (a .out .now) (a .to) (l .here) (l .out) (l .at) (l .inv) (t .result) (t .ensures) (g .0 .0) (g .0 .1 .0) (g .1) in
+    omega arith
+
+loop-less : tie.Need-loop-less Inv-loop μ-loop
+loop-less c =
+    let t = c .before .before .before .before .before .before .before .before .unit-step in
+    let l = c .before .before .before .before .before .before .before .before .before .loop in
+    let a = c .before .before .before .before .before .before .before .before .before .before .before .before .args in
+    let g = c .before .before .before .before .before .before .a .given in
+    units-less (a .list .now) (a .c) (a .out .now) (a .to) (l .here) (l .out) (l .at) (l .inv) (t .result) (t .ensures) (g .0 .0) (g .0 .1 .0) (g .1)
+
+loop-again : tie.Need-loop-again Inv-loop μ-loop
+loop-again c =
+    let t = c .before .before .before .before .before .before .before .before .unit-step in
+    let l = c .before .before .before .before .before .before .before .before .before .loop in
+    let a = c .before .before .before .before .before .before .before .before .before .before .before .before .args in
+    let g = c .before .before .before .before .before .before .a .given in
+    units-again (a .list .now) (a .c) (a .out .now) (a .to) (l .here) (l .out) (l .at) (l .inv) (t .result) (t .ensures) (g .0 .0) (g .0 .1 .0) (g .1) _ (c .before .before .before .put-unit .ensures)
+
+pub put-units-spec : {M : Type 1} → statement M
+put-units-spec =
+    tie.close
+    (tie.spec
+    Inv-loop
+    μ-loop
+    loop-holds
+    unit-step-requires
+    enum-known-a
+    same-length
+    returns
+    put-unit-requires
+    add-at
+    add-at-2
+    loop-less
+    loop-again)

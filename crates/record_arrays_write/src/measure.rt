@@ -1,0 +1,156 @@
+// For the crates further down: the arrays of a list measured as those of a full record.
+use unit_list::ArrayStep;
+use unit_list::ListCursor;
+use unit_list::ListStep;
+use unit_list::walk;
+ghost use mathlib.Core.Path.{_≡_};
+ghost use Prim.Native.Nat.{_+_, _<_, _^_};
+ghost use Rattle.unit_list.specs.Walk.{Fits, unitsFrom, arraysFrom};
+ghost use Rattle.record_arrays_write.specs.Inside.{joined, ofUnit, arrayFitsBy, arrayBy, measuredBy, unitsMeasure, arraysMeasure, measureOf, UnitsWithin, ArraysWithin, arrayMeasured, ArrayWithin};
+
+// Units or arrays: how many, the bytes that they take in a record, and whether all fit their places.
+pub struct Measure {
+    pub count: usize,
+    pub len: usize,
+    pub fits: bool,
+}
+
+// Units or arrays of a list, or that it is malformed.
+pub enum RecordMeasure {
+    Is(Measure),
+    Malformed,
+}
+
+// One array and the cursor whose end is behind it, the end, or that the list is malformed.
+pub enum ArrayMeasured {
+    Array(Measure, ListCursor),
+    End,
+    Malformed,
+}
+
+// Both together.
+fn add(a: Measure, b: Measure) -> Measure
+    requires { ⌜ (a .count + b .count < 2 ^ 32) × (a .len + b .len < 2 ^ 32) ⌝ }
+    ensures { λ r. ⌜ r ≡ joined a b ⌝ }
+{
+    let count = a.count + b.count;
+    let len = a.len + b.len;
+    if !a.fits {
+        return Measure {
+            count: count,
+            len: len,
+            fits: false,
+        };
+    }
+    let fits = b.fits;
+    Measure {
+        count: count,
+        len: len,
+        fits: fits,
+    }
+}
+
+// A unit of so many bytes, behind a length of two bytes.
+fn of_unit(len: usize) -> Measure
+    requires { ⌜ len < 2 ^ 32 ⌝ }
+    ensures { λ r. ⌜ r ≡ ofUnit len ⌝ }
+{
+    Measure {
+        count: 1,
+        len: 2 + len,
+        fits: len <= 65535,
+    }
+}
+
+// Whether an array of a type fits, by its units.
+fn array_fits(t: u8, units: Measure) -> bool
+    ensures { λ r. ⌜ r ≡ arrayFitsBy t units ⌝ }
+{
+    if 65535 < units.count {
+        return false;
+    }
+    if !units.fits {
+        return false;
+    }
+    if record_arrays::array::holds_one(t) {
+        return units.count == 1;
+    }
+    true
+}
+
+// An array of a type, by its units.
+fn of_array(t: u8, units: Measure) -> Measure
+    requires { ⌜ units .len < 2 ^ 32 ⌝ }
+    ensures { λ r. ⌜ r ≡ arrayBy t units ⌝ }
+{
+    let len = 1 + record_arrays::array::count_len(t) + units.len;
+    let fits = array_fits(t, units);
+    Measure {
+        count: 1,
+        len: len,
+        fits: fits,
+    }
+}
+
+// The units behind a cursor, up to the end of its array.
+pub fn measure_units(list: &[u8], c: ListCursor) -> RecordMeasure
+    requires { ⌜ Fits (now list) c ⌝ }
+    ensures { λ r. ⌜ (measureOf r ≡ measuredBy (unitsMeasure (now (list .entry))) (unitsFrom (now (list .entry)) c)) × UnitsWithin c r ⌝ }
+{
+    let mut here = c;
+    let mut sum = Measure {
+        count: 0,
+        len: 0,
+        fits: true,
+    };
+    loop {
+        match walk::unit_step(list, here) {
+            ListStep::Unit(a, next) => {
+                sum = add(sum, of_unit(a.len));
+                here = next;
+            }
+            ListStep::End => return RecordMeasure::Is(sum),
+            ListStep::Malformed => return RecordMeasure::Malformed,
+        }
+    }
+}
+
+// The array behind a cursor's end.
+fn measure_array(list: &[u8], c: ListCursor) -> ArrayMeasured
+    requires { ⌜ Fits (now list) c ⌝ }
+    ensures { λ r. ⌜ (arrayMeasured (now (list .entry)) r ≡ measuredBy (arraysMeasure (now (list .entry))) (arraysFrom (now (list .entry)) c)) × ArrayWithin (now (list .entry)) c r ⌝ }
+{
+    match walk::array_step(list, c) {
+        ArrayStep::Array(_, first) => {
+            let RecordMeasure::Is(units) = measure_units(list, first) else {
+                return ArrayMeasured::Malformed;
+            };
+            ArrayMeasured::Array(of_array(first.unit_type, units), first)
+        }
+        ArrayStep::End => ArrayMeasured::End,
+        ArrayStep::Malformed => ArrayMeasured::Malformed,
+    }
+}
+
+// The arrays behind a cursor's end.
+pub fn measure_arrays(list: &[u8], c: ListCursor) -> RecordMeasure
+    requires { ⌜ Fits (now list) c ⌝ }
+    ensures { λ r. ⌜ (measureOf r ≡ measuredBy (arraysMeasure (now (list .entry))) (arraysFrom (now (list .entry)) c)) × ArraysWithin (now (list .entry)) r ⌝ }
+{
+    let mut here = c;
+    let mut sum = Measure {
+        count: 0,
+        len: 0,
+        fits: true,
+    };
+    loop {
+        match measure_array(list, here) {
+            ArrayMeasured::Array(m, next) => {
+                sum = add(sum, m);
+                here = next;
+            }
+            ArrayMeasured::End => return RecordMeasure::Is(sum),
+            ArrayMeasured::Malformed => return RecordMeasure::Malformed,
+        }
+    }
+}

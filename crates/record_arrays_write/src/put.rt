@@ -1,0 +1,75 @@
+// For the crates further down: the arrays of a list stored as those of a full record.
+use super::measure;
+use super::measure::RecordMeasure;
+use boxes::place;
+use unit_list::ArrayStep;
+use unit_list::ListCursor;
+use unit_list::ListStep;
+use unit_list::walk;
+use unit_list::write;
+ghost use mathlib.Core.Path.{_≡_};
+ghost use Prim.Native.Nat.{_+_, _≤_};
+ghost use lib.ListN.{length};
+ghost use lib.Seq.{sets};
+ghost use Rattle.unit_list.specs.UnitList.{largestType};
+ghost use Rattle.unit_list.specs.Walk.{Fits, unitsFrom, arraysFrom};
+ghost use Rattle.record_arrays_write.specs.Inside.{Puts, bytesOf, unitsInRecord, countBytes, arrayInRecord, arraysInRecord};
+
+// Stores the units behind a cursor, up to the end of its array, and gives the place behind them.
+fn put_units(list: &[u8], c: ListCursor, out: &mut [u8], to: usize) -> usize
+    requires { ⌜ Fits (now list) c × Puts (unitsInRecord (now list)) (unitsFrom (now list) c) (now out) to ⌝ }
+    ensures { λ r. ⌜ (r ≡ to + length (bytesOf (unitsInRecord (now (list .entry))) (unitsFrom (now (list .entry)) c))) × (now (out .exit) ≡ sets (now (out .entry)) to (bytesOf (unitsInRecord (now (list .entry))) (unitsFrom (now (list .entry)) c))) ⌝ }
+{
+    let mut here = c;
+    let mut at = to;
+    loop {
+        let ListStep::Unit(a, next) = walk::unit_step(list, here) else {
+            return at;
+        };
+        write::put_unit(list, a, out, at, 2);
+        at = at + 2 + a.len;
+        here = next;
+    }
+}
+
+// Stores the count of the units behind a cursor, where the array has one, and gives the place behind it.
+fn put_count(list: &[u8], c: ListCursor, out: &mut [u8], to: usize) -> usize
+    requires { ⌜ Fits (now list) c × Puts (countBytes (now list) (c .«unit_type»)) (unitsFrom (now list) c) (now out) to ⌝ }
+    ensures { λ r. ⌜ (r ≡ to + length (bytesOf (countBytes (now (list .entry)) (c .«unit_type»)) (unitsFrom (now (list .entry)) c))) × (now (out .exit) ≡ sets (now (out .entry)) to (bytesOf (countBytes (now (list .entry)) (c .«unit_type»)) (unitsFrom (now (list .entry)) c))) ⌝ }
+{
+    if record_arrays::array::holds_one(c.unit_type) {
+        return to;
+    }
+    let RecordMeasure::Is(units) = measure::measure_units(list, c) else {
+        return to;
+    };
+    place::put_number(out, to, 2, units.count);
+    to + 2
+}
+
+// Stores an array, whose units stand behind a cursor, and gives the place behind it.
+fn put_array(list: &[u8], complete: u8, c: ListCursor, out: &mut [u8], to: usize) -> usize
+    requires { ⌜ (complete ≤ 1) × (c .«unit_type» ≤ largestType) × Fits (now list) c × Puts (arrayInRecord (now list) complete (c .«unit_type»)) (unitsFrom (now list) c) (now out) to ⌝ }
+    ensures { λ r. ⌜ (r ≡ to + length (bytesOf (arrayInRecord (now (list .entry)) complete (c .«unit_type»)) (unitsFrom (now (list .entry)) c))) × (now (out .exit) ≡ sets (now (out .entry)) to (bytesOf (arrayInRecord (now (list .entry)) complete (c .«unit_type»)) (unitsFrom (now (list .entry)) c))) ⌝ }
+{
+    let first = record_arrays::array::array_byte(complete, c.unit_type);
+    place::put(out, to, first);
+    let units_at = put_count(list, c, out, to + 1);
+    put_units(list, c, out, units_at)
+}
+
+// Stores the arrays behind a cursor's end.
+pub fn put_arrays(list: &[u8], c: ListCursor, out: &mut [u8], to: usize)
+    requires { ⌜ Fits (now list) c × Puts (arraysInRecord (now list)) (arraysFrom (now list) c) (now out) to ⌝ }
+    ensures { λ _. ⌜ now (out .exit) ≡ sets (now (out .entry)) to (bytesOf (arraysInRecord (now (list .entry))) (arraysFrom (now (list .entry)) c)) ⌝ }
+{
+    let mut here = c;
+    let mut next = to;
+    loop {
+        let ArrayStep::Array(complete, first) = walk::array_step(list, here) else {
+            return;
+        };
+        next = put_array(list, complete, first, out, next);
+        here = first;
+    }
+}

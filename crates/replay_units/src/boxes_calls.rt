@@ -1,0 +1,62 @@
+// For the crates further down: the calls of `error` and `boxes`.
+use boxes::place;
+use error::Refusal;
+use replay_text::fields;
+use replay_text::shown;
+
+// The refusal of a number up to 12; others get 12.
+fn low_refusal(n: u8) -> Refusal {
+    match n {
+        1 => Refusal::Truncated,
+        2 => Refusal::ConstraintLengthZero,
+        3 => Refusal::PrefixSizeThree,
+        4 => Refusal::PrefixSize,
+        5 => Refusal::ZeroLengthUnit,
+        6 => Refusal::UnitTooLongForPrefix,
+        7 => Refusal::BytesLeftOver,
+        8 => Refusal::CompactUnitCount,
+        9 => Refusal::CompactUnitTooLong,
+        10 => Refusal::WrongUnitType,
+        11 => Refusal::BitsRunOut,
+        _ => Refusal::CodeTooLong,
+    }
+}
+
+// The refusal of a number above 12; others get 24.
+fn high_refusal(n: u8) -> Refusal {
+    match n {
+        13 => Refusal::Subpictures,
+        14 => Refusal::BitDepth,
+        15 => Refusal::SeveralLayers,
+        16 => Refusal::NoVps,
+        17 => Refusal::NoSps,
+        18 => Refusal::NoPtl,
+        19 => Refusal::NothingToWrite,
+        20 => Refusal::BufferTooShort,
+        21 => Refusal::UnitList,
+        22 => Refusal::FieldTooWide,
+        23 => Refusal::InputTooLong,
+        _ => Refusal::NotOneStill,
+    }
+}
+
+// `number`
+fn number(numbers: &[u8], text: &mut [u8], at: usize) -> usize {
+    let n = place::byte(numbers, 0);
+    if n < 13 {
+        return shown::refused(text, at, low_refusal(n));
+    }
+    shown::refused(text, at, high_refusal(n))
+}
+
+// `uint_at`, `u8_at`, `u16_at`, `u32_at`
+pub fn answer(op: u8, numbers: &[u8], s: &[u8], text: &mut [u8], at: usize) -> usize {
+    let from = fields::eight(numbers, 0);
+    match op {
+        1 => number(numbers, text, at),
+        2 => shown::field(text, at, boxes::uint_at(s, from, fields::eight(numbers, 8))),
+        3 => shown::field(text, at, boxes::u8_at(s, from)),
+        4 => shown::field(text, at, boxes::u16_at(s, from)),
+        _ => shown::field(text, at, boxes::u32_at(s, from)),
+    }
+}

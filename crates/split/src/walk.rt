@@ -1,0 +1,146 @@
+// For the crates further down: the steps of the walks over items and streams.
+use super::NextUnit;
+use boxes::Span;
+use boxes::place;
+use error::Counted;
+use error::Refusal;
+ghost use mathlib.Core.Path.{_≡_};
+ghost use Prim.Native.Nat.{_+_, _-_, _≤_, _<_, _^_};
+ghost use lib.ListN.{length, take, drop};
+ghost use Rattle.error.specs.Answers.{countOf};
+ghost use Rattle.boxes.specs.Walk.{countFound, found};
+ghost use Rattle.split.specs.Item.{outside, splitItem};
+ghost use Rattle.split.specs.Stream.{trim, splitStream};
+ghost use Rattle.split.specs.Answers.{leftOf, HasUnit, nextOf, itemStep};
+
+// Whether a prefix size is outside 1 to 4.
+pub fn outside(length_size: u8) -> bool
+    ensures { λ r. ⌜ r ≡ outside «length_size» ⌝ }
+{
+    length_size == 0 || 4 < length_size
+}
+
+// The unit whose length stands at a place of an item, and the place behind it.
+pub fn item_step(item: &[u8], size: usize, at: usize) -> NextUnit
+    requires { ⌜ (1 ≤ size) × (size ≤ 4) × (at ≤ length (now item)) × (length (now item) ≤ 2 ^ 30) ⌝ }
+    ensures { λ r. ⌜ nextOf r ≡ itemStep size (now (item .entry)) at ⌝ }
+{
+    let left = item.len() - at;
+    if left == 0 {
+        return NextUnit::End;
+    }
+    if left < size {
+        return NextUnit::Refused(Refusal::Truncated);
+    }
+    let start = at + size;
+    let len = place::number(item, at, size);
+    if len == 0 {
+        return NextUnit::Refused(Refusal::ZeroLengthUnit);
+    }
+    if left - size < len {
+        return NextUnit::Refused(Refusal::Truncated);
+    }
+    let unit = Span {
+        start: start,
+        len: len,
+    };
+    NextUnit::Unit(unit, start + len)
+}
+
+// How many units an item has.
+pub fn item_count(item: &[u8], size: usize) -> Counted
+    requires { ⌜ (1 ≤ size) × (size ≤ 4) × (length (now item) ≤ 2 ^ 30) ⌝ }
+    ensures { λ r. ⌜ countOf r ≡ countFound (leftOf size (now (item .entry)) 0) ⌝ }
+{
+    let mut at: usize = 0;
+    let mut n: usize = 0;
+    'walk: loop {
+        let step = item_step(item, size, at);
+        match step {
+            NextUnit::Unit(_, next) => {
+                n += 1;
+                at = next;
+            }
+            NextUnit::End => {
+                break 'walk;
+            }
+            NextUnit::Refused(e) => {
+                return Counted::Refused(e);
+            }
+        }
+    }
+    Counted::Count(n)
+}
+
+// Where unit k lies in an item that has more than k units.
+pub fn item_unit(item: &[u8], size: usize, k: usize) -> Span
+    requires { ⌜ (1 ≤ size) × (size ≤ 4) × (length (now item) ≤ 2 ^ 30) × HasUnit (leftOf size (now item) 0) k ⌝ }
+    ensures { λ r. ⌜ (r ≡ found (leftOf size (now (item .entry)) 0) k) × (r .start + r .len ≤ length (now (item .entry))) ⌝ }
+{
+    let mut at: usize = 0;
+    let mut skip = k;
+    let unit = 'walk: loop {
+        let step = item_step(item, size, at);
+        let NextUnit::Unit(a, next) = step else {
+            break 'walk Span { start: 0, len: 0 };
+        };
+        if skip == 0 {
+            break 'walk a;
+        }
+        skip -= 1;
+        at = next;
+    };
+    unit
+}
+
+// Where unit k of an item lies; nowhere past the last unit and on a refusal. It is counted first: a refusal further on leaves no unit.
+pub fn item_span(item: &[u8], length_size: u8, k: usize) -> Span
+    ensures { λ r. ⌜ (r ≡ found (splitItem «length_size» (now (item .entry))) k) × (r .start + r .len ≤ length (now (item .entry))) ⌝ }
+{
+    let counted = super::split_length_prefixed_count(item, length_size);
+    let Counted::Count(n) = counted else {
+        return Span { start: 0, len: 0 };
+    };
+    if n <= k {
+        return Span { start: 0, len: 0 };
+    }
+    item_unit(item, place::wide(length_size), k)
+}
+
+// How many of the bytes between two places are left without the trailing zeros.
+pub fn trimmed(s: &[u8], from: usize, to: usize) -> usize
+    requires { ⌜ (from ≤ to) × (to ≤ length (now s)) ⌝ }
+    ensures { λ r. ⌜ (r ≡ length (trim (take (to - from) (drop from (now (s .entry)))))) × (from + r ≤ to) ⌝ }
+{
+    let mut end = to;
+    let kept = loop {
+        if end <= from {
+            break 0;
+        }
+        if s[end - 1] != 0 {
+            break end - from;
+        }
+        end -= 1;
+    };
+    kept
+}
+
+// Where unit k of a stream lies; nowhere past the last unit and on a refusal.
+pub fn stream_span(stream: &[u8], k: usize) -> Span
+    ensures { λ r. ⌜ (r ≡ found (splitStream (now (stream .entry))) k) × (r .start + r .len ≤ length (now (stream .entry))) ⌝ }
+{
+    let mut at: usize = 0;
+    let mut left = k;
+    let unit = 'walk: loop {
+        let next = super::next_unit(stream, at);
+        let NextUnit::Unit(a, behind) = next else {
+            break 'walk Span { start: 0, len: 0 };
+        };
+        if left == 0 {
+            break 'walk a;
+        }
+        left -= 1;
+        at = behind;
+    };
+    unit
+}

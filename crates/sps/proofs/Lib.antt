@@ -1,0 +1,5 @@
+pub mod Depth
+pub mod SpsSections
+pub mod Look
+pub mod Bounds
+pub mod Examples

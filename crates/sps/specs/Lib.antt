@@ -1,0 +1,3 @@
+pub mod Sps
+pub mod Sections
+pub mod Answers

@@ -1,0 +1,21 @@
+-- What the program answers to its standard input: a compact record behind its length of two bytes, and the stored bytes behind that.
+use Prim.Native.Nat.{ℕ, _+_}
+use mathlib.Core.List.{List}
+use mathlib.Core.Option.{none}
+use lib.Dec.{ltb}
+use lib.ListN.{length, drop}
+use Rattle.error.specs.Logic.{if_then_else_}
+use Rattle.error.specs.Outcome.{Outcome, refuse}
+use Rattle.error.specs.Parse.{outcome}
+use Rattle.error.specs.Steps.{_>>=_}
+use Rattle.boxes.specs.Bytes.{chunk}
+use Rattle.boxes.specs.Parts.{held}
+use Rattle.still.specs.Stills.{stillStream}
+
+-- 23 above 64 KiB; 1 where the compact record runs past the end; then the refusals of a still's stream, with no target of the caller's
+unfoldable pub inputStream : List ℕ → Outcome (List ℕ)
+inputStream s =
+    if ltb 65536 (length s) then refuse 23
+    else do
+      a ← outcome (chunk 2 s 0)
+      stillStream (held s a) (drop (a .start + a .len) s) none

@@ -1,0 +1,50 @@
+-- `plain_len` adds the picture's unit to the list's stream, or gives the refusal of the item.
+use native.Mathlib.Omega.{arith}
+use Rattle.still.proofs.Local.{counted-refused}
+use Rattle.still_measure.specs.Inside.{Listed}
+use Rattle.still_measure.proofs.Streams.{sized-listed, sized-refused, listed-small, stream-counted}
+use borrow.Author.Needs.{needs}
+use Rattle.still_measure.proofs.stream.plain_len.Statement.{statement}
+use Rattle.still_measure.proofs.stream.plain_len.Tie as tie
+
+plain-sizes-requires : tie.Need-plain-sizes-requires
+plain-sizes-requires c κs = let p = c .before .before .pre in (p .0, p .2)
+
+enum-known-sizes : tie.Need-enum-known-sizes
+enum-known-sizes c = search needs
+
+-- the list that was measured
+listed-here : (c : tie.After-known-told) → Listed (c .before .before .before .before .before .before .args .length-size) (c .before .before .before .before .before .before .args .list .now) (c .before .sizes .given .0 .0)
+listed-here c = sized-listed _ _ _ _ (c .before .before .before .plain-sizes .ensures) _ (c .before .sizes .given .1) .0
+
+stream-len-requires : tie.Need-stream-len-requires
+stream-len-requires c κs = let h = listed-small _ _ _ (listed-here c) in (omega (arith, h .0), omega (arith, h .1))
+
+picture-end-requires : tie.Need-picture-end-requires
+picture-end-requires c κs =
+    let h = listed-small _ _ _ (listed-here (c .before)) in
+    (omega (arith, h .0, h .1, c .stream-len .ensures), c .before .before .before .before .before .before .before .pre .1)
+
+enum-known-e : tie.Need-enum-known-e
+enum-known-e c = search needs
+
+returns : tie.Need-returns
+returns c =
+    let a = c .before .before .before .before .before .before .before .before .args in
+    stream-counted _ _ _ (listed-here (c .before .before)) (a .stored .now) (sized-listed _ _ _ _ (c .before .before .before .before .before .plain-sizes .ensures) _ (c .before .before .before .sizes .given .1) .1) _
+    (omega (arith, c .picture-end .ensures, c .before .stream-len .ensures))
+
+returns-2 : tie.Need-returns-2
+returns-2 c = counted-refused _ _ (sized-refused _ _ _ _ (c .before .before .before .plain-sizes .ensures) _ (c .before .e .given .1))
+
+pub plain-len-spec : {M : Type 1} → statement M
+plain-len-spec =
+    tie.close
+    (tie.spec
+    plain-sizes-requires
+    enum-known-sizes
+    stream-len-requires
+    picture-end-requires
+    enum-known-e
+    returns
+    returns-2)

@@ -1,0 +1,68 @@
+-- `stream_len` expands into a local array that is long enough, and measures the stream of what stands there.
+use native.Mathlib.Omega.{arith}
+use mathlib.Core.Path.{sym, ap, _∙_}
+use Rattle.expand.specs.Answers.{answerOf}
+use Rattle.expand.specs.declared.ExpandAnswer.{ExpandAnswer}
+use Rattle.access_unit.specs.Answers.{tolsOf}
+use Rattle.still.specs.Stills.{anyPicture}
+use Rattle.still.specs.Inside.{streamFrom}
+use Rattle.still.proofs.Local.{Expanded, was-expanded, not-expanded, counted-as, counted-refused, stream-expanded, stream-unexpanded}
+use borrow.Author.Needs.{needs}
+use Rattle.still_measure.proofs.stream.stream_len.Statement.{statement}
+use Rattle.still_measure.proofs.stream.stream_len.Tie as tie
+
+slice-aggregate-to-full : tie.Need-slice-aggregate-to-full
+slice-aggregate-to-full c = search needs
+
+to-full-requires : tie.Need-to-full-requires
+to-full-requires c κs = tt
+
+enum-known-answer : tie.Need-enum-known-answer
+enum-known-answer c = search needs
+
+-- what expansion gave stands at the front of the array
+expanded-at : (c : tie.After-known-told)
+    → Expanded (c .before .before .before .before .before .before .before .before .before .args .config) anyPicture (c .before .before .before .before .before .before .before .before .before .args .list .now)
+    (c .before .before .before .before .before .to-full .result .head) (c .before .answer .given .0 .0) (c .before .before .before .before .before .to-full .last .1 .1 .1 .1 .1 .1 .0)
+expanded-at c =
+    let y = c .before .before .before .before .before .to-full in
+    was-expanded _ anyPicture _ (c .before .before .before .before .before .before .before .before .before .pre .0) _ (y .result .head) _ _
+    (ap (λ (x : ExpandAnswer). ((answerOf x (y .result .head), y .result .head), y .last .1 .1 .1 .1 .1 .1 .0)) (sym (c .before .answer .given .1)) ∙ y .ensures) (omega arith)
+
+array-share-prefix-grouped : tie.Need-array-share-prefix-grouped
+array-share-prefix-grouped c = expanded-at c .within
+
+slice-aggregate-expanded-len : tie.Need-slice-aggregate-expanded-len
+slice-aggregate-expanded-len c = sym (expanded-at (c .before) .long)
+
+expanded-len-requires : tie.Need-expanded-len-requires
+expanded-len-requires c κs = (expanded-at (c .before) .expanded-from, c .before .before .before .before .before .before .before .before .before .before .pre .1)
+
+enum-known-answer-2 : tie.Need-enum-known-answer-2
+enum-known-answer-2 c = search needs
+
+returns : tie.Need-returns
+returns c = counted-as _ _ _ (stream-expanded _ _ _ _ _ _ (expanded-at (c .before .before) .given)) (c .expanded-len .ensures)
+
+returns-2 : tie.Need-returns-2
+returns-2 c =
+    let a = c .before .before .before .before .before .before .before .before .before .args in
+    let y = c .before .before .before .before .before .to-full in
+    let e = ap (λ (x : ExpandAnswer). ((answerOf x (y .result .head), y .result .head), y .last .1 .1 .1 .1 .1 .1 .0)) (sym (c .before .answer2 .given .1)) ∙ y .ensures in
+    counted-refused (streamFrom (a .config) (a .list .now) (a .stored .now) (tolsOf (a .tols))) _
+    (stream-unexpanded (a .config) (a .list .now) (a .stored .now) (tolsOf (a .tols)) _
+    (not-expanded (a .config) anyPicture (a .list .now) (c .before .before .before .before .before .before .before .before .before .pre .0) _ _ _ _ e (omega arith)))
+
+pub stream-len-spec : {M : Type 1} → statement M
+stream-len-spec =
+    tie.close
+    (tie.spec
+    slice-aggregate-to-full
+    to-full-requires
+    enum-known-answer
+    array-share-prefix-grouped
+    slice-aggregate-expanded-len
+    expanded-len-requires
+    enum-known-answer-2
+    returns
+    returns-2)

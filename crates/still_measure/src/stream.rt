@@ -1,0 +1,125 @@
+// For the crates further down: how many bytes the stream of a still has, or the refusal.
+use access_unit::Target;
+use access_unit::lengths;
+use access_unit::sizes;
+use access_unit::sizes::Measured;
+use compact::CompactRead;
+use compact::CompactVvcConfig;
+use error::Counted;
+use error::LARGEST_INPUT;
+use error::Refusal;
+use expand::ExpandAnswer;
+use full::VvcConfig;
+use still::COMPACT_LIST;
+use still::EXPANDED_LIST;
+ghost use mathlib.Core.Path.{_≡_};
+ghost use Prim.Native.Nat.{_+_, _≤_, _^_};
+ghost use lib.ListN.{length};
+ghost use Rattle.error.specs.Answers.{countOf};
+ghost use Rattle.boxes.specs.Walk.{countFound};
+ghost use Rattle.access_unit.specs.Answers.{tolsOf};
+ghost use Rattle.still.specs.Stills.{stillStream};
+ghost use Rattle.still.specs.Inside.{ReadFrom, ExpandedFrom, Plain, itemBehind, plainStream, streamExpanded, streamFrom};
+ghost use Rattle.still_measure.specs.Inside.{PlainSizes, ItemLong};
+
+// How long the item is that stored bytes are restored to, once full write accepts the record. Neither is needed itself: full read gives the same
+// list and what assembly looks at of the head, and the item is the stored bytes or holds their one unit. Refusals: 3, 22; with the flag clear 6.
+pub fn restored_len(
+    config: CompactVvcConfig,
+    head: VvcConfig,
+    list: &[u8],
+    stored: &[u8],
+) -> Counted
+    ensures { λ r. ⌜ countOf r ≡ countFound (itemBehind config head (now (list .entry)) (now (stored .entry))) ⌝ }
+{
+    match full_write::record_len(head, list) {
+        Counted::Count(_) => item_data::lengths::item_len(config, stored),
+        Counted::Refused(e) => Counted::Refused(e),
+    }
+}
+
+// The place behind the picture's unit, whose start code and header have 6 bytes, where the list's stream ends at a place.
+pub fn picture_end(at: usize, stored: usize) -> usize
+    requires { ⌜ (at ≤ 2 ^ 40) × (stored ≤ 2 ^ 30) ⌝ }
+    ensures { λ r. ⌜ r ≡ at + 6 + stored ⌝ }
+{
+    at + 6 + stored
+}
+
+// A list measured as an access unit without an item, for stored bytes that restore to an item of `item_len` bytes. Refusal: 23 of the item.
+pub fn plain_sizes(length_size: u8, list: &[u8], stored: &[u8], item_len: usize) -> Measured
+    requires { ⌜ Plain «length_size» (now list) × ItemLong «length_size» (now stored) «item_len» ⌝ }
+    ensures { λ r. ⌜ PlainSizes «length_size» (now (list .entry)) (now (stored .entry)) r ⌝ }
+{
+    if LARGEST_INPUT < item_len {
+        return Measured::Refused(Refusal::InputTooLong);
+    }
+    let target = Target::Unset;
+    sizes::measure(list, &stored[..0], length_size, target)
+}
+
+// The stream of a list and of stored bytes that restore to one unit. Refusal: 23.
+fn plain_len(length_size: u8, list: &[u8], stored: &[u8], item_len: usize) -> Counted
+    requires { ⌜ Plain «length_size» (now list) × (length (now stored) ≤ 2 ^ 30) × ItemLong «length_size» (now stored) «item_len» ⌝ }
+    ensures { λ r. ⌜ countOf r ≡ countFound (plainStream «length_size» (now (list .entry)) (now (stored .entry))) ⌝ }
+{
+    match plain_sizes(length_size, list, stored, item_len) {
+        Measured::Sized(sizes) => {
+            let at = lengths::stream_len(sizes.listed, sizes.lengths);
+            Counted::Count(picture_end(at, stored.len()))
+        }
+        Measured::Refused(e) => Counted::Refused(e),
+    }
+}
+
+// The stream of an expanded head and list. Refusals: 3, 22; with the flag clear 6, 23, else in byte order 1 and 5.
+fn expanded_len(
+    config: CompactVvcConfig,
+    head: VvcConfig,
+    list: &[u8],
+    stored: &[u8],
+    tols: Target,
+) -> Counted
+    requires { ⌜ ExpandedFrom config head (now list) × (length (now stored) ≤ 2 ^ 30) ⌝ }
+    ensures { λ r. ⌜ countOf r ≡ countFound (streamExpanded config head (now (list .entry)) (now (stored .entry)) (tolsOf tols)) ⌝ }
+{
+    match restored_len(config, head, list, stored) {
+        Counted::Count(item_len) => {
+            if config.multi_layer_flag {
+                return lengths::access_unit_len(head, list, stored, tols);
+            }
+            plain_len(config.length_size, list, stored, item_len)
+        }
+        Counted::Refused(e) => Counted::Refused(e),
+    }
+}
+
+// The stream of a compact record's fields and list. Refusals: those of expansion; 3, 22; with the flag clear 6, 23, else in byte order 1 and 5.
+fn stream_len(config: CompactVvcConfig, list: &[u8], stored: &[u8], tols: Target) -> Counted
+    requires { ⌜ ReadFrom config (now list) × (length (now stored) ≤ 2 ^ 30) ⌝ }
+    ensures { λ r. ⌜ countOf r ≡ countFound (streamFrom config (now (list .entry)) (now (stored .entry)) (tolsOf tols)) ⌝ }
+{
+    let mut grouped = [0u8; EXPANDED_LIST];
+    let expanded = expand::to_full(config, list, 1, 8, 0, 0, &mut grouped);
+    let answer = expanded.answer;
+    let head = expanded.head;
+    match answer {
+        ExpandAnswer::List(len) => expanded_len(config, head, &grouped[..len], stored, tols),
+        ExpandAnswer::Refused(e) => Counted::Refused(e),
+    }
+}
+
+// The stream of a still. Refusals: those of `still_stream` but for 20.
+pub fn still_stream_len(record: &[u8], stored: &[u8], tols: Target) -> Counted
+    ensures { λ r. ⌜ countOf r ≡ countFound (stillStream (now («record» .entry)) (now (stored .entry)) (tolsOf tols)) ⌝ }
+{
+    if LARGEST_INPUT < stored.len() {
+        return Counted::Refused(Refusal::InputTooLong);
+    }
+    let mut list = [0u8; COMPACT_LIST];
+    let read = compact_read::parse(record, &mut list);
+    match read {
+        CompactRead::Read(config, _, len) => stream_len(config, &list[..len], stored, tols),
+        CompactRead::Refused(e) => Counted::Refused(e),
+    }
+}

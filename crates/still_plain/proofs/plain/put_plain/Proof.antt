@@ -1,0 +1,43 @@
+-- `put_plain` stores the stream of the list and the picture, or gives the refusal of the item.
+use Rattle.boxes.proofs.Output.{written-refused}
+use Rattle.still.specs.Inside.{plainStream}
+use Rattle.still.proofs.Local.{given-as}
+use Rattle.still_measure.proofs.Streams.{sized-listed, sized-refused}
+use borrow.Author.Needs.{needs}
+use Rattle.still_plain.proofs.plain.put_plain.Statement.{statement}
+use Rattle.still_plain.proofs.plain.put_plain.Tie as tie
+
+plain-sizes-requires : tie.Need-plain-sizes-requires
+plain-sizes-requires c κs = let p = c .before .before .before .pre in (p .0, p .2)
+
+enum-known-sizes : tie.Need-enum-known-sizes
+enum-known-sizes c = search needs
+
+put-sized-requires : tie.Need-put-sized-requires
+put-sized-requires c κs = (sized-listed _ _ _ _ (c .before .before .before .before .plain-sizes .ensures) _ (c .before .before .sizes .given .1) .0, c .before .before .before .before .before .before .before .before .pre .1)
+
+enum-known-e : tie.Need-enum-known-e
+enum-known-e c = search needs
+
+same-length : tie.Need-same-length
+same-length c = search needs
+
+returns : tie.Need-returns
+returns c = given-as _ _ _ _ (sized-listed _ _ _ _ (c .before .before .before .before .before .before .before .plain-sizes .ensures) _ (c .before .before .before .before .before .sizes .given .1) .1) (c .before .before .put-sized .ensures)
+
+returns-2 : tie.Need-returns-2
+returns-2 c =
+    let a = c .before .before .before .before .before .before .before .args in
+    written-refused (plainStream (a .length-size) (a .list .now) (a .stored .now)) (a .out .now) _ (sized-refused _ _ _ _ (c .before .before .before .plain-sizes .ensures) _ (c .before .e .given .1))
+
+pub put-plain-spec : {M : Type 1} → statement M
+put-plain-spec =
+    tie.close
+    (tie.spec
+    plain-sizes-requires
+    enum-known-sizes
+    put-sized-requires
+    enum-known-e
+    same-length
+    returns
+    returns-2)

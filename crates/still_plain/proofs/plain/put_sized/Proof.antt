@@ -1,0 +1,61 @@
+-- `put_sized` stores the list's stream and the picture's unit behind it, where there is room for both.
+use native.Mathlib.Omega.{arith}
+use Rattle.boxes.proofs.Output.{written-short, written-fits}
+use Rattle.still.specs.Inside.{unitsStream}
+use Rattle.still_measure.proofs.Streams.{listed-small, stream-given, stream-long}
+use Rattle.still_plain.proofs.Storing.{puts-front, stream-stored}
+use borrow.Author.Needs.{needs}
+use Rattle.still_plain.proofs.plain.put_sized.Statement.{statement}
+use Rattle.still_plain.proofs.plain.put_sized.Tie as tie
+
+stream-len-requires : tie.Need-stream-len-requires
+stream-len-requires c κs =
+    let h = listed-small _ _ _ (c .before .before .before .pre .0) in
+    (omega (arith, h .0), omega (arith, h .1))
+
+picture-end-requires : tie.Need-picture-end-requires
+picture-end-requires c κs =
+    let h = listed-small _ _ _ (c .before .before .before .before .pre .0) in
+    (omega (arith, h .0, h .1, c .stream-len .ensures), c .before .before .before .before .pre .1)
+
+returns : tie.Need-returns
+returns c =
+    let a = c .before .before .before .before .before .before .args in
+    let k = c .before .before .before .before .before .before .pre .0 in
+    written-short (unitsStream (a .list .now) (a .stored .now)) (a .out .now) _ (stream-given _ _ _ k (a .stored .now))
+    (omega (arith, c .if1 .taken, c .before .picture-end .ensures, c .before .before .stream-len .ensures, stream-long _ _ _ k (a .stored .now)))
+
+slice-aggregate-put-stream : tie.Need-slice-aggregate-put-stream
+slice-aggregate-put-stream c = search needs
+
+put-stream-requires : tie.Need-put-stream-requires
+put-stream-requires c κs =
+    puts-front _ _ _ (c .before .before .before .before .before .before .before .before .pre .0) (c .before .before .before .before .before .before .before .before .args .out .now) (omega (arith, c .before .before .if1 .left, c .before .before .before .picture-end .ensures, c .before .before .before .before .stream-len .ensures))
+
+put-picture-requires : tie.Need-put-picture-requires
+put-picture-requires c κs = search needs
+
+same-length : tie.Need-same-length
+same-length c = search needs
+
+returns-2 : tie.Need-returns-2
+returns-2 c =
+    let a = c .before .before .before .before .before .before .before .before .before .before .before .before .before .before .before .args in
+    let k = c .before .before .before .before .before .before .before .before .before .before .before .before .before .before .before .pre .0 in
+    let l = stream-long _ _ _ k (a .stored .now) in
+    let s = c .before .before .before .before .before .before .before .before .before .before .before .stream-len .ensures in
+    written-fits (unitsStream (a .list .now) (a .stored .now)) (a .out .now) _ (stream-given _ _ _ k (a .stored .now)) _ _ (omega (arith, c .before .before .before .before .before .before .before .before .before .before .picture-end .ensures, s)) (c .before .before .before .before .before .before .before .before .before .if1 .left)
+    (stream-stored _ _ _ k (a .stored .now) (a .out .now) _ _ _ s (c .before .before .before .before .before .before .put-stream .ensures) (c .before .before .put-picture .ensures))
+
+pub put-sized-spec : {M : Type 1} → statement M
+put-sized-spec =
+    tie.close
+    (tie.spec
+    stream-len-requires
+    picture-end-requires
+    returns
+    slice-aggregate-put-stream
+    put-stream-requires
+    put-picture-requires
+    same-length
+    returns-2)

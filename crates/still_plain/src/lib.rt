@@ -1,0 +1,2 @@
+// The stream of a still whose multi-layer flag is clear.
+pub mod plain;

@@ -1,0 +1,64 @@
+// For the crates further down: the stream of a still whose multi-layer flag is clear, of its list's units and of the picture's unit.
+use access_unit::Target;
+use access_unit::sizes::Measured;
+use access_unit::sizes::Sizes;
+use boxes::place;
+use error::Refusal;
+use error::Written;
+use still_measure::stream;
+ghost use mathlib.Core.Path.{_≡_};
+ghost use mathlib.Core.List.{_++_};
+ghost use Prim.Native.Nat.{_+_, _≤_, _^_};
+ghost use lib.ListN.{length};
+ghost use lib.Seq.{sets};
+ghost use Rattle.error.specs.Outcome.{lentOutput, counted};
+ghost use Rattle.error.specs.Answers.{writtenOf};
+ghost use Rattle.compact.specs.ItemData.{stillUnit};
+ghost use Rattle.access_unit.specs.AccessUnit.{startCode};
+ghost use Rattle.still.specs.Inside.{Plain, unitsStream, plainStream};
+ghost use Rattle.still_measure.specs.Inside.{Listed, ItemLong};
+
+// Stores the picture's unit, the header 00 41 and the stored bytes, from a place on behind a start code.
+fn put_picture(stored: &[u8], out: &mut [u8], at: usize)
+    requires { ⌜ at + 6 + length (now stored) ≤ length (now out) ⌝ }
+    ensures { λ _. ⌜ now (out .exit) ≡ sets (now (out .entry)) at (startCode ++ stillUnit (now (stored .entry))) ⌝ }
+{
+    let header = nal::nal_header(nal::NAL_IDR_N_LP, 0, 1);
+    place::put_number(out, at, 4, 1);
+    place::put(out, at + 4, header[0]);
+    place::put(out, at + 5, header[1]);
+    place::copy(stored, out, at + 6);
+}
+
+// Stores the stream of a list that was measured and of the picture. Refusal: 20.
+fn put_sized(length_size: u8, list: &[u8], stored: &[u8], sizes: Sizes, out: &mut [u8]) -> Written
+    requires { ⌜ Listed «length_size» (now list) sizes × (length (now stored) ≤ 2 ^ 30) ⌝ }
+    ensures { λ r. ⌜ (writtenOf r, now (out .exit)) ≡ lentOutput (counted (unitsStream (now (list .entry)) (now (stored .entry)))) (now (out .entry)) ⌝ }
+{
+    let at = access_unit::lengths::stream_len(sizes.listed, sizes.lengths);
+    let len = stream::picture_end(at, stored.len());
+    if out.len() < len {
+        return Written::Refused(Refusal::BufferTooShort);
+    }
+    let target = Target::Unset;
+    access_unit_annex_b::stream::put_stream(list, &stored[..0], length_size, target, sizes, out);
+    put_picture(stored, out, at);
+    Written::Bytes(len)
+}
+
+// The stream of a list and of stored bytes that restore to one unit, in an item of `item_len` bytes. The item itself is never made. Refusals: 23, 20.
+pub fn put_plain(
+    length_size: u8,
+    list: &[u8],
+    stored: &[u8],
+    item_len: usize,
+    out: &mut [u8],
+) -> Written
+    requires { ⌜ Plain «length_size» (now list) × (length (now stored) ≤ 2 ^ 30) × ItemLong «length_size» (now stored) «item_len» ⌝ }
+    ensures { λ r. ⌜ (writtenOf r, now (out .exit)) ≡ lentOutput (counted (plainStream «length_size» (now (list .entry)) (now (stored .entry)))) (now (out .entry)) ⌝ }
+{
+    match stream::plain_sizes(length_size, list, stored, item_len) {
+        Measured::Sized(sizes) => put_sized(length_size, list, stored, sizes, out),
+        Measured::Refused(e) => Written::Refused(e),
+    }
+}

@@ -1,0 +1,70 @@
+// The full record of a still in one call. What lies between the steps stands in local arrays, so that only the output is lent.
+use compact::CompactRead;
+use compact::CompactVvcConfig;
+use error::Written;
+use expand::ExpandAnswer;
+use still::COMPACT_LIST;
+use still::EXPANDED_LIST;
+ghost use mathlib.Core.Path.{_≡_};
+ghost use Rattle.error.specs.Outcome.{lentOutput, counted};
+ghost use Rattle.error.specs.Answers.{writtenOf};
+ghost use Rattle.still.specs.Stills.{stillRecord};
+ghost use Rattle.still.specs.Inside.{ReadFrom, recordFrom};
+
+// The record of a compact record's fields and list. Refusals: those of expansion; 3, 22; 20.
+fn put_record(
+    config: CompactVvcConfig,
+    list: &[u8],
+    chroma_format_idc: u8,
+    bit_depth: u8,
+    width: u32,
+    height: u32,
+    out: &mut [u8],
+) -> Written
+    requires { ⌜ ReadFrom config (now list) ⌝ }
+    ensures { λ r. ⌜ (writtenOf r, now (out .exit)) ≡ lentOutput (counted (recordFrom config (record { chroma = «chroma_format_idc»; depth = «bit_depth»; width = width; height = height }) (now (list .entry)))) (now (out .entry)) ⌝ }
+{
+    let mut grouped = [0u8; EXPANDED_LIST];
+    let expanded = expand::to_full(
+        config,
+        list,
+        chroma_format_idc,
+        bit_depth,
+        width,
+        height,
+        &mut grouped,
+    );
+    let answer = expanded.answer;
+    let head = expanded.head;
+    match answer {
+        ExpandAnswer::List(len) => full_write::serialize(head, &grouped[..len], out),
+        ExpandAnswer::Refused(e) => Written::Refused(e),
+    }
+}
+
+// The full record of a still. Refusals: 23, 1, 7; with the flag set 16 and the VPS's; 17, the SPS's, 18, the VPS's; 3, 22; 20.
+pub fn still_record(
+    record: &[u8],
+    chroma_format_idc: u8,
+    bit_depth: u8,
+    width: u32,
+    height: u32,
+    out: &mut [u8],
+) -> Written
+    ensures { λ r. ⌜ (writtenOf r, now (out .exit)) ≡ lentOutput (counted (stillRecord (now («record» .entry)) (record { chroma = «chroma_format_idc»; depth = «bit_depth»; width = width; height = height }))) (now (out .entry)) ⌝ }
+{
+    let mut list = [0u8; COMPACT_LIST];
+    let read = compact_read::parse(record, &mut list);
+    match read {
+        CompactRead::Read(config, _, len) => put_record(
+            config,
+            &list[..len],
+            chroma_format_idc,
+            bit_depth,
+            width,
+            height,
+            out,
+        ),
+        CompactRead::Refused(e) => Written::Refused(e),
+    }
+}

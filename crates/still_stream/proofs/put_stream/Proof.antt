@@ -1,0 +1,73 @@
+-- `put_stream` expands into a local array that is long enough, and gives the stream of what stands there.
+use native.Mathlib.Omega.{arith}
+use mathlib.Core.Path.{sym, ap, _∙_}
+use Rattle.expand.specs.Answers.{answerOf}
+use Rattle.expand.specs.declared.ExpandAnswer.{ExpandAnswer}
+use Rattle.access_unit.specs.Answers.{tolsOf}
+use Rattle.boxes.proofs.Output.{written-refused}
+use Rattle.still.specs.Stills.{anyPicture}
+use Rattle.still.specs.Inside.{streamFrom}
+use Rattle.still.proofs.Local.{Expanded, was-expanded, not-expanded, given-as, stream-expanded, stream-unexpanded}
+use borrow.Author.Needs.{needs}
+use Rattle.still_stream.proofs.put_stream.Statement.{statement}
+use Rattle.still_stream.proofs.put_stream.Tie as tie
+
+slice-aggregate-to-full : tie.Need-slice-aggregate-to-full
+slice-aggregate-to-full c = search needs
+
+to-full-requires : tie.Need-to-full-requires
+to-full-requires c κs = tt
+
+enum-known-answer : tie.Need-enum-known-answer
+enum-known-answer c = search needs
+
+-- what expansion gave stands at the front of the array
+expanded-at : (c : tie.After-known-told)
+    → Expanded (c .before .before .before .before .before .before .before .before .before .before .args .config) anyPicture (c .before .before .before .before .before .before .before .before .before .before .args .list .now)
+    (c .before .before .before .before .before .to-full .result .head) (c .before .answer .given .0 .0) (c .before .before .before .before .before .to-full .last .1 .1 .1 .1 .1 .1 .0)
+expanded-at c =
+    let y = c .before .before .before .before .before .to-full in
+    was-expanded _ anyPicture _ (c .before .before .before .before .before .before .before .before .before .before .pre .0) _ (y .result .head) _ _
+    (ap (λ (x : ExpandAnswer). ((answerOf x (y .result .head), y .result .head), y .last .1 .1 .1 .1 .1 .1 .0)) (sym (c .before .answer .given .1)) ∙ y .ensures) (omega arith)
+
+array-share-prefix-grouped : tie.Need-array-share-prefix-grouped
+array-share-prefix-grouped c = expanded-at c .within
+
+slice-aggregate-put-expanded : tie.Need-slice-aggregate-put-expanded
+slice-aggregate-put-expanded c = sym (expanded-at (c .before) .long)
+
+put-expanded-requires : tie.Need-put-expanded-requires
+put-expanded-requires c κs = (expanded-at (c .before .before) .expanded-from, c .before .before .before .before .before .before .before .before .before .before .before .before .pre .1)
+
+enum-known-answer-2 : tie.Need-enum-known-answer-2
+enum-known-answer-2 c = search needs
+
+same-length : tie.Need-same-length
+same-length c = search needs
+
+returns : tie.Need-returns
+returns c = given-as _ _ _ _ (stream-expanded _ _ _ _ _ _ (expanded-at (c .before .before .before .before .before) .given)) (c .before .before .put-expanded .ensures)
+
+returns-2 : tie.Need-returns-2
+returns-2 c =
+    let a = c .before .before .before .before .before .before .before .before .before .before .args in
+    let y = c .before .before .before .before .before .to-full in
+    let e = ap (λ (x : ExpandAnswer). ((answerOf x (y .result .head), y .result .head), y .last .1 .1 .1 .1 .1 .1 .0)) (sym (c .before .answer2 .given .1)) ∙ y .ensures in
+    written-refused (streamFrom (a .config) (a .list .now) (a .stored .now) (tolsOf (a .tols))) (a .out .now) _
+    (stream-unexpanded (a .config) (a .list .now) (a .stored .now) (tolsOf (a .tols)) _
+    (not-expanded (a .config) anyPicture (a .list .now) (c .before .before .before .before .before .before .before .before .before .before .pre .0) _ _ _ _ e (omega arith)))
+
+pub put-stream-spec : {M : Type 1} → statement M
+put-stream-spec =
+    tie.close
+    (tie.spec
+    slice-aggregate-to-full
+    to-full-requires
+    enum-known-answer
+    array-share-prefix-grouped
+    slice-aggregate-put-expanded
+    put-expanded-requires
+    enum-known-answer-2
+    same-length
+    returns
+    returns-2)

@@ -1,0 +1,84 @@
+-- `still_stream` refuses a lent input that is too long, reads the compact record into a local array that is long enough, and gives the
+-- stream of what stands there.
+use native.Mathlib.Omega.{arith}
+use mathlib.Core.Path.{sym, ap, _∙_}
+use Rattle.compact.specs.Answers.{compactOf}
+use Rattle.compact.specs.declared.CompactRead.{CompactRead}
+use Rattle.access_unit.specs.Answers.{tolsOf}
+use Rattle.boxes.proofs.Output.{written-refused}
+use Rattle.path.specs.Still.{Bytes}
+use Rattle.still.specs.Stills.{stillStream}
+use Rattle.still.proofs.Local.{Read, was-read, not-read, given-as, stream-too-long, stream-read, stream-unread}
+use borrow.Author.Needs.{needs}
+use Rattle.still_stream.proofs.still_stream.Statement.{statement}
+use Rattle.still_stream.proofs.still_stream.Tie as tie
+
+returns : tie.Need-returns
+returns c =
+    let a = c .before .before .before .before .args in
+    written-refused (stillStream (a .«record» .now) (a .stored .now) (tolsOf (a .tols))) (a .out .now) 23
+    (stream-too-long (a .«record» .now) (a .stored .now) (tolsOf (a .tols)) (c .if1 .taken))
+
+slice-aggregate-parse : tie.Need-slice-aggregate-parse
+slice-aggregate-parse c = search needs
+
+parse-requires : tie.Need-parse-requires
+parse-requires c κs = tt
+
+enum-known-read : tie.Need-enum-known-read
+enum-known-read c = search needs
+
+-- the lent record is bytes
+bytes-at : (c : tie.After-list) → Bytes (c .before .before .before .before .before .args .«record» .now)
+bytes-at c i = omega (arith, c .before .before .before .before .shared-slice-known .given i)
+
+-- what compact read gave stands at the front of the array
+read-at : (c : tie.After-known-told)
+    → Read (c .before .before .before .before .before .before .before .before .before .before .args .«record» .now)
+    (c .before .read .given .0 .0) (c .before .read .given .0 .1 .0) (c .before .read .given .0 .1 .1 .0) (c .before .before .before .before .parse .last .1 .0)
+read-at c =
+    let y = c .before .before .before .before .parse in
+    was-read _ (bytes-at (c .before .before .before .before .before)) _ _ _ _ _ (ap (λ (x : CompactRead). (compactOf x, y .last .1 .0)) (sym (c .before .read .given .1)) ∙ y .ensures) (omega arith)
+
+array-share-prefix-list : tie.Need-array-share-prefix-list
+array-share-prefix-list c = read-at c .within
+
+slice-aggregate-put-stream : tie.Need-slice-aggregate-put-stream
+slice-aggregate-put-stream c = sym (read-at (c .before) .long)
+
+put-stream-requires : tie.Need-put-stream-requires
+put-stream-requires c κs = (read-at (c .before .before) .from, c .before .before .before .before .before .before .before .before .if1 .left)
+
+enum-known-read-2 : tie.Need-enum-known-read-2
+enum-known-read-2 c = search needs
+
+same-length : tie.Need-same-length
+same-length c = search needs
+
+returns-2 : tie.Need-returns-2
+returns-2 c = given-as _ _ _ _ (stream-read _ _ _ (c .before .before .before .before .before .before .before .before .before .before .before .if1 .left) _ _ (read-at (c .before .before .before .before .before) .given)) (c .before .before .put-stream .ensures)
+
+returns-3 : tie.Need-returns-3
+returns-3 c =
+    let a = c .before .before .before .before .before .before .before .before .before .before .args in
+    let y = c .before .before .before .before .parse in
+    let e = ap (λ (x : CompactRead). (compactOf x, y .last .1 .0)) (sym (c .before .read2 .given .1)) ∙ y .ensures in
+    written-refused (stillStream (a .«record» .now) (a .stored .now) (tolsOf (a .tols))) (a .out .now) _
+    (stream-unread (a .«record» .now) (a .stored .now) (tolsOf (a .tols)) (c .before .before .before .before .before .before .if1 .left) _
+    (not-read (a .«record» .now) (bytes-at (c .before .before .before .before .before)) _ _ _ e (omega arith)))
+
+pub still-stream-spec : {M : Type 1} → statement M
+still-stream-spec =
+    tie.close
+    (tie.spec
+    returns
+    slice-aggregate-parse
+    parse-requires
+    enum-known-read
+    array-share-prefix-list
+    slice-aggregate-put-stream
+    put-stream-requires
+    enum-known-read-2
+    same-length
+    returns-2
+    returns-3)

@@ -1,3 +1,0 @@
-pub mod Stills
-pub mod Inside
-pub mod Calls

@@ -1,0 +1,4 @@
+pub mod FirstPtl
+pub mod VpsFront
+pub mod Look
+pub mod Bounds

@@ -1,0 +1,2 @@
+pub mod Vps
+pub mod Answers

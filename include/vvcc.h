@@ -3,7 +3,7 @@
  * The functions are in the static library libvvcc_c.a (`rt staticlib vvcc_c`). Each is proved to give exactly what its definition says, on
  * any input: the contracts are in crates/vvcc_c/src/lib.rt. They allocate nothing, keep nothing, end on every input, may be called from
  * several threads at once, and use less than 64 KiB of stack. What is said below of the lengths of `scratch` and `out` is proved too
- * (crates/lengths): with so many bytes no call answers 20. What is said of the stack was worked out by hand.
+ * (crates/output_lengths): with so many bytes no call answers 20. What is said of the stack was worked out by hand.
  *
  * What a caller owes:
  *  - a pointer and the length behind it describe memory that may be read (written, for `out` and `scratch`), and the pointer is not null,

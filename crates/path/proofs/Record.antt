@@ -1,12 +1,16 @@
 -- What is known of a compact record that was read: its units, their number and lengths, its prefix size.
-use Prim.Native.Nat.{ℕ, _≤_}
-use mathlib.Core.Path.{_≡_, sym, subst}
-use mathlib.Core.List.{List}
-use lib.ListN.{length}
+use Prim.Native.Nat.{ℕ, _^_, _≤_}
+use mathlib.Core.Path.{_≡_, sym, ap, _∙_, subst}
+use mathlib.Core.List.{List, map}
+use lib.ListN.{length, length-map}
+use borrow.Author.Tests.{le-leb}
 use Rattle.error.specs.Outcome.{accept}
+use Rattle.error.specs.Parse.{value}
+use Rattle.boxes.specs.Parts.{held}
+use Rattle.boxes.specs.declared.Span.{Span}
 use Rattle.unit_list.specs.Answers.{listUnits}
 use Rattle.unit_list.proofs.Encode.{UnitsRead}
-use Rattle.compact.specs.Compact.{CompactParsed, parseCompact}
+use Rattle.compact.specs.Compact.{CompactParsed, compactRecord, oneArray, parsedWith, parseCompact}
 use Rattle.compact.proofs.Facts.{CompactFacts, compact-facts}
 use Rattle.grouping.proofs.GroupedFits.{Every}
 use Rattle.path.specs.Still.{Bytes, unitsIn}
@@ -19,6 +23,19 @@ pub record Facts (us : List (List ℕ)) (read : CompactParsed) (list : List ℕ)
   pub size-low : 1 ≤ read .config .«length_size»
   pub size-high : read .config .«length_size» ≤ 4
   pub units : UnitsRead list (listUnits list) us
+
+-- what reading hands back: the count is that of the units, the length is the list's
+module _ (C : List ℕ) (read : CompactParsed) (list : List ℕ) (spans : List Span) (lent : length C ≤ 2 ^ 30)
+    (whole : compactRecord C 0 ≡ value (read .config, spans) (length C)) (reads : parseCompact C ≡ accept (read, list)) where
+  given : parseCompact C ≡ accept (parsedWith C (read .config, spans))
+  unfolding parseCompact
+  given = rw (le-leb (length C) (2 ^ 30) lent, whole)
+
+  counts-read : parseCompact C ≡ accept (record { config = read .config; unitCount = length (unitsIn C); listLength = length list }, list)
+  counts-read =
+      let x : parsedWith C (read .config, spans) ≡ (read, list) = cc given in
+      let z : oneArray (map (held C) spans) ≡ list = ap (λ (y : CompactParsed × List ℕ). y .1) x in
+      rw (← z, whole, length-map spans (held C)) given
 
 module _ (C : List ℕ) (bytes : Bytes C) (read : CompactParsed) (list : List ℕ) (reads : parseCompact C ≡ accept (read, list)) where
   known : CompactFacts C read list
@@ -38,3 +55,6 @@ module _ (C : List ℕ) (bytes : Bytes C) (read : CompactParsed) (list : List �
         size-high = known .size-four;
         units = known .read;
       })
+
+  pub is-read : parseCompact C ≡ accept (record { config = read .config; unitCount = length (unitsIn C); listLength = length list }, list)
+  is-read = counts-read C read list (known .spans) (known .lent) (known .whole) reads

@@ -35,20 +35,20 @@ abbrev pub unitsIn : List ℕ → List (List ℕ)
 unitsIn C = unitsRead C (compactRecord C 0)
 
 -- A compact record C that reads and expands, and picture bytes S, "as the mission describes".
-pub record Still (C S : List ℕ) (pic : Picture) : Type 0 where
+pub record Still (C S : List ℕ) : Type 0 where
   pub bytes : Bytes C
-  pub picture-bytes : Bytes S
+  -- C reads
   pub read : CompactParsed
   pub list : List ℕ
   pub reads : parseCompact C ≡ accept (read, list)
+  -- C expands, whatever is known of the picture: some chroma, depth and dimensions serve to say it
+  pub picture : Picture
   pub full : FullHead
   pub full-list : List ℕ
-  pub expands : toFull (read .config) pic list ≡ accept (full, full-list)
+  pub expands : toFull (read .config) picture list ≡ accept (full, full-list)
   -- multi-layer flag clear, prefix size 1, 2 or 4
   pub plain : read .config .«multi_layer_flag» ≡ false
   pub size : read .config .«length_size» ≡ 3 → ⊥
-  pub chroma : pic .chroma ≤ 3
-  pub depth : pic .depth ≤ 15
   pub one-opi : AtMostOne 12 (unitsIn C)
   pub one-dci : AtMostOne 13 (unitsIn C)
   -- no empty unit; no unit nor S contains 00 00 01 or ends in 00

@@ -158,14 +158,23 @@ module _ (pic pic′ : Picture) (chroma : pic .chroma ≤ 3) (depth : pic .depth
   pub both : Paths C (0x9A ∷ []) mixed [] pic pic′ tols tols′
   both = whole-path C (0x9A ∷ []) mixed [] (instances .worked) (instances .interleaved) pic pic′ chroma depth chroma′ depth′ tols tols′
 
-  -- both PPS, both SPS, the OPI unit, the DCI unit: C has them in the order Q P OPI Q′ DCI P′
+  -- the SPS and the PPS, as they stand
+  pub worked-grouped : both .first .grouped ≡ P ∷ Q ∷ []
+  unfolding times be uint bytes chunk atEnd compactRecord havingType without firsts grouped unitsOf
+  worked-grouped = one-order (unitsIn C) (both .first .grouped) (P ∷ Q ∷ []) (both .first .order) (grouped-as (unitsIn C))
+
+  pub worked-stream : both .first .stream
+      ≡ (0x00 ∷ 0x00 ∷ 0x00 ∷ 0x01 ∷ P) ++ (0x00 ∷ 0x00 ∷ 0x00 ∷ 0x01 ∷ Q) ++ (0x00 ∷ 0x00 ∷ 0x00 ∷ 0x01 ∷ 0x00 ∷ 0x41 ∷ 0x9A ∷ [])
+  unfolding annexB
+  worked-stream = both .first .is-stream ∙ rw worked-grouped
+
+  -- both PPS, both SPS, the OPI and the DCI unit; the record has them in the order Q P OPI Q′ DCI P′
   pub interleaved-grouped : both .second .grouped ≡ Q ∷ Q′ ∷ P ∷ P′ ∷ opi ∷ dci ∷ []
   unfolding times be uint bytes chunk atEnd compactRecord havingType without firsts grouped unitsOf
   interleaved-grouped = one-order (unitsIn mixed) (both .second .grouped) (Q ∷ Q′ ∷ P ∷ P′ ∷ opi ∷ dci ∷ []) (both .second .order) (grouped-as (unitsIn mixed))
 
-  -- each behind 00 00 00 01, and 00 41 as the last
-  pub interleaved-stream : both .second .stream ≡
-      (0x00 ∷ 0x00 ∷ 0x00 ∷ 0x01 ∷ Q) ++ (0x00 ∷ 0x00 ∷ 0x00 ∷ 0x01 ∷ Q′) ++ (0x00 ∷ 0x00 ∷ 0x00 ∷ 0x01 ∷ P) ++ (0x00 ∷ 0x00 ∷ 0x00 ∷ 0x01 ∷ P′)
+  pub interleaved-stream : both .second .stream
+      ≡ (0x00 ∷ 0x00 ∷ 0x00 ∷ 0x01 ∷ Q) ++ (0x00 ∷ 0x00 ∷ 0x00 ∷ 0x01 ∷ Q′) ++ (0x00 ∷ 0x00 ∷ 0x00 ∷ 0x01 ∷ P) ++ (0x00 ∷ 0x00 ∷ 0x00 ∷ 0x01 ∷ P′)
       ++ (0x00 ∷ 0x00 ∷ 0x00 ∷ 0x01 ∷ opi) ++ (0x00 ∷ 0x00 ∷ 0x00 ∷ 0x01 ∷ dci) ++ (0x00 ∷ 0x00 ∷ 0x00 ∷ 0x01 ∷ 0x00 ∷ 0x41 ∷ [])
   unfolding annexB
   interleaved-stream = both .second .is-stream ∙ rw interleaved-grouped

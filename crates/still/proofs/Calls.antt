@@ -1,79 +1,77 @@
--- Demand 3 carried over to the two calls.
-use Prim.Native.Nat.{ℕ}
+-- Demand 3 carried over to the two calls, one theorem: `whole-calls`.
+use Prim.Native.Nat.{ℕ, _≤_}
 use native.Mathlib.Omega.{arith}
 use mathlib.Core.Path.{_≡_, sym, ap, _∙_}
-use mathlib.Core.Option.{Option, none}
+use mathlib.Core.Option.{Option}
 use mathlib.Core.List.{List, [], _∷_, _++_}
 use Rattle.error.specs.Outcome.{Outcome, accept}
-use Rattle.error.specs.Parse.{times}
-use Rattle.boxes.specs.Bytes.{be, uint, bytes, chunk}
 use Rattle.boxes.proofs.Lent.{lent-within}
-use Rattle.unit_list.specs.UnitList.{unitsOf}
-use Rattle.split.specs.Stream.{annexB}
-use Rattle.compact.specs.Compact.{atEnd, compactRecord}
-use Rattle.grouping.specs.Grouping.{havingType, without, firsts, grouped}
-use Rattle.expand.specs.Expand.{Picture}
+use Rattle.compact.specs.Compact.{parseCompact}
+use Rattle.compact.specs.ItemData.{restore}
+use Rattle.full.specs.Read.{parseFull}
+use Rattle.full.specs.Write.{serializeFull}
+use Rattle.expand.specs.Expand.{Picture, toFull}
+use Rattle.access_unit.specs.AccessUnit.{assemble}
 use Rattle.path.specs.Still.{Still}
 use Rattle.path.specs.Path.{Path}
-use Rattle.path.proofs.Path.{streamOf, recordOf, is-written, is-read-back, is-restored, is-assembled, of-picture, path, same-streams, same-grouped, same-picture, counts-of}
+use Rattle.path.proofs.Writes.{counts-of, accepted-of, accepted-bytes}
+use Rattle.path.proofs.Path.{whole-path}
 use Rattle.path.proofs.Worked.{P, Q, C, worked}
-use Rattle.path.proofs.Instance.{instance}
-use Rattle.still.specs.Stills.{stillRecord, streamWith, anyPicture, stillStream}
-use Rattle.still.specs.Calls.{Calls}
+use Rattle.path.proofs.Instance.{mixed, instances}
+use Rattle.path.proofs.Instance as I
+use Rattle.still.specs.Stills.{stillRecord, streamWith, stillStream}
+use Rattle.still.specs.Calls.{Calls, TwoCalls, WholeCalls}
+use Rattle.still.proofs.Pictures.{any-picture}
 
-module _ (C S : List ℕ) (pic : Picture) (still : Still C S pic) where
-  is-record : stillRecord C pic ≡ accept (recordOf C S pic still)
+-- one still: its path's steps are those of the calls
+module _ {C S : List ℕ} {pic : Picture} {tols : Option ℕ} (still : Still C S) (chroma : pic .chroma ≤ 3) (depth : pic .depth ≤ 15) (p : Path C S pic tols) where
+  is-record : stillRecord C pic ≡ accept (p .bytes)
   unfolding stillRecord
-  is-record = rw (still .reads, still .expands, is-written C S pic still)
+  is-record =
+      rw (accepted-of (parseCompact C) _ (p .list) (p .reads), accepted-of (toFull (p .config) pic (p .list)) _ (p .full-list) (p .expands))
+      (accepted-bytes (serializeFull (p .full) (p .full-list)) (p .bytes) (p .writes))
 
-  -- the same still for the picture that a stream is made with
-  plain : Still C S anyPicture
-  plain = of-picture C S pic still anyPicture (omega arith) (omega arith)
-
-  is-stream : (tols : Option ℕ) → stillStream C S tols ≡ accept (streamOf C S pic still)
-  unfolding stillStream streamWith
-  is-stream tols =
+  is-stream : stillStream C S tols ≡ accept (p .stream)
+  unfolding streamWith
+  is-stream =
       let s = still .short in
-      lent-within S _ (omega arith)
-      ∙ rw (plain .reads, plain .expands, is-written C S anyPicture plain, is-read-back C S anyPicture plain, is-restored C S anyPicture plain) (is-assembled C S anyPicture plain tols)
+      sym (any-picture S tols pic chroma depth C (still .bytes)) ∙ lent-within S _ (omega arith)
+      ∙ rw (
+        accepted-of (parseCompact C) _ (p .list) (p .reads),
+        accepted-of (toFull (p .config) pic (p .list)) _ (p .full-list) (p .expands),
+        accepted-bytes (serializeFull (p .full) (p .full-list)) (p .bytes) (p .writes),
+        accepted-of (parseFull (p .bytes)) _ (p .full-list) (p .reads-back),
+        accepted-bytes (restore (p .config) S) (p .item) (p .restores),
+      )
+      (accepted-bytes (assemble (p .head) (p .full-list) (p .item) tols) (p .stream) (p .assembles))
 
-  -- the claim's first half
-  pub calls : (tols : Option ℕ) → Calls C S pic tols
-  unfolding path
-  calls tols = record {
-    path = path C S pic still tols;
-    record-given = counts-of (stillRecord C pic) (recordOf C S pic still) is-record;
-    stream-given = counts-of (stillStream C S tols) (streamOf C S pic still) (is-stream tols);
-  }
+  calls : Calls C S pic tols p
+  calls = record { record-given = counts-of _ _ is-record; stream-given = counts-of _ _ is-stream }
 
--- The claim's second half: the calls give the same stream for two stills exactly when their S are equal and their grouped units are, in order.
-module _ {C S C′ S′ : List ℕ} {pic pic′ : Picture} (still : Still C S pic) (still′ : Still C′ S′ pic′) (tols tols′ : Option ℕ) where
-  abbrev p : Path C S pic tols
-  p = path C S pic still tols
+-- The claim (specs/Calls.antt).
+pub whole-calls : WholeCalls
+whole-calls C S C′ S′ still still′ pic pic′ chroma depth chroma′ depth′ tols tols′ =
+    let w = whole-path C S C′ S′ still still′ pic pic′ chroma depth chroma′ depth′ tols tols′ in
+    let e = is-stream still chroma depth (w .first) in
+    let f = is-stream still′ chroma′ depth′ (w .second) in
+    record {
+      paths = w;
+      first = calls still chroma depth (w .first);
+      second = calls still′ chroma′ depth′ (w .second);
+      same = (λ g. w .same .0 (bytes-of (sym e ∙ g ∙ f)), λ g. e ∙ ap accept (w .same .1 g) ∙ sym f);
+    }
+  where
+    bytes-of : {a b : List ℕ} → accept a ≡ accept b → a ≡ b
+    bytes-of e = cc
 
-  abbrev q : Path C′ S′ pic′ tols′
-  q = path C′ S′ pic′ still′ tols′
-
-  pub same-stills : S ≡ S′ → p .grouped ≡ q .grouped → stillStream C S tols ≡ stillStream C′ S′ tols′
-  unfolding path
-  same-stills s g = is-stream C S pic still tols ∙ ap accept (same-streams p q s g) ∙ sym (is-stream C′ S′ pic′ still′ tols′)
-
-  same-bytes : stillStream C S tols ≡ stillStream C′ S′ tols′ → p .stream ≡ q .stream
-  unfolding path
-  same-bytes e =
-      let r : _≡_ {A = Outcome (List ℕ)} (accept (streamOf C S pic still)) (accept (streamOf C′ S′ pic′ still′)) =
-      sym (is-stream C S pic still tols) ∙ e ∙ is-stream C′ S′ pic′ still′ tols′ in
-      cc
-
-  pub of-same-stills : stillStream C S tols ≡ stillStream C′ S′ tols′ → (S ≡ S′) × (p .grouped ≡ q .grouped)
-  of-same-stills e = (same-picture p q (same-bytes e), same-grouped p q (same-bytes e))
-
--- The worked P and Q with S = 9A meet the premises. Their record is document 01's worked one; the stream is P, Q and 00 41 9A behind start codes.
+-- The theorem of the two stills of crates/path/proofs/Instance.antt. The record of the first is document 01's worked one; its stream is P, Q and 00 41 9A
+-- behind start codes.
 abbrev picture : Picture
 picture = record { chroma = 1; depth = 8; width = 16; height = 8 }
 
-pub worked-calls : (tols : Option ℕ) → Calls C (0x9A ∷ []) (record { chroma = 1; depth = 8; width = 16; height = 8 }) tols
-worked-calls = calls C (0x9A ∷ []) picture instance
+pub worked-calls : (tols tols′ : Option ℕ) → TwoCalls C (0x9A ∷ []) mixed [] picture picture tols tols′
+worked-calls =
+    whole-calls C (0x9A ∷ []) mixed [] (instances .worked) (instances .interleaved) picture picture (omega arith) (omega arith) (omega arith) (omega arith)
 
 pub worked-record : stillRecord C (record { chroma = 1; depth = 8; width = 16; height = 8 }) ≡ accept
     ((0xFF ∷ 0x00 ∷ 0x15 ∷ 0x1F ∷ 0x01 ∷ 0x02 ∷ 0x33 ∷ 0x80 ∷ 0x00 ∷ 0x00 ∷ 0x10 ∷ 0x00 ∷ 0x08 ∷ 0x00 ∷ 0x00 ∷ 0x02 ∷ [])
@@ -81,7 +79,8 @@ pub worked-record : stillRecord C (record { chroma = 1; depth = 8; width = 16; h
 unfolding stillRecord
 worked-record = worked .expanded-and-written
 
-pub worked-stream : stillStream C (0x9A ∷ []) none ≡ accept
+pub worked-stream : (tols : Option ℕ) → stillStream C (0x9A ∷ []) tols ≡ accept
     ((0x00 ∷ 0x00 ∷ 0x00 ∷ 0x01 ∷ P) ++ (0x00 ∷ 0x00 ∷ 0x00 ∷ 0x01 ∷ Q) ++ (0x00 ∷ 0x00 ∷ 0x00 ∷ 0x01 ∷ 0x00 ∷ 0x41 ∷ 0x9A ∷ []))
-unfolding times be uint bytes chunk atEnd compactRecord havingType without firsts grouped unitsOf annexB
-worked-stream = is-stream C (0x9A ∷ []) picture instance none
+worked-stream tols =
+    is-stream (instances .worked) (omega arith) (omega arith) (I.both picture picture (omega arith) (omega arith) (omega arith) (omega arith) tols tols .first)
+    ∙ ap accept (I.worked-stream picture picture (omega arith) (omega arith) (omega arith) (omega arith) tols tols)

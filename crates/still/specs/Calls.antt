@@ -1,16 +1,31 @@
--- Demand 3 of the two calls: what they give for a still that meets the premises of the whole path (crates/path/specs/Still.antt).
+-- Demand 3 of the two calls: what they give for stills that meet the premises of the whole path (crates/path/specs/Still.antt). The claim is `WholeCalls`, below.
+use Prim.Native.Nat.{ℕ, _≤_}
+use mathlib.Core.Path.{_≡_}
+use mathlib.Core.Logic.{_↔_}
 use mathlib.Core.Option.{Option}
 use mathlib.Core.List.{List}
-use Prim.Native.Nat.{ℕ}
 use lib.ListN.{length}
 use Rattle.error.specs.Outcome.{counted}
 use Rattle.expand.specs.Expand.{Picture}
-use Rattle.path.specs.Path.{Writes, Path}
+use Rattle.path.specs.Still.{Still}
+use Rattle.path.specs.Path.{Writes, Path, Paths}
 use Rattle.still.specs.Stills.{stillRecord, stillStream}
 
--- Both are accepted with any output that is long enough. The record is the one that the path writes, and the stream is the path's: it splits into
--- the grouped units and 00 41 S.
-pub record Calls (C S : List ℕ) (pic : Picture) (tols : Option ℕ) : Type 0 where
-  pub path : Path C S pic tols
+-- One still: both are accepted with any output that is long enough. The record is the one that the path writes, and the stream is the path's, which
+-- splits into the grouped units and 00 41 S.
+pub record Calls (C S : List ℕ) (pic : Picture) (tols : Option ℕ) (path : Path C S pic tols) : Type 0 where
   pub record-given : Writes (counted (stillRecord C pic)) (length (path .bytes)) (path .bytes)
   pub stream-given : Writes (counted (stillStream C S tols)) (length (path .stream)) (path .stream)
+
+-- Two stills: the calls of both, and the calls give the same stream exactly when the S are equal and the grouped units are equal in order.
+pub record TwoCalls (C S C′ S′ : List ℕ) (pic pic′ : Picture) (tols tols′ : Option ℕ) : Type 0 where
+  pub paths : Paths C S C′ S′ pic pic′ tols tols′
+  pub first : Calls C S pic tols (paths .first)
+  pub second : Calls C′ S′ pic′ tols′ (paths .second)
+  pub same : (stillStream C S tols ≡ stillStream C′ S′ tols′) ↔ ((S ≡ S′) × (paths .first .grouped ≡ paths .second .grouped))
+
+-- The claim: of any two stills that meet the premises, with any chroma up to 3, depth up to 15, dimensions, and target or none.
+abbrev pub WholeCalls : Type 0
+WholeCalls =
+    (C S C′ S′ : List ℕ) → Still C S → Still C′ S′ → (pic pic′ : Picture) → pic .chroma ≤ 3 → pic .depth ≤ 15 → pic′ .chroma ≤ 3 → pic′ .depth ≤ 15
+    → (tols tols′ : Option ℕ) → TwoCalls C S C′ S′ pic pic′ tols tols′

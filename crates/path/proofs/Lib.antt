@@ -9,4 +9,5 @@ pub mod Expansion
 pub mod Record
 pub mod Steps
 pub mod Path
+pub mod Premises
 pub mod Instance

@@ -83,4 +83,4 @@ pub whole-path : WholePath
 whole-path C S C′ S′ still still′ pic pic′ chroma depth chroma′ depth′ tols tols′ =
     let p = path C S still pic chroma depth tols in
     let q = path C′ S′ still′ pic′ chroma′ depth′ tols′ in
-    record { first = p; second = q; same = (λ e. (same-picture p q e, same-grouped p q e), λ e. same-streams p q (e .0) (e .1)) }
+    record { first = p; second = q; same = (λ e. (cc (same-picture p q e), cc (same-grouped p q e)), λ e. same-streams p q (e .0) (e .1)) }

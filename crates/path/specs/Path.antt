@@ -47,7 +47,7 @@ pub record Path (C S : List ℕ) (pic : Picture) (tols : Option ℕ) : Type 0 wh
   -- "split stream takes the stream"
   pub spans : List Span
   pub splits : splitStream stream ≡ accept spans
-  -- "Grouped units are C's units, one place each", in the described order
+  -- "Grouped units are C's units, one place each", in the described order; only one list is (`one-order`, proofs/OneOrder.antt)
   pub grouped : List (List ℕ)
   pub order : GroupedAs (unitsIn C) grouped
   -- "With n units in C the split counts n + 1; unit k below n is grouped unit k, unit n is 00 41 S."

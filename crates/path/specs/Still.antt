@@ -41,7 +41,7 @@ pub record Still (C S : List ℕ) : Type 0 where
   pub read : CompactParsed
   pub list : List ℕ
   pub reads : parseCompact C ≡ accept (read, list)
-  -- C expands, whatever is known of the picture: some chroma, depth and dimensions serve to say it
+  -- C expands: with some chroma, depth and dimensions, on which that does not depend
   pub picture : Picture
   pub full : FullHead
   pub full-list : List ℕ

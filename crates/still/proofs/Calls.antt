@@ -58,7 +58,7 @@ whole-calls C S C′ S′ still still′ pic pic′ chroma depth chroma′ depth
       paths = w;
       first = calls still chroma depth (w .first);
       second = calls still′ chroma′ depth′ (w .second);
-      same = (λ g. w .same .0 (bytes-of (sym e ∙ g ∙ f)), λ g. e ∙ ap accept (w .same .1 g) ∙ sym f);
+      same = (λ g. let x = w .same .0 (bytes-of (sym e ∙ g ∙ f)) in (cc (x .0), cc (x .1)), λ g. e ∙ ap accept (w .same .1 g) ∙ sym f);
     }
   where
     bytes-of : {a b : List ℕ} → accept a ≡ accept b → a ≡ b

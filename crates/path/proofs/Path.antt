@@ -15,7 +15,7 @@ use Rattle.grouping.specs.Grouping.{grouped}
 use Rattle.grouping.proofs.Grouping.{grouped-as}
 use Rattle.expand.specs.Expand.{Picture}
 use Rattle.path.specs.Still.{unitsIn, Still}
-use Rattle.path.specs.Path.{Path, Paths, WholePath}
+use Rattle.path.specs.Path.{Path, WholePath}
 use Rattle.path.proofs.Writes.{writes-of, counts-of}
 use Rattle.path.proofs.Carried.{splits, split-count, unit-below, unit-last}
 use Rattle.path.proofs.Steps.{config, expansion-of, listOf, streamOf, reads-as, carries, headOf, recordOf, headBack, itemOf, is-expanded, is-written, is-read-back, is-restored, is-assembled}

@@ -1,6 +1,6 @@
 -- What is known of a compact record that was read: its units, their number and lengths, its prefix size.
 use Prim.Native.Nat.{ℕ, _^_, _≤_}
-use mathlib.Core.Path.{_≡_, sym, ap, _∙_, subst}
+use mathlib.Core.Path.{_≡_, sym, ap, subst}
 use mathlib.Core.List.{List, map}
 use lib.ListN.{length, length-map}
 use borrow.Author.Tests.{le-leb}

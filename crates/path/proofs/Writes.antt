@@ -3,7 +3,7 @@ use Prim.Native.Nat.{ℕ, suc, _+_, _≤_, _<_}
 use native.Mathlib.Omega.{arith}
 use native.Mathlib.Decide.{decLe}
 use mathlib.Core.Path.{_≡_, sym, ap, _∙_}
-use mathlib.Core.List.{List, _++_}
+use mathlib.Core.List.{List}
 use lib.ListN.{length, drop, getD, replicate, length-replicate, getD-replicate, List·getD-append}
 use lib.Seq.{ext-getD, getD-append-add, getD-drop}
 use borrow.Author.Tests.{le-leb}

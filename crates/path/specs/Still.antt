@@ -55,6 +55,6 @@ pub record Still (C S : List ℕ) : Type 0 where
   pub some : (k : ℕ) → k < length (unitsIn C) → 0 < length (getD (unitsIn C) k [])
   pub clean : (k : ℕ) → k < length (unitsIn C) → Clean (getD (unitsIn C) k [])
   pub picture-clean : Clean S
-  -- S may be empty; with its header it fits its prefix
+  -- "S, which may be empty, fits a prefix of size p when 2 plus its length is below 256^p"; at most 2^29 bytes
   pub short : length S ≤ 2 ^ 29
   pub fits : 2 + length S < 256 ^ (read .config .«length_size»)

@@ -1,45 +1,57 @@
 -- What a unit type stands for (H.266 table 5; ISO/IEC 14496-15 11.2.4.2 for those that may stand in a record).
 use Prim.Native.Nat.{ℕ}
-use mathlib.Core.Bool.{Bool, true, false}
+use mathlib.Core.Bool.{Bool, true, false, _&&_, _||_}
+use mathlib.Core.List.{List}
 use lib.Dec.{leb, eqb}
 use Rattle.error.specs.Logic.{if_then_else_}
+use Rattle.nal.specs.Header.{typeOr31}
 use Rattle.nal.specs.declared.UnitKind.{UnitKind}
-use Rattle.nal.specs.declared.UnitKind.the-variants.{PictureData, Opi, Dci, Vps, Sps, Pps, PrefixAps, PrefixSei, Aud, Other}
+use Rattle.nal.specs.declared.UnitKind.the-variants.{PictureData, Record, Aud, Other}
 
--- "Types 0 to 11 are picture data; 12 to 17 and 23 may stand in a record .. AUD is 20."
+-- "12 to 17 and 23 may stand in a record"
+abbrev pub isRecordType : ℕ → Bool
+isRecordType t = (leb 12 t && leb t 17) || eqb t 23
+
+-- "Types 0 to 11 are picture data; .. AUD is 20."
 unfoldable pub unitKind : ℕ → UnitKind
 unitKind t =
-    if leb t 11 then PictureData
-    else if eqb t 12 then Opi
-    else if eqb t 13 then Dci
-    else if eqb t 14 then Vps
-    else if eqb t 15 then Sps
-    else if eqb t 16 then Pps
-    else if eqb t 17 then PrefixAps
-    else if eqb t 23 then PrefixSei
+    if leb t 11 then PictureData t
+    else if isRecordType t then Record t
     else if eqb t 20 then Aud
     else Other
 
+-- the kind of a unit, by its type, 31 where byte 1 is absent
+abbrev pub kindOf : List ℕ → UnitKind
+kindOf u = unitKind (typeOr31 u)
+
 abbrev pub isPictureData : UnitKind → Bool
-isPictureData PictureData = true
-isPictureData Opi = false
-isPictureData Dci = false
-isPictureData Vps = false
-isPictureData Sps = false
-isPictureData Pps = false
-isPictureData PrefixAps = false
-isPictureData PrefixSei = false
+isPictureData (PictureData t) = true
+isPictureData (Record t) = false
 isPictureData Aud = false
 isPictureData Other = false
 
-abbrev pub isRecordKind : UnitKind → Bool
-isRecordKind PictureData = false
-isRecordKind Opi = true
-isRecordKind Dci = true
-isRecordKind Vps = true
-isRecordKind Sps = true
-isRecordKind Pps = true
-isRecordKind PrefixAps = true
-isRecordKind PrefixSei = true
-isRecordKind Aud = false
-isRecordKind Other = false
+abbrev pub isRecord : UnitKind → Bool
+isRecord (PictureData t) = false
+isRecord (Record t) = true
+isRecord Aud = false
+isRecord Other = false
+
+abbrev pub isAud : UnitKind → Bool
+isAud (PictureData t) = false
+isAud (Record t) = false
+isAud Aud = true
+isAud Other = false
+
+-- picture data of this type
+abbrev pub isPictureDataOf : ℕ → UnitKind → Bool
+isPictureDataOf t (PictureData x) = eqb x t
+isPictureDataOf t (Record x) = false
+isPictureDataOf t Aud = false
+isPictureDataOf t Other = false
+
+-- a record kind of this type
+abbrev pub isRecordOf : ℕ → UnitKind → Bool
+isRecordOf t (PictureData x) = false
+isRecordOf t (Record x) = eqb x t
+isRecordOf t Aud = false
+isRecordOf t Other = false

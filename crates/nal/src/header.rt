@@ -1,8 +1,11 @@
-// For the crates further down: a unit's type, where the unit is within the bounds already.
+// For the crates further down: a unit's type and kind, where the unit is within the bounds already.
 use super::LARGEST_UNIT_TYPE;
+use super::UnitKind;
+use super::unit_kind;
 ghost use mathlib.Core.Path.{_≡_};
 ghost use Prim.Native.Nat.{_≤_};
 ghost use Rattle.nal.specs.Header.{largestUnitType, typeOr31};
+ghost use Rattle.nal.specs.Kinds.{unitKind, kindOf, isPictureDataOf, isRecordOf};
 
 // The type of a unit, 31 where byte 1 is absent.
 pub fn type_or_31(nal: &[u8]) -> u8
@@ -12,4 +15,33 @@ pub fn type_or_31(nal: &[u8]) -> u8
         return LARGEST_UNIT_TYPE;
     }
     nal[1] / 8
+}
+
+// The kind of a unit, by its type.
+pub fn kind_of(nal: &[u8]) -> UnitKind
+    ensures { λ r. ⌜ r ≡ kindOf (now (nal .entry)) ⌝ }
+{
+    unit_kind(type_or_31(nal))
+}
+
+// Whether a type is that of picture data of the type `t`.
+pub fn is_picture_data_of(nal_unit_type: u8, t: u8) -> bool
+    ensures { λ r. ⌜ r ≡ isPictureDataOf t (unitKind «nal_unit_type») ⌝ }
+{
+    let kind = unit_kind(nal_unit_type);
+    match kind {
+        UnitKind::PictureData(x) => x == t,
+        _ => false,
+    }
+}
+
+// Whether a type is that of a record kind, and `t`.
+pub fn is_record_of(nal_unit_type: u8, t: u8) -> bool
+    ensures { λ r. ⌜ r ≡ isRecordOf t (unitKind «nal_unit_type») ⌝ }
+{
+    let kind = unit_kind(nal_unit_type);
+    match kind {
+        UnitKind::Record(x) => x == t,
+        _ => false,
+    }
 }

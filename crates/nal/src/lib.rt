@@ -6,7 +6,7 @@ use error::LARGEST_INPUT;
 use error::Refusal;
 ghost use mathlib.Core.Path.{_≡_};
 ghost use Rattle.nal.specs.Header.{layerId, unitType, temporalIdPlus1, nalHeader};
-ghost use Rattle.nal.specs.Kinds.{unitKind, isPictureData, isRecordKind};
+ghost use Rattle.nal.specs.Kinds.{unitKind, isPictureData, isRecord};
 ghost use Rattle.nal.specs.Answers.{headerOf, headerPart, checkOf, checked};
 
 // The unit types that are named in this build, after the original.
@@ -47,16 +47,10 @@ pub enum UnitCheck {
     Refused(Refusal),
 }
 
-// What a unit type stands for.
+// What a unit type stands for; picture data and record kinds with their type.
 pub enum UnitKind {
-    PictureData,
-    Opi,
-    Dci,
-    Vps,
-    Sps,
-    Pps,
-    PrefixAps,
-    PrefixSei,
+    PictureData(u8),
+    Record(u8),
     Aud,
     Other,
 }
@@ -114,14 +108,8 @@ pub fn unit_kind(nal_unit_type: u8) -> UnitKind
     ensures { λ r. ⌜ r ≡ unitKind «nal_unit_type» ⌝ }
 {
     match nal_unit_type {
-        0..=11 => UnitKind::PictureData,
-        NAL_OPI => UnitKind::Opi,
-        NAL_DCI => UnitKind::Dci,
-        NAL_VPS => UnitKind::Vps,
-        NAL_SPS => UnitKind::Sps,
-        NAL_PPS => UnitKind::Pps,
-        NAL_PREFIX_APS => UnitKind::PrefixAps,
-        NAL_PREFIX_SEI => UnitKind::PrefixSei,
+        0..=11 => UnitKind::PictureData(nal_unit_type),
+        NAL_OPI..=NAL_PREFIX_APS | NAL_PREFIX_SEI => UnitKind::Record(nal_unit_type),
         NAL_AUD => UnitKind::Aud,
         _ => UnitKind::Other,
     }
@@ -133,19 +121,19 @@ pub fn is_vcl(nal_unit_type: u8) -> bool
 {
     let kind = unit_kind(nal_unit_type);
     match kind {
-        UnitKind::PictureData => true,
+        UnitKind::PictureData(_) => true,
         _ => false,
     }
 }
 
 // Whether a unit of this type may stand in a record.
 pub fn is_record_nal_type(nal_unit_type: u8) -> bool
-    ensures { λ r. ⌜ r ≡ isRecordKind (unitKind «nal_unit_type») ⌝ }
+    ensures { λ r. ⌜ r ≡ isRecord (unitKind «nal_unit_type») ⌝ }
 {
     let kind = unit_kind(nal_unit_type);
     match kind {
-        UnitKind::PictureData | UnitKind::Aud | UnitKind::Other => false,
-        _ => true,
+        UnitKind::Record(_) => true,
+        _ => false,
     }
 }
 

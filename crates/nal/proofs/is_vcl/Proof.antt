@@ -20,7 +20,7 @@ returns c =
 returns-2 : tie.Need-returns-2
 returns-2 c =
     let k = c .before .unit-kind in
-    rw (← k .ensures) (sym (not-picture (k .result) (c .match .keys2)))
+    rw (← k .ensures) (sym (not-picture 0 (k .result) (c .match .keys2) .0))
 
 pub is-vcl-spec : {M : Type 1} → statement M
 is-vcl-spec = tie.close (tie.spec unit-kind-requires enum-told returns returns-2)

@@ -1,6 +1,7 @@
 // For the crates further down: what stands behind a read, or that read's refusal, so that reads one behind the other branch nowhere.
 use super::BitPosition;
 use super::BitsRead;
+use super::FIRST_BIT;
 use super::bits;
 ghost use mathlib.Core.Path.{_≡_};
 ghost use mathlib.Core.List.{List};
@@ -85,6 +86,6 @@ pub fn position(r: BitsRead) -> BitPosition
 {
     match r {
         BitsRead::Value(_, at) => at,
-        BitsRead::Refused(_) => BitPosition(0),
+        BitsRead::Refused(_) => FIRST_BIT,
     }
 }

@@ -5,26 +5,36 @@ use super::ByteOffset;
 use error::Refusal;
 ghost use mathlib.Core.Path.{_≡_};
 ghost use mathlib.Core.List.{List};
-ghost use Prim.Native.Nat.{ℕ, _+_, _*_, _%_, _≤_, _<_, _^_};
+ghost use Prim.Native.Nat.{ℕ, _+_, _-_, _*_, _%_, _≤_, _<_, _^_};
 ghost use lib.Dec.{leb};
-ghost use lib.ListN.{length};
+ghost use lib.ListN.{length, getD};
 ghost use Rattle.error.specs.Parse.{value, bind};
 ghost use Rattle.bit_reader.specs.Bits.{bitAt, u, skip, align, zerosBeforeOne, ue};
 ghost use Rattle.bit_reader.specs.Answers.{parsed, refusalOf};
 
-// The bit at a position, the highest of each byte first.
-fn bit(s: &[u8], p: usize) -> u32
-    requires { ⌜ p < 8 * length (now s) ⌝ }
-    ensures { λ r. ⌜ r ≡ bitAt (now (s .entry)) p ⌝ }
+// The position `n` bits behind a position.
+pub fn on(at: BitPosition, n: usize) -> BitPosition
+    requires { ⌜ at .0 + n < 2 ^ 64 ⌝ }
+    ensures { λ r. ⌜ r .0 ≡ at .0 + n ⌝ }
 {
+    BitPosition(at.0 + n)
+}
+
+// The bit at a position, the highest of each byte first.
+fn bit(s: &[u8], at: BitPosition) -> u32
+    requires { ⌜ at .0 < 8 * length (now s) ⌝ }
+    ensures { λ r. ⌜ r ≡ bitAt (now (s .entry)) (at .0) ⌝ }
+{
+    let p = at.0;
     ((s[p / 8] >> (7 - p % 8)) % 2) as u32
 }
 
 // Whether `n` bits are left from a position on.
-fn has_bits(s: &[u8], from: usize, n: usize) -> bool
+fn has_bits(s: &[u8], at: BitPosition, n: usize) -> bool
     requires { ⌜ length (now s) ≤ 2 ^ 30 ⌝ }
-    ensures { λ r. ⌜ r ≡ leb (from + n) (8 * length (now (s .entry))) ⌝ }
+    ensures { λ r. ⌜ r ≡ leb (at .0 + n) (8 * length (now (s .entry))) ⌝ }
 {
+    let from = at.0;
     let total = s.len() * 8;
     if total < from {
         return false;
@@ -37,17 +47,16 @@ pub fn read_bits(s: &[u8], at: BitPosition, n: usize) -> BitsRead
     requires { ⌜ (n ≤ 32) × (length (now s) ≤ 2 ^ 30) ⌝ }
     ensures { λ r. ⌜ parsed r ≡ u n (now (s .entry)) (at .0) ⌝ }
 {
-    let from = at.0;
-    if !has_bits(s, from, n) {
+    if !has_bits(s, at, n) {
         return BitsRead::Refused(Refusal::BitsRunOut);
     }
     let mut v: u32 = 0;
     let mut k: usize = 0;
     while k < n {
-        v = v * 2 + bit(s, from + k);
+        v = v * 2 + bit(s, on(at, k));
         k += 1;
     }
-    BitsRead::Value(v, BitPosition(from + n))
+    BitsRead::Value(v, on(at, n))
 }
 
 // Passes over `n` bits; the value is 0. Refusal: 11.
@@ -55,11 +64,10 @@ pub fn skip_bits(s: &[u8], at: BitPosition, n: usize) -> BitsRead
     requires { ⌜ length (now s) ≤ 2 ^ 30 ⌝ }
     ensures { λ r. ⌜ parsed r ≡ bind (skip n (now (s .entry)) (at .0)) (λ _ q. value 0 q) ⌝ }
 {
-    let from = at.0;
-    if !has_bits(s, from, n) {
+    if !has_bits(s, at, n) {
         return BitsRead::Refused(Refusal::BitsRunOut);
     }
-    BitsRead::Value(0, BitPosition(from + n))
+    BitsRead::Value(0, on(at, n))
 }
 
 // The zeros before the next 1, at most 31, and the position behind the 1. Refusals: 11, 12.
@@ -67,16 +75,17 @@ fn zeros_before_one(s: &[u8], at: BitPosition) -> BitsRead
     requires { ⌜ length (now s) ≤ 2 ^ 30 ⌝ }
     ensures { λ r. ⌜ parsed r ≡ zerosBeforeOne 0 32 (now (s .entry)) (at .0) ⌝ }
 {
-    let mut p = at.0;
+    let mut here = at;
     let mut z: u32 = 0;
     while z < 32 {
-        if !has_bits(s, p, 1) {
+        if !has_bits(s, here, 1) {
             return BitsRead::Refused(Refusal::BitsRunOut);
         }
-        if bit(s, p) == 1 {
-            return BitsRead::Value(z, BitPosition(p + 1));
+        let next = on(here, 1);
+        if bit(s, here) == 1 {
+            return BitsRead::Value(z, next);
         }
-        p += 1;
+        here = next;
         z += 1;
     }
     BitsRead::Refused(Refusal::CodeTooLong)
@@ -114,12 +123,21 @@ pub fn byte_offset(at: BitPosition) -> ByteOffset
     ByteOffset(at.0 / 8)
 }
 
-// The position of a byte's highest bit.
-pub fn bit_position(o: ByteOffset) -> BitPosition
-    requires { ⌜ o .0 ≤ 2 ^ 60 ⌝ }
-    ensures { λ r. ⌜ r .0 ≡ 8 * o .0 ⌝ }
+// How many bytes stand between two offsets.
+pub fn bytes_between(from: ByteOffset, to: ByteOffset) -> usize
+    requires { ⌜ from .0 ≤ to .0 ⌝ }
+    ensures { λ r. ⌜ r ≡ to .0 - from .0 ⌝ }
 {
-    BitPosition(o.0 * 8)
+    to.0 - from.0
+}
+
+// The byte `k` bytes behind an offset.
+pub fn byte_behind(s: &[u8], from: ByteOffset, k: usize) -> u8
+    requires { ⌜ from .0 + k < length (now s) ⌝ }
+    ensures { λ r. ⌜ r ≡ getD (now (s .entry)) (from .0 + k) 0 ⌝ }
+{
+    let start = from.0;
+    s[start + k]
 }
 
 // The refusal of a refused read; of a value, which no caller asks for, 11.

@@ -8,6 +8,9 @@ use error::Refusal;
 // A count of bits from the highest bit of the first byte.
 pub struct BitPosition(pub usize);
 
+// The position of the first bit.
+pub const FIRST_BIT: BitPosition = BitPosition(0);
+
 // A count of bytes. It and a bit position are different counts, converted only at whole bytes.
 pub struct ByteOffset(pub usize);
 

@@ -1,6 +1,7 @@
 // For the crates further down: the bit reader, which borrows an RBSP and keeps its position. A read takes it apart and calls one of `bits`.
 use super::BitPosition;
 use super::BitsRead;
+use super::FIRST_BIT;
 use super::bits;
 ghost use mathlib.Core.Path.{_≡_};
 ghost use Prim.Native.Nat.{_≤_, _^_};
@@ -38,7 +39,7 @@ impl<'a> BitReader<'a> {
     {
         BitReader {
             src,
-            pos: BitPosition(0),
+            pos: FIRST_BIT,
         }
     }
 

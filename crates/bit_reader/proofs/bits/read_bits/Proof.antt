@@ -14,10 +14,10 @@ use Rattle.bit_reader.proofs.bits.read_bits.Statement.{statement}
 use Rattle.bit_reader.proofs.bits.read_bits.Tie as tie
 
 abbrev Inv-loop : tie.InvT-loop
-Inv-loop s n from v₀ k₀ v k = (k ≤ n) × (v ≡ bitsAt s from k)
+Inv-loop s at n v₀ k₀ v k = (k ≤ n) × (v ≡ bitsAt s (at .0) k)
 
 abbrev μ-loop : tie.MeasureT-loop
-μ-loop s n from v₀ k₀ v k = n - k
+μ-loop s at n v₀ k₀ v k = n - k
 
 has-bits-requires : tie.Need-has-bits-requires Inv-loop μ-loop
 has-bits-requires c κs = search needs
@@ -36,14 +36,14 @@ loop-holds c = search needs
 mul-v : tie.Need-mul-v Inv-loop μ-loop
 mul-v c = let a = c .before .before .before .before .before .args in omega (arith, bits-fit (a .s .now) (a .at .0) (c .before .loop .k) (omega arith))
 
-add-bit : tie.Need-add-bit Inv-loop μ-loop
-add-bit c = omega (arith, leb-true, room (c .before .before))
+on-requires : tie.Need-on-requires Inv-loop μ-loop
+on-requires c κs = omega (arith, leb-true, room (c .before .before))
 
 bit-requires : tie.Need-bit-requires Inv-loop μ-loop
-bit-requires c κs = omega (arith, leb-true, room (c .before .before))
+bit-requires c κs = omega (arith, leb-true, room (c .before .before .before))
 
 add-v : tie.Need-add-v Inv-loop μ-loop
-add-v c = let a = c .before .before .before .before .before .before .args in omega (arith, bits-fit (a .s .now) (a .at .0) (c .before .before .loop .k) (omega arith))
+add-v c = let a = c .before .before .before .before .before .before .before .args in omega (arith, bits-fit (a .s .now) (a .at .0) (c .before .before .before .loop .k) (omega arith))
 
 add-k : tie.Need-add-k Inv-loop μ-loop
 add-k c = search needs
@@ -55,11 +55,11 @@ loop-again : tie.Need-loop-again Inv-loop μ-loop
 unfolding bitsAt
 loop-again c = (search needs, rw add-one (cc))
 
-add-t14 : tie.Need-add-t14 Inv-loop μ-loop
-add-t14 c = omega (arith, leb-true, room (c .before .before))
+on-requires-2 : tie.Need-on-requires-2 Inv-loop μ-loop
+on-requires-2 c κs = omega (arith, leb-true, room (c .before .before))
 
 returns-2 : tie.Need-returns-2 Inv-loop μ-loop
-returns-2 c = sym (u-there _ _ _ _ (c .before .loop .k) (room (c .before .before)) (c .before .loop .inv .1) (omega arith))
+returns-2 c = rw (c .on2 .ensures) (sym (u-there _ _ _ _ (c .before .before .loop .k) (room (c .before .before .before)) (c .before .before .loop .inv .1) (omega arith)))
 
 pub read-bits-spec : {M : Type 1} → statement M
 read-bits-spec =
@@ -71,11 +71,11 @@ read-bits-spec =
     returns
     loop-holds
     mul-v
-    add-bit
+    on-requires
     bit-requires
     add-v
     add-k
     loop-less
     loop-again
-    add-t14
+    on-requires-2
     returns-2)

@@ -22,12 +22,12 @@ returns c = rw (sym (c .before .has-bits .ensures) ∙ not-true _ (c .if1 .taken
 room : (c : tie.Else1) → leb (c .before .before .before .args .at .0 + c .before .before .before .args .n) (8 * length (c .before .before .before .args .s .now)) ≡ true
 room c = sym (c .before .has-bits .ensures) ∙ not-false _ (c .if1 .left)
 
-add-t8 : tie.Need-add-t8
-add-t8 c = omega (arith, leb-true, room c)
+on-requires : tie.Need-on-requires
+on-requires c κs = omega (arith, leb-true, room c)
 
 returns-2 : tie.Need-returns-2
 unfolding skip
-returns-2 c = rw (room c)
+returns-2 c = rw (c .on .ensures, room (c .before))
 
 pub skip-bits-spec : {M : Type 1} → statement M
-skip-bits-spec = tie.close (tie.spec has-bits-requires returns add-t8 returns-2)
+skip-bits-spec = tie.close (tie.spec has-bits-requires returns on-requires returns-2)

@@ -13,10 +13,10 @@ use Rattle.bit_reader.proofs.bits.zeros_before_one.Statement.{statement
 use Rattle.bit_reader.proofs.bits.zeros_before_one.Tie as tie
 
 abbrev Inv-loop : tie.InvT-loop
-Inv-loop s p₀ z₀ p z = (z ≤ 32) × (zerosBeforeOne 0 32 s p₀ ≡ zerosBeforeOne z (32 - z) s p)
+Inv-loop s here₀ z₀ here z = (z ≤ 32) × (zerosBeforeOne 0 32 s (here₀ .0) ≡ zerosBeforeOne z (32 - z) s (here .0))
 
 abbrev μ-loop : tie.MeasureT-loop
-μ-loop s p₀ z₀ p z = 32 - z
+μ-loop s here₀ z₀ here z = 32 - z
 
 loop-holds : tie.Need-loop-holds Inv-loop μ-loop
 loop-holds c = (omega arith, refl)
@@ -30,22 +30,19 @@ returns c =
     sym (l .inv .1 ∙ zeros-out _ (l .z) _ (32 - (l .z + 1)) _ (omega arith) (sym (c .before .has-bits .ensures) ∙ not-true _ (c .if1 .taken)))
 
 -- there is a bit
-room : (c : tie.Else1 Inv-loop μ-loop) → leb (c .before .before .before .loop .p + 1) (8 * length (c .before .before .before .before .before .args .s .now)) ≡ true
+room : (c : tie.Else1 Inv-loop μ-loop) → leb (c .before .before .before .loop .here .0 + 1) (8 * length (c .before .before .before .before .before .args .s .now)) ≡ true
 room c = sym (c .before .has-bits .ensures) ∙ not-false _ (c .if1 .left)
 
-bit-requires : tie.Need-bit-requires Inv-loop μ-loop
-bit-requires c κs = omega (arith, leb-true, room c)
+on-requires : tie.Need-on-requires Inv-loop μ-loop
+on-requires c κs = omega (arith, leb-true, room c)
 
-add-t9 : tie.Need-add-t9 Inv-loop μ-loop
-add-t9 c = omega (arith, leb-true, room (c .before .before))
+bit-requires : tie.Need-bit-requires Inv-loop μ-loop
+bit-requires c κs = omega (arith, leb-true, room (c .before))
 
 returns-2 : tie.Need-returns-2 Inv-loop μ-loop
 returns-2 c =
-    let l = c .before .before .before .before .before .loop in
-    sym (l .inv .1 ∙ zeros-one _ (l .z) _ (32 - (l .z + 1)) _ (omega arith) (room (c .before .before)) (sym (c .before .bit .ensures) ∙ c .if2 .taken))
-
-add-p : tie.Need-add-p Inv-loop μ-loop
-add-p c = omega (arith, leb-true, room (c .before .before))
+    let l = c .before .before .before .before .before .before .loop in
+    rw (c .before .before .on .ensures) (sym (l .inv .1 ∙ zeros-one _ (l .z) _ (32 - (l .z + 1)) _ (omega arith) (room (c .before .before .before)) (sym (c .before .bit .ensures) ∙ c .if2 .taken)))
 
 add-z : tie.Need-add-z Inv-loop μ-loop
 add-z c = search needs
@@ -55,8 +52,8 @@ loop-less c = search needs
 
 loop-again : tie.Need-loop-again Inv-loop μ-loop
 loop-again c =
-    let l = c .before .before .before .before .before .loop in
-    (search needs, l .inv .1 ∙ zeros-more _ (l .z) _ (32 - (l .z + 1)) _ (omega arith) (room (c .before .before)) (λ e. c .if2 .left (c .before .bit .ensures ∙ e)))
+    let l = c .before .before .before .before .before .before .loop in
+    (search needs, rw (c .before .before .on .ensures) (l .inv .1 ∙ zeros-more _ (l .z) _ (32 - (l .z + 1)) _ (omega arith) (room (c .before .before .before)) (λ e. c .if2 .left (c .before .bit .ensures ∙ e))))
 
 returns-3 : tie.Need-returns-3 Inv-loop μ-loop
 returns-3 c = let l = c .before .loop in sym (l .inv .1 ∙ zeros-none _ (l .z) (32 - l .z) _ (omega arith))
@@ -70,10 +67,9 @@ zeros-before-one-spec =
     loop-holds
     has-bits-requires
     returns
+    on-requires
     bit-requires
-    add-t9
     returns-2
-    add-p
     add-z
     loop-less
     loop-again

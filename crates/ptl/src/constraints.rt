@@ -63,11 +63,10 @@ pub fn constraint_bytes(rbsp: &[u8], from: ByteOffset, to: ByteOffset) -> [u8; 6
     ensures { λ r. ⌜ r ≡ padded 63 0 (withoutFlags (take (to .0 - from .0) (drop (from .0) (now (rbsp .entry))))) ⌝ }
 {
     let mut info = [0u8; 63];
-    let start = from.0;
-    let n = to.0 - start;
+    let n = bits::bytes_between(from, to);
     let mut k: usize = 0;
     while k < n {
-        info[k] = rbsp[start + k];
+        info[k] = bits::byte_behind(rbsp, from, k);
         k += 1;
     }
     info[0] = info[0] % 64;
@@ -100,7 +99,7 @@ pub fn read_constraints(rbsp: &[u8], prior: BitsRead) -> ConstraintsRead
     };
     let from = bits::byte_offset(behind::position(prior));
     let to = bits::byte_offset(end);
-    let num_bytes = to.0 - from.0;
+    let num_bytes = bits::bytes_between(from, to);
     let bytes = constraint_bytes(rbsp, from, to);
     let part = Constraints {
         ptl_frame_only_constraint_flag: behind::number(frame_only) == 1,

@@ -1,32 +1,29 @@
 -- `constraint_bytes` copies the bytes one after the other, then clears the top two bits of the first.
 use mathlib.Core.Path.{_≡_, refl, ap, _∙_}
 use mathlib.Core.List.{List}
-use Prim.Native.Nat.{ℕ, _+_, _-_, _≤_}
+use Prim.Native.Nat.{ℕ, _-_, _≤_}
 use native.Mathlib.Omega.{arith}
 use borrow.Author.Needs.{needs}
-use lib.ListN.{length, getD, take, drop, set}
+use lib.ListN.{length, take, drop, set}
 use Rattle.ptl.specs.Ptl.{padded}
 use Rattle.ptl.proofs.ConstraintInfo.{copied-more, copied-end}
 use Rattle.ptl.proofs.constraints.constraint_bytes.Statement.{statement}
 use Rattle.ptl.proofs.constraints.constraint_bytes.Tie as tie
 
 abbrev Inv-loop : tie.InvT-loop
-Inv-loop rbsp info₀ start n k₀ info k = (k ≤ n) × (info ≡ padded 63 0 (take k (drop start rbsp))) × (length info ≡ 63)
+Inv-loop rbsp from info₀ n k₀ info k = (k ≤ n) × (info ≡ padded 63 0 (take k (drop (from .0) rbsp))) × (length info ≡ 63)
 
 abbrev μ-loop : tie.MeasureT-loop
-μ-loop rbsp info₀ start n k₀ info k = n - k
+μ-loop rbsp from info₀ n k₀ info k = n - k
 
-sub-n : tie.Need-sub-n Inv-loop μ-loop
-sub-n c = search needs
+bytes-between-requires : tie.Need-bytes-between-requires Inv-loop μ-loop
+bytes-between-requires c κs = search needs
 
 loop-holds : tie.Need-loop-holds Inv-loop μ-loop
 loop-holds c = (search needs, refl, refl)
 
-add-info : tie.Need-add-info Inv-loop μ-loop
-add-info c = search needs
-
-shared-slice-read-info : tie.Need-shared-slice-read-info Inv-loop μ-loop
-shared-slice-read-info c = search needs
+byte-behind-requires : tie.Need-byte-behind-requires Inv-loop μ-loop
+byte-behind-requires c κs = search needs
 
 array-write-info : tie.Need-array-write-info Inv-loop μ-loop
 array-write-info c = search needs
@@ -40,9 +37,9 @@ loop-less c = search needs
 loop-again : tie.Need-loop-again Inv-loop μ-loop
 loop-again c =
     let l = c .before .before .loop in
-    let a = c .before .before .before .before .args in (
+    let a = c .before .before .before .before .before .args in (
       search needs,
-      ap (λ (x : List ℕ). set x (l .k) (getD (a .rbsp .now) (a .from .0 + l .k) 0)) (l .inv .1) ∙ copied-more (a .rbsp .now) (a .from .0) (l .k) (omega arith) (omega arith),
+      ap (λ (x : List ℕ). set x (l .k) (c .byte-behind .result)) (l .inv .1) ∙ rw (c .byte-behind .ensures) (copied-more (a .rbsp .now) (a .from .0) (l .k) (omega arith) (omega arith)),
       search needs,
     )
 
@@ -54,7 +51,7 @@ array-write-info-2 c = search needs
 
 returns : tie.Need-returns Inv-loop μ-loop
 returns c =
-    let a = c .before .before .before .args in
+    let a = c .before .before .before .before .args in
     copied-end (a .rbsp .now) (c .before .loop .info) (a .from .0) (c .before .loop .k) (a .to .0 - a .from .0) (c .before .loop .inv .1) (omega arith)
 
 pub constraint-bytes-spec : {M : Type 1} → statement M
@@ -63,10 +60,9 @@ constraint-bytes-spec =
     (tie.spec
     Inv-loop
     μ-loop
-    sub-n
+    bytes-between-requires
     loop-holds
-    add-info
-    shared-slice-read-info
+    byte-behind-requires
     array-write-info
     add-k
     loop-less

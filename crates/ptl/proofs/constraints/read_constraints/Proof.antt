@@ -50,11 +50,11 @@ byte-offset-requires c κs = omega (arith, c .position .ensures, c .before .befo
 byte-offset-requires-2 : tie.Need-byte-offset-requires-2
 byte-offset-requires-2 c κs = run (c .before .before) .whole
 
-sub-num-bytes : tie.Need-sub-num-bytes
-sub-num-bytes c = let t = c .before .before in omega (arith, run (t .before .before .before), t .byte-offset2 .ensures, t .before .byte-offset .ensures, t .before .before .position .ensures)
+bytes-between-requires : tie.Need-bytes-between-requires
+bytes-between-requires c κs = omega (arith, run (c .before .before .before), c .byte-offset2 .ensures, c .before .byte-offset .ensures, c .before .before .position .ensures)
 
 constraint-bytes-requires : tie.Need-constraint-bytes-requires
-constraint-bytes-requires c κs = let t = c .before .before in omega (arith, run (t .before .before .before), t .byte-offset2 .ensures, t .before .byte-offset .ensures, t .before .before .position .ensures, t .before .before .before .before .before .before .before .before .before .before .pre .1)
+constraint-bytes-requires c κs = let t = c .before in omega (arith, run (t .before .before .before), t .byte-offset2 .ensures, t .before .byte-offset .ensures, t .before .before .position .ensures, t .before .before .before .before .before .before .before .before .before .before .pre .1)
 
 number-requires : tie.Need-number-requires
 number-requires c κs = search needs
@@ -65,14 +65,14 @@ number-requires-2 c κs = search needs
 returns-2 : tie.Need-returns-2
 returns-2 c =
     let b = c .before .before in
-    let t = b .before .before .before in
+    let t = b .before .before in
     let o = t .before in
     let e = o .before .before in
     let k = e .before .before .before in
-    rw (c .before .number .ensures, c .number2 .ensures)
+    rw (c .before .number .ensures, c .number2 .ensures, b .before .bytes-between .ensures)
     (ap (λ (x : Constraints). value x (e .before .info .given .0 .1 .0 .0))
     (held-bytes _ (numberIn (k .before .before .read-bits .result)) (numberIn (k .before .read-bits2 .result)) _ _ (o .byte-offset .result .0) (t .byte-offset2 .result .0) (b .constraint-bytes .result) (run e) (o .byte-offset .ensures ∙ o .before .position .ensures) (t .byte-offset2 .ensures) (b .constraint-bytes .ensures))
     ∙ sym (constraints-behind _ _ (k .before .before .read-bits .result) (k .before .read-bits2 .result) (k .general-constraints-info .result) (reads k) ∙ went _ refl (e .before .info .given .1)))
 
 pub read-constraints-spec : {M : Type 1} → statement M
-read-constraints-spec = tie.close (tie.spec read-bits-requires read-bits-requires-2 general-constraints-info-requires enum-known-info enum-told no-constraints-requires returns position-requires byte-offset-requires byte-offset-requires-2 sub-num-bytes constraint-bytes-requires number-requires number-requires-2 returns-2)
+read-constraints-spec = tie.close (tie.spec read-bits-requires read-bits-requires-2 general-constraints-info-requires enum-known-info enum-told no-constraints-requires returns position-requires byte-offset-requires byte-offset-requires-2 bytes-between-requires constraint-bytes-requires number-requires number-requires-2 returns-2)

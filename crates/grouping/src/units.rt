@@ -11,10 +11,12 @@ use unit_list::Wanted;
 use unit_list::find;
 use unit_list::walk;
 ghost use mathlib.Core.Path.{_≡_};
+ghost use mathlib.Core.Bool.{true};
 ghost use Prim.Native.Nat.{_+_, _≤_};
 ghost use lib.ListN.{length};
 ghost use Rattle.boxes.specs.Parts.{held};
 ghost use Rattle.nal.specs.Header.{largestUnitType, typeOr31};
+ghost use Rattle.nal.specs.Kinds.{isRecordType};
 ghost use Rattle.unit_list.specs.Walk.{Fits};
 ghost use Rattle.unit_list.specs.Answers.{listUnits};
 ghost use Rattle.unit_list.specs.Find.{unitsLeft};
@@ -78,17 +80,17 @@ pub fn next_unit(list: &[u8], c: ListCursor) -> UnitStep
     UnitStep::Unit(a, t, next)
 }
 
-// The first unit of a type behind a cursor.
+// The first unit of a record kind behind a cursor, `t` being the type of that kind.
 pub fn first_having(list: &[u8], c: ListCursor, t: u8) -> FirstUnit
-    requires { ⌜ Readable (now list) c ⌝ }
+    requires { ⌜ Readable (now list) c × (isRecordType t ≡ true) ⌝ }
     ensures { λ r. ⌜ (firstOf (now (list .entry)) r ≡ first (havingType t (unitsAt (now (list .entry)) c))) × FirstFits (now (list .entry)) r ⌝ }
 {
     let mut here = c;
     loop {
-        let UnitStep::Unit(a, kind, next) = next_unit(list, here) else {
+        let UnitStep::Unit(a, found, next) = next_unit(list, here) else {
             return FirstUnit::Missing;
         };
-        if kind == t {
+        if header::is_record_of(found, t) {
             return FirstUnit::At(a);
         }
         here = next;

@@ -1,8 +1,11 @@
--- `units::first_having` finds the first unit of a type. The loop's invariant: those of the type that are left are all of them.
+-- `units::first_having` finds the first unit of a record kind. The loop's invariant: those of the type that are left are all of them.
 use Prim.Native.Nat.{_-_}
 use mathlib.Core.Path.{_≡_, refl, sym, ap, _∙_}
 use borrow.Author.Needs.{needs}
+use lib.Dec.{eqb}
 use lib.ListN.{length}
+use borrow.Author.Tests.{eqb-true, eqb-false}
+use Rattle.nal.proofs.UnitKinds.{record-of}
 use Rattle.grouping.specs.Grouping.{havingType, first}
 use Rattle.grouping.specs.Units.{Readable, unitsAt, Stepped}
 use Rattle.grouping.proofs.Walks.{stepped-to, ended, nearer}
@@ -17,7 +20,7 @@ abbrev μ-loop : tie.MeasureT-loop
 μ-loop list t here₀ here = length list - here .at
 
 loop-holds : tie.Need-loop-holds Inv-loop μ-loop
-loop-holds c = (c .before .pre, refl)
+loop-holds c = (c .before .pre .0, refl)
 
 next-unit-requires : tie.Need-next-unit-requires Inv-loop μ-loop
 next-unit-requires c κs = c .loop .inv .0
@@ -39,20 +42,27 @@ step-here : (c : tie.After-known-told Inv-loop μ-loop)
     → Stepped (c .before .before .before .before .before .before .args .list .now) (c .before .before .before .before .loop .here) (c .before .a .given .0 .0) (c .before .a .given .0 .1 .0) (c .before .a .given .0 .1 .1 .0)
 step-here c = stepped-to _ _ _ (c .before .before .before .next-unit .ensures) _ _ _ (c .before .a .given .1)
 
+is-record-of-requires : tie.Need-is-record-of-requires Inv-loop μ-loop
+is-record-of-requires c κs = search needs
+
+-- the test of the kind is that of the type
+tested : (c : tie.After-is-record-of Inv-loop μ-loop) → c .is-record-of .result ≡ eqb (c .before .before .a .given .0 .1 .0) (c .before .before .before .before .before .before .before .args .t)
+tested c = c .is-record-of .ensures ∙ record-of _ _ (c .before .before .before .before .before .before .before .pre .1)
+
 returns-2 : tie.Need-returns-2 Inv-loop μ-loop
 returns-2 c =
-    let u = step-here (c .before) in
-    let h = having-same (c .before .before .before .before .before .before .before .args .t) _ _ _ _ _ (u .turn) (sym (u .type-is) ∙ c .if1 .taken) in
-    (sym (ap first h) ∙ ap first (c .before .before .before .before .before .loop .inv .1), u .inside)
+    let u = step-here (c .before .before) in
+    let h = having-same (c .before .before .before .before .before .before .before .before .args .t) _ _ _ _ _ (u .turn) (sym (u .type-is) ∙ eqb-true _ _ (sym (tested (c .before)) ∙ c .if1 .taken)) in
+    (sym (ap first h) ∙ ap first (c .before .before .before .before .before .before .loop .inv .1), u .inside)
 
 loop-less : tie.Need-loop-less Inv-loop μ-loop
-loop-less c = nearer _ _ _ _ _ (step-here (c .before))
+loop-less c = nearer _ _ _ _ _ (step-here (c .before .before))
 
 loop-again : tie.Need-loop-again Inv-loop μ-loop
 loop-again c =
-    let u = step-here (c .before) in
-    let h = having-other (c .before .before .before .before .before .before .before .args .t) _ _ _ _ _ (u .turn) (λ e. c .if1 .left (u .type-is ∙ e)) in
-    (u .readable, sym h ∙ c .before .before .before .before .before .loop .inv .1)
+    let u = step-here (c .before .before) in
+    let h = having-other (c .before .before .before .before .before .before .before .before .args .t) _ _ _ _ _ (u .turn) (λ e. eqb-false _ _ (sym (tested (c .before)) ∙ c .if1 .left) (u .type-is ∙ e)) in
+    (u .readable, sym h ∙ c .before .before .before .before .before .before .loop .inv .1)
 
 pub first-having-spec : {M : Type 1} → statement M
 first-having-spec =
@@ -65,6 +75,7 @@ first-having-spec =
     enum-known-a
     enum-told
     returns
+    is-record-of-requires
     returns-2
     loop-less
     loop-again)

@@ -5,7 +5,6 @@ use mathlib.Core.Bool.{Bool, true, false, _||_}
 use mathlib.Core.List.{List, [], _∷_, _++_}
 use mathlib.Core.Option.{Option}
 use native.Mathlib.Omega.{arith}
-use lib.Dec.{eqb}
 use lib.ListN.{length, take, drop}
 use lib.Seq.{take-append-seam, drop-append-seam}
 use Rattle.error.specs.Logic.{if_then_else_}
@@ -14,7 +13,7 @@ use Rattle.boxes.specs.Parts.{held}
 use Rattle.boxes.specs.Walk.{more}
 use Rattle.boxes.specs.declared.Span.{Span}
 use Rattle.boxes.proofs.Walk.{total}
-use Rattle.nal.specs.Header.{typeOr31}
+use Rattle.nal.specs.Kinds.{kindOf, isAud}
 use Rattle.opi.specs.Opi.{opiOlsIdx}
 use Rattle.split.specs.Answers.{leftOf}
 use Rattle.access_unit.specs.AccessUnit.{agrees, isOpi, keeps, mayLead, leading, following, kept}
@@ -28,7 +27,7 @@ either false c d e = absurd (let z : _≡_ {A = ℕ} 0 1 = cc in omega arith)
 
 dropped-leads : (target : Option ℕ) (u : List ℕ) → keeps target u ≡ false → mayLead u ≡ true
 unfolding keeps mayLead
-dropped-leads target u e = either (isOpi u) (agrees target (opiOlsIdx u)) (eqb (typeOr31 u) 20) e
+dropped-leads target u e = either (isOpi u) (agrees target (opiOlsIdx u)) (isAud (kindOf u)) e
 
 module _ (item : List ℕ) where
   -- what leads and what follows make the whole

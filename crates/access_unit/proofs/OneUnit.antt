@@ -11,6 +11,7 @@ use Rattle.boxes.specs.Parts.{held}
 use Rattle.boxes.specs.Walk.{countFound}
 use Rattle.boxes.specs.declared.Span.{Span}
 use Rattle.nal.specs.Header.{typeOr31}
+use Rattle.nal.proofs.UnitKinds.{aud-of, record-of}
 use Rattle.unit_list.specs.Answers.{listUnits}
 use Rattle.split.specs.Item.{splitItem}
 use Rattle.split.specs.Stream.{annexB}
@@ -23,11 +24,11 @@ module _ (h : VvcConfig) (list item : List ℕ) (tols : Option ℕ) (xs : List S
     (split : splitItem (h .«length_size») item ≡ accept (a ∷ [])) (is : held item a ≡ u) (no-aud : typeOr31 u ≡ 20 → ⊥) (no-opi : typeOr31 u ≡ 12 → ⊥) where
   leads-not : mayLead (held item a) ≡ false
   unfolding mayLead
-  leads-not = rw (is, ne-eqb (typeOr31 u) 20 no-aud, ne-eqb (typeOr31 u) 12 no-opi)
+  leads-not = rw (is, aud-of (typeOr31 u), record-of 12 (typeOr31 u) refl, ne-eqb (typeOr31 u) 20 no-aud, ne-eqb (typeOr31 u) 12 no-opi)
 
   is-kept : keeps (targetOf h tols) (held item a) ≡ true
   unfolding keeps
-  is-kept = rw (is, ne-eqb (typeOr31 u) 12 no-opi)
+  is-kept = rw (is, record-of 12 (typeOr31 u) refl, ne-eqb (typeOr31 u) 12 no-opi)
 
   one-arranged : arranged item (targetOf h tols) xs (a ∷ []) ≡ map ofList xs ++ (ofItem a ∷ [])
   unfolding arranged leading following kept

@@ -1,24 +1,23 @@
 -- Laws of the target, of the units that it drops, and of those that may lead, by cases as the code tests them.
 use Prim.Native.Nat.{ℕ, _^_, _≤_}
 use mathlib.Core.Path.{_≡_, refl, sym, ap, _∙_}
-use mathlib.Core.Bool.{Bool, true, false, _||_}
+use mathlib.Core.Bool.{true, false}
 use mathlib.Core.List.{List}
 use mathlib.Core.Option.{Option, none, some}
 use native.Mathlib.Omega.{arith}
-use lib.Dec.{eqb}
 use lib.ListN.{length}
-use borrow.Author.Tests.{ne-eqb}
 use Rattle.error.specs.Outcome.{accept, refuse}
 use Rattle.error.specs.Refusals.{numberOf}
 use Rattle.error.specs.declared.Refusal.{Refusal}
 use Rattle.boxes.proofs.Lent.{lent-within}
-use Rattle.nal.specs.Header.{typeOr31}
+use Rattle.nal.specs.Kinds.{kindOf, isRecordOf}
+use Rattle.nal.specs.declared.UnitKind.{UnitKind}
 use Rattle.opi.specs.Opi.{opiOlsIdx}
 use Rattle.opi.specs.Answers.{olsIdxOf, olsIdxGiven}
 use Rattle.opi.specs.declared.OlsIdx.{OlsIdx}
 use Rattle.opi.specs.declared.OlsIdx.the-variants as O
 use Rattle.full.specs.declared.VvcConfig.{VvcConfig}
-use Rattle.access_unit.specs.AccessUnit.{targetOf, agrees, keeps, mayLead}
+use Rattle.access_unit.specs.AccessUnit.{targetOf, agrees, isOpi, keeps, leadingKind, mayLead}
 use Rattle.access_unit.specs.Answers.{tolsOf}
 use Rattle.access_unit.specs.declared.Target.{Target}
 use Rattle.access_unit.specs.declared.Target.the-variants as T
@@ -35,25 +34,16 @@ module _ (h : VvcConfig) (x : Target) where
   target-none e f = rw (e, f)
 
 -- whether a unit may lead
-module _ (u : List ℕ) (t : ℕ) (type : t ≡ typeOr31 u) where
-  pub leads-opi : t ≡ 12 → mayLead u ≡ true
-  unfolding mayLead
-  leads-opi e = rw (← type, e)
-
-  pub leads-other : (t ≡ 12 → ⊥) → mayLead u ≡ eqb t 20
-  unfolding mayLead
-  leads-other e = rw (← type, ne-eqb t 12 e) (or-false (eqb t 20))
-    where
-      or-false : (b : Bool) → (b || false) ≡ b
-      or-false true = refl
-      or-false false = refl
+pub leads : (u : List ℕ) (k : UnitKind) → k ≡ kindOf u → mayLead u ≡ leadingKind k
+unfolding mayLead
+leads u k e = rw e
 
 -- whether a unit is kept
-pub keeps-other : (target : Option ℕ) (u : List ℕ) (t : ℕ) → t ≡ typeOr31 u → (t ≡ 12 → ⊥) → keeps target u ≡ true
+pub keeps-other : (target : Option ℕ) (u : List ℕ) (k : UnitKind) → k ≡ kindOf u → isRecordOf 12 k ≡ false → keeps target u ≡ true
 unfolding keeps
-keeps-other target u t type e = rw (← type, ne-eqb t 12 e)
+keeps-other target u k e h = rw (← e, h)
 
-module _ (target : Option ℕ) (u : List ℕ) (opi : typeOr31 u ≡ 12) where
+module _ (target : Option ℕ) (u : List ℕ) (opi : isOpi u ≡ true) where
   module _ (lent : length u ≤ 2 ^ 30) (r : OlsIdx) (said : olsIdxOf r ≡ olsIdxGiven u) where
     keeps-opi : agrees target (opiOlsIdx u) ≡ keeps target u
     unfolding keeps

@@ -9,7 +9,8 @@ use Rattle.error.specs.Outcome.{Outcome, accept, refuse, lentInput}
 use Rattle.error.specs.Steps.{_>>=_, _>>_}
 use Rattle.boxes.specs.Parts.{held}
 use Rattle.boxes.specs.declared.Span.{Span}
-use Rattle.nal.specs.Header.{typeOr31}
+use Rattle.nal.specs.Kinds.{kindOf, isAud, isRecordOf}
+use Rattle.nal.specs.declared.UnitKind.{UnitKind}
 use Rattle.unit_list.specs.Answers.{listUnits}
 use Rattle.opi.specs.Opi.{opiOlsIdx}
 use Rattle.split.specs.Item.{splitItem}
@@ -27,16 +28,21 @@ agrees none o = true
 agrees (some t) none = true
 agrees (some t) (some o) = eqb t o
 
+-- a unit of the record kind OPI, 12
 abbrev pub isOpi : List ℕ → Bool
-isOpi u = eqb (typeOr31 u) 12
+isOpi u = isRecordOf 12 (kindOf u)
 
 -- "an item OPI is dropped only if a target exists and its operating point reads and differs"
 unfoldable pub keeps : Option ℕ → List ℕ → Bool
 keeps target u = if isOpi u then agrees target (opiOlsIdx u) else true
 
+-- AUD, and the record kind OPI
+abbrev pub leadingKind : UnitKind → Bool
+leadingKind k = isAud k || isRecordOf 12 k
+
 -- an AUD or OPI unit
 unfoldable pub mayLead : List ℕ → Bool
-mayLead u = eqb (typeOr31 u) 20 || isOpi u
+mayLead u = leadingKind (kindOf u)
 
 module _ (item : List ℕ) where
   -- the units of the item up to the first that is neither AUD nor OPI

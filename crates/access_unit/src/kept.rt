@@ -4,17 +4,19 @@ use boxes::Span;
 use boxes::place;
 use full::VvcConfig;
 use nal::NAL_OPI;
+use nal::UnitKind;
 use nal::header;
 use opi::OlsIdx;
 use split::NextUnit;
 use split::walk;
 ghost use mathlib.Core.Path.{_≡_};
+ghost use mathlib.Core.Bool.{true};
 ghost use mathlib.Core.Option.{some};
 ghost use Prim.Native.Nat.{_+_, _≤_, _^_};
 ghost use lib.ListN.{length};
 ghost use Rattle.boxes.specs.Parts.{held};
-ghost use Rattle.nal.specs.Header.{typeOr31};
-ghost use Rattle.access_unit.specs.AccessUnit.{targetOf, agrees, keeps};
+ghost use Rattle.nal.specs.Kinds.{kindOf};
+ghost use Rattle.access_unit.specs.AccessUnit.{targetOf, agrees, isOpi, keeps, leadingKind};
 ghost use Rattle.access_unit.specs.Answers.{tolsOf};
 
 // The target: the caller's, else the head's operating point when its PTL flag is set, else none.
@@ -43,8 +45,8 @@ fn agrees_with(target: Target, idx: u32) -> bool
 }
 
 // Whether an OPI unit of the item is kept: it is dropped only if a target exists and its operating point reads and differs.
-pub fn opi_kept(unit: &[u8], target: Target) -> bool
-    requires { ⌜ (typeOr31 (now unit) ≡ 12) × (length (now unit) ≤ 2 ^ 30) ⌝ }
+fn opi_kept(unit: &[u8], target: Target) -> bool
+    requires { ⌜ (isOpi (now unit) ≡ true) × (length (now unit) ≤ 2 ^ 30) ⌝ }
     ensures { λ r. ⌜ r ≡ keeps (tolsOf target) (now (unit .entry)) ⌝ }
 {
     match opi::opi_ols_idx(unit) {
@@ -54,14 +56,38 @@ pub fn opi_kept(unit: &[u8], target: Target) -> bool
     }
 }
 
-// Whether the unit at a span of the item is kept: all are but OPI units of another operating point.
+// Whether a unit of the item is kept, by its kind: all are but OPI units of another operating point.
+pub fn unit_kept(unit: &[u8], kind: UnitKind, target: Target) -> bool
+    requires { ⌜ (kind ≡ kindOf (now unit)) × (length (now unit) ≤ 2 ^ 30) ⌝ }
+    ensures { λ r. ⌜ r ≡ keeps (tolsOf target) (now (unit .entry)) ⌝ }
+{
+    let UnitKind::Record(t) = kind else {
+        return true;
+    };
+    if t != NAL_OPI {
+        return true;
+    }
+    opi_kept(unit, target)
+}
+
+// Whether a unit of a kind may lead in front of all others: AUD and OPI.
+pub fn may_lead(kind: UnitKind) -> bool
+    ensures { λ r. ⌜ r ≡ leadingKind kind ⌝ }
+{
+    match kind {
+        UnitKind::Record(t) => t == NAL_OPI,
+        UnitKind::Aud => true,
+        UnitKind::PictureData(_) => false,
+        UnitKind::Other => false,
+    }
+}
+
+// Whether the unit at a span of the item is kept.
 pub fn kept_at(item: &[u8], a: Span, target: Target) -> bool
     requires { ⌜ (a .start + a .len ≤ length (now item)) × (length (now item) ≤ 2 ^ 30) ⌝ }
     ensures { λ r. ⌜ r ≡ keeps (tolsOf target) (held (now (item .entry)) a) ⌝ }
 {
     let unit = place::part(item, a);
-    if header::type_or_31(unit) == NAL_OPI {
-        return opi_kept(unit, target);
-    }
-    true
+    let kind = header::kind_of(unit);
+    unit_kept(unit, kind, target)
 }

@@ -5,8 +5,6 @@ use boxes::Span;
 use boxes::place;
 use error::LARGEST_INPUT;
 use error::Refusal;
-use nal::NAL_AUD;
-use nal::NAL_OPI;
 use nal::header;
 use split::NextUnit;
 use split::walk as items;
@@ -79,14 +77,11 @@ fn add_kept(item: &[u8], a: Span, target: Target, sum: UnitSum) -> UnitSum
     ensures { λ r. ⌜ r ≡ addingKept (tolsOf target) (now (item .entry)) a sum ⌝ }
 {
     let unit = place::part(item, a);
-    let unit_type = header::type_or_31(unit);
-    if unit_type == NAL_OPI {
-        if kept::opi_kept(unit, target) {
-            return add(sum, a.len, true);
-        }
-        return sum;
+    let kind = header::kind_of(unit);
+    if kept::unit_kept(unit, kind, target) {
+        return add(sum, a.len, kept::may_lead(kind));
     }
-    add(sum, a.len, unit_type == NAL_AUD)
+    sum
 }
 
 // The kept units of an item. Refusals: in byte order 1 and 5.

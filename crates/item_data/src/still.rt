@@ -2,6 +2,8 @@
 use boxes::Span;
 use boxes::place;
 use compact::CompactVvcConfig;
+use nal::NAL_IDR_N_LP;
+use nal::header;
 use split::NextUnit;
 use split::walk;
 ghost use mathlib.Core.Path.{_≡_};
@@ -26,7 +28,7 @@ fn store_still(size: usize, stored: &[u8], out: &mut [u8])
     requires { ⌜ (size ≤ 4) × (length (now stored) ≤ 2 ^ 30) × (size + 2 + length (now stored) ≤ length (now out)) ⌝ }
     ensures { λ _. ⌜ now (out .exit) ≡ sets (now (out .entry)) 0 (toChunk size (stillUnit (now (stored .entry)))) ⌝ }
 {
-    let header = nal::nal_header(nal::NAL_IDR_N_LP, 0, 1);
+    let header = nal::nal_header(NAL_IDR_N_LP, 0, 1);
     place::put_number(out, 0, size, 2 + stored.len());
     place::copy(&header, out, size);
     place::copy(stored, out, size + 2);
@@ -76,7 +78,7 @@ fn still_of(item: &[u8], a: Span) -> Still
     if first % 64 != 0 {
         return Still::Other;
     }
-    if second / 8 != nal::NAL_IDR_N_LP {
+    if !header::is_picture_data_of(second / 8, NAL_IDR_N_LP) {
         return Still::Other;
     }
     if second % 8 != 1 {

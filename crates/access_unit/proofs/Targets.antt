@@ -1,5 +1,5 @@
 -- Laws of the target, of the units that it drops, and of those that may lead, by cases as the code tests them.
-use Prim.Native.Nat.{ℕ, _^_, _≤_}
+use Prim.Native.Nat.{ℕ, _+_, _^_, _≤_}
 use mathlib.Core.Path.{_≡_, refl, sym, ap, _∙_}
 use mathlib.Core.Bool.{true, false}
 use mathlib.Core.List.{List}
@@ -9,9 +9,12 @@ use lib.ListN.{length}
 use Rattle.error.specs.Outcome.{accept, refuse}
 use Rattle.error.specs.Refusals.{numberOf}
 use Rattle.error.specs.declared.Refusal.{Refusal}
+use Rattle.boxes.specs.Parts.{held}
+use Rattle.boxes.specs.declared.Span.{Span}
 use Rattle.boxes.proofs.Lent.{lent-within}
 use Rattle.nal.specs.Kinds.{kindOf, isRecordOf}
 use Rattle.nal.specs.declared.UnitKind.{UnitKind}
+use Rattle.unit_list.proofs.Accepted.{held-long}
 use Rattle.opi.specs.Opi.{opiOlsIdx}
 use Rattle.opi.specs.Answers.{olsIdxOf, olsIdxGiven}
 use Rattle.opi.specs.declared.OlsIdx.{OlsIdx}
@@ -32,6 +35,10 @@ module _ (h : VvcConfig) (x : Target) where
 
   pub target-none : x ≡ T.Unset → h .«ptl_present_flag» ≡ false → none ≡ targetOf h (tolsOf x)
   target-none e f = rw (e, f)
+
+-- a unit at a span of the item is no longer than the item
+pub unit-within : (item u : List ℕ) (a : Span) → u ≡ held item a → a .start + a .len ≤ length item → length item ≤ 2 ^ 30 → length u ≤ 2 ^ 30
+unit-within item u a e inside lent = let l = ap length e ∙ held-long item a inside in omega arith
 
 -- whether a unit may lead
 pub leads : (u : List ℕ) (k : UnitKind) → k ≡ kindOf u → mayLead u ≡ leadingKind k

@@ -22,10 +22,10 @@ fn group_len(list: &[u8], c: ListCursor, t: u8) -> usize
     let mut here = c;
     let mut len: usize = 0;
     loop {
-        let UnitStep::Unit(a, kind, next) = units::next_unit(list, here) else {
+        let UnitStep::Unit(a, found, next) = units::next_unit(list, here) else {
             return len;
         };
-        if kind == t {
+        if found == t {
             len = len + 4 + a.len;
         }
         here = next;
@@ -61,10 +61,10 @@ fn put_group_units(list: &[u8], c: ListCursor, t: u8, out: &mut [u8], at: usize)
     let mut here = c;
     let mut to = at;
     loop {
-        let UnitStep::Unit(a, kind, next) = units::next_unit(list, here) else {
+        let UnitStep::Unit(a, found, next) = units::next_unit(list, here) else {
             return to;
         };
-        if kind == t {
+        if found == t {
             write::put_unit(list, a, out, to, 4);
             to = to + 4 + a.len;
         }

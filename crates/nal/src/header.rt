@@ -24,7 +24,7 @@ pub fn kind_of(nal: &[u8]) -> UnitKind
     unit_kind(type_or_31(nal))
 }
 
-// Whether a type is that of picture data of the type `t`.
+// Whether a type stands for picture data and is `t`.
 pub fn is_picture_data_of(nal_unit_type: u8, t: u8) -> bool
     ensures { λ r. ⌜ r ≡ isPictureDataOf t (unitKind «nal_unit_type») ⌝ }
 {
@@ -35,7 +35,7 @@ pub fn is_picture_data_of(nal_unit_type: u8, t: u8) -> bool
     }
 }
 
-// Whether a type is that of a record kind, and `t`.
+// Whether a type stands for a record kind and is `t`.
 pub fn is_record_of(nal_unit_type: u8, t: u8) -> bool
     ensures { λ r. ⌜ r ≡ isRecordOf t (unitKind «nal_unit_type») ⌝ }
 {

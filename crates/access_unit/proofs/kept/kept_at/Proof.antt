@@ -1,11 +1,9 @@
 -- `kept::kept_at` tells whether the unit at a span of the item is kept.
 use mathlib.Core.Path.{ap, _∙_}
-use native.Mathlib.Omega.{arith}
-use lib.ListN.{length}
 use borrow.Author.Needs.{needs}
-use Rattle.unit_list.proofs.Accepted.{held-long}
 use Rattle.access_unit.specs.AccessUnit.{keeps}
 use Rattle.access_unit.specs.Answers.{tolsOf}
+use Rattle.access_unit.proofs.Targets.{unit-within}
 use Rattle.access_unit.proofs.kept.kept_at.Statement.{statement}
 use Rattle.access_unit.proofs.kept.kept_at.Tie as tie
 
@@ -18,8 +16,7 @@ kind-of-requires c κs = search needs
 unit-kept-requires : tie.Need-unit-kept-requires
 unit-kept-requires c κs =
     let b = c .before .before .before in
-    let l = ap length (c .before .part .ensures .holds) ∙ held-long (b .args .item .now) (b .args .a) (b .pre .0) in
-    (c .kind-of .ensures, omega (arith, b .pre .0, b .pre .1))
+    (c .kind-of .ensures, unit-within _ _ (b .args .a) (c .before .part .ensures .holds) (b .pre .0) (b .pre .1))
 
 returns : tie.Need-returns
 returns c = c .unit-kept .ensures ∙ ap (keeps (tolsOf (c .before .before .before .before .args .target))) (c .before .before .part .ensures .holds)

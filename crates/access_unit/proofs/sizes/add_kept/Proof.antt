@@ -1,14 +1,11 @@
 -- `sizes::add_kept` adds a unit of the item that is kept.
 use mathlib.Core.Path.{_≡_, sym, ap, _∙_}
-use native.Mathlib.Omega.{arith}
-use lib.ListN.{length}
 use borrow.Author.Needs.{needs}
 use Rattle.boxes.specs.Parts.{held}
 use Rattle.nal.specs.Kinds.{kindOf}
-use Rattle.unit_list.proofs.Accepted.{held-long}
 use Rattle.access_unit.specs.AccessUnit.{keeps}
 use Rattle.access_unit.specs.Answers.{tolsOf}
-use Rattle.access_unit.proofs.Targets.{leads}
+use Rattle.access_unit.proofs.Targets.{unit-within, leads}
 use Rattle.access_unit.proofs.sizes.add_kept.Statement.{statement}
 use Rattle.access_unit.proofs.sizes.add_kept.Tie as tie
 
@@ -21,8 +18,7 @@ kind-of-requires c κs = search needs
 unit-kept-requires : tie.Need-unit-kept-requires
 unit-kept-requires c κs =
     let b = c .before .before .before in
-    let l = ap length (c .before .part .ensures .holds) ∙ held-long (b .args .item .now) (b .args .a) (b .pre .0) in
-    (c .kind-of .ensures, omega (arith, b .pre .0, b .pre .1))
+    (c .kind-of .ensures, unit-within _ _ (b .args .a) (c .before .part .ensures .holds) (b .pre .0) (b .pre .1))
 
 -- whether the unit at the span is kept
 kept-is : (c : tie.After-unit-kept) → let a = c .before .before .before .before .args in keeps (tolsOf (a .target)) (held (a .item .now) (a .a)) ≡ c .unit-kept .result

@@ -1,4 +1,4 @@
--- `header::is_picture_data_of` tells picture data of a type.
+-- `header::is_picture_data_of` tells whether a type stands for picture data and is the one asked for.
 use mathlib.Core.Path.{sym, ap, _∙_}
 use Rattle.nal.specs.Kinds.{isPictureDataOf}
 use Rattle.nal.proofs.UnitKinds.{not-picture}

@@ -7,3 +7,4 @@ pub mod Seen
 pub mod Written
 pub mod Encode
 pub mod Accepted
+pub mod Decoded

@@ -17,14 +17,10 @@ use Rattle.ptl_record.specs.Read.{vvcPtlRecord}
 use Rattle.ptl_record.specs.Write.{bit, ptlBytes, ptlFits}
 use Rattle.full.specs.Read.{plainHead, headWithPtl, vvcHead}
 use Rattle.full.specs.Write.{ptlPart, headBytes, ptlPartFits, headFits}
+use Rattle.full.specs.RoundTrip.{Wide, readBack}
+unfoldable pub use Rattle.full.specs.RoundTrip.{withPtl}
 use Rattle.full.specs.declared.VvcConfig.{VvcConfig}
 use Rattle.record_arrays.proofs.ArraysRoundTrip.{byte-there, number-there}
-
--- every field of a head is as wide as its type in the code
-pub record Wide (h : VvcConfig) : Type 0 where
-  pub width : h .«max_picture_width» < 65536
-  pub height : h .«max_picture_height» < 65536
-  pub rate : h .«avg_frame_rate» < 65536
 
 -- a PTL that is read back as another
 abbrev pub ReadsAs : VvcPtlRecord → ℕ → VvcPtlRecord → Type 0
@@ -57,25 +53,13 @@ small h e =
       ptl = f .1;
     }
 
--- the head with the PTL that is read back
-abbrev pub withPtl : VvcConfig → VvcPtlRecord → VvcConfig
-withPtl h q = record {
-  «length_size» = h .«length_size»;
-  «ptl_present_flag» = true;
-  «ols_idx» = h .«ols_idx»;
-  «num_sublayers» = h .«num_sublayers»;
-  «constant_frame_rate» = h .«constant_frame_rate»;
-  «chroma_format_idc» = h .«chroma_format_idc»;
-  «bit_depth_minus8» = h .«bit_depth_minus8»;
-  «native_ptl» = q;
-  «max_picture_width» = h .«max_picture_width»;
-  «max_picture_height» = h .«max_picture_height»;
-  «avg_frame_rate» = h .«avg_frame_rate»;
-}
-
 -- the first two fields as one number
 abbrev word : VvcConfig → ℕ
 word h = h .«ols_idx» * 128 + h .«num_sublayers» * 16 + h .«constant_frame_rate» * 4 + h .«chroma_format_idc»
+
+pub length-part : (h : VvcConfig) → length (ptlPart h) ≡ 9 + length (ptlBytes (h .«native_ptl») (h .«num_sublayers»))
+unfolding ptlPart
+length-part h = simp (length-append, length-toBe) (omega arith)
 
 module _ (h : VvcConfig) (q : VvcPtlRecord) (sm : Small h) (wide : Wide h) (reads : ReadsAs (h .«native_ptl») (h .«num_sublayers») q)
     (s pre post : List ℕ) (p : ℕ) (e : s ≡ pre ++ (ptlPart h ++ post)) (l : length pre ≡ p) where
@@ -135,11 +119,6 @@ module _ (h : VvcConfig) (q : VvcPtlRecord) (sm : Small h) (wide : Wide h) (read
   word-small : word h < 256 ^ 2
   word-small = let a = sm .ols in let b = sm .sublayers in let c = sm .rate in let d = sm .chroma in omega arith
 
-  length-part : length (ptlPart h) ≡ 9 + length ptlOf
-  unfolding ptlPart
-  length-part =
-      simp (length-append, length-toBe) (omega arith)
-
   pub part-read : headWithPtl (h .«length_size») s p ≡ value (withPtl h q) (p + length (ptlPart h))
   unfolding headWithPtl
   part-read =
@@ -149,7 +128,7 @@ module _ (h : VvcConfig) (q : VvcPtlRecord) (sm : Small h) (wide : Wide h) (read
       let cfr : word h / 4 % 4 ≡ h .«constant_frame_rate» = omega arith in
       let chroma : word h % 4 ≡ h .«chroma_format_idc» = omega arith in
       let depth : (h .«bit_depth_minus8» * 32 + 31) / 32 ≡ h .«bit_depth_minus8» = omega arith in
-      let end : p + 3 + length ptlOf + 2 + 2 + 2 ≡ p + length (ptlPart h) = omega (arith, length-part) in
+      let end : p + 3 + length ptlOf + 2 + 2 + 2 ≡ p + length (ptlPart h) = omega (arith, length-part h) in
       rw (number-there 2 s pre ((h .«bit_depth_minus8» * 32 + 31) ∷ (ptlOf ++ dims)) (word h) p whole l word-small)
       (rw (byte-there s (pre ++ toBe 2 (word h)) (ptlOf ++ dims) (h .«bit_depth_minus8» * 32 + 31) (p + 2) e1 l1)
       (let z : p + 2 + 1 ≡ p + 3 = omega arith in
@@ -166,11 +145,6 @@ module _ (h : VvcConfig) (q : VvcPtlRecord) (sm : Small h) (wide : Wide h) (read
         depth,
         end,
       )))
-
--- what is read of a head that was written: without the flag the fields under it are 0
-abbrev pub readBack : Bool → VvcConfig → VvcPtlRecord → VvcConfig
-readBack true h q = withPtl h q
-readBack false h q = plainHead (h .«length_size»)
 
 -- what a head must be like to be read back, with the flag and without
 pub record Writable (h : VvcConfig) (q : VvcPtlRecord) : Type 0 where

@@ -1,2 +1,4 @@
 pub mod HeadRoundTrip
 pub mod RecordRoundTrip
+pub mod RecordLength
+pub mod Serialized

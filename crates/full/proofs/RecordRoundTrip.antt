@@ -1,11 +1,11 @@
 -- A full record read after writing: the same head and list, and the bytes consumed are the bytes written.
-use Prim.Native.Nat.{ℕ, _+_, _^_, _≤_, _<_}
+use Prim.Native.Nat.{ℕ, _+_, _^_, _≤_}
 use native.Mathlib.Omega.{arith}
 use mathlib.Core.Path.{_≡_, refl, sym, ap, _∙_, subst}
 use mathlib.Core.Bool.{Bool, true, false}
 use mathlib.Core.List.{List, [], _∷_, _++_, append-nil, append-assoc}
 use lib.Dec.{leb, eqb}
-use lib.ListN.{length, getD, length-append}
+use lib.ListN.{length, length-append}
 use borrow.Author.Tests.{leb-true, le-leb, eqb-false}
 use Rattle.error.specs.Logic.{if_then_else_}
 use Rattle.error.specs.Outcome.{accept, refuse}
@@ -20,9 +20,12 @@ use Rattle.ptl_record.specs.AsWritten.{asWritten}
 use Rattle.ptl_record.proofs.AsWritten.{Canonical, kept}
 use Rattle.ptl_record.proofs.RoundTrip as P
 use Rattle.full.specs.Write.{headBytes, ptlPartFits, headFits, fullBytes, recordFits, writeFull}
+use Rattle.full.specs.RoundTrip.{withPtl, readBack}
+pub use Rattle.full.specs.RoundTrip.{Typed}
+unfoldable pub use Rattle.full.specs.RoundTrip.{headRead}
 use Rattle.full.specs.declared.VvcConfig.{VvcConfig}
 use Rattle.record_arrays.proofs.ArraysRoundTrip.{placedArrays, arrays-read, arrays-held, byte-there}
-use Rattle.full.proofs.HeadRoundTrip.{Wide, ReadsAs, small, withPtl, Writable, readBack, head-read}
+use Rattle.full.proofs.HeadRoundTrip.{ReadsAs, small, Writable, head-read}
 
 module _ (h : VvcConfig) (q : VvcPtlRecord) (xs : List (Array (List ℕ))) (w : Writable h q) (sound : Sound xs) (fits : recordFits h xs ≡ true) where
   abbrev s : List ℕ
@@ -64,18 +67,6 @@ module _ (h : VvcConfig) (q : VvcPtlRecord) (xs : List (Array (List ℕ))) (w : 
   unfolding parseFull
   read-written l =
       rw (le-leb (length s) (2 ^ 30) l, record-read, arrays-held s sound (headBytes h ++ (length xs ∷ [])) [] (length (headBytes h) + 1) from-arrays before (arrays-fit .1))
-
--- A head as the code has it: its numbers fit their types, and its arrays are as long as the struct says.
-pub record Typed (h : VvcConfig) : Type 0 where
-  pub wide : Wide h
-  pub info : length (h .«native_ptl» .«general_constraint_info») ≡ 63
-  pub subs : length (h .«native_ptl» .«general_sub_profile_idc») ≡ 255
-  pub subs-small : (i : ℕ) → getD (h .«native_ptl» .«general_sub_profile_idc») i 0 < 2 ^ 32
-
--- What is read of a head that was written, the exceptions said plainly: without the flag the fields under it are 0 (`plainHead`); with it, no
--- constraint bytes become one zero byte, and only the levels below the highest sublayer come back (`asWritten`).
-abbrev pub headRead : VvcConfig → VvcConfig
-headRead h = readBack (h .«ptl_present_flag») h (asWritten (h .«native_ptl») (h .«num_sublayers»))
 
 module _ (h : VvcConfig) (t : Typed h) (xs : List (Array (List ℕ))) (sound : Sound xs) where
   fitting-parts : recordFits h xs ≡ true → headFits h ≡ true

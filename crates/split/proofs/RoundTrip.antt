@@ -1,22 +1,23 @@
--- Splitting what was put together gives the units back: of a stream of units behind start codes, and of an item of one unit.
+-- Splitting what was put together gives the units back: of a stream of units behind start codes, and of an item of one unit (ItemRoundTrip has any number).
 use Prim.Native.Nat.{ℕ, suc, _+_, _-_, _^_, _≤_, _<_}
 use mathlib.Core.Path.{_≡_, refl, sym, ap, _∙_}
 use mathlib.Core.List.{List, [], _∷_, _++_, map, append-assoc, append-nil}
 use native.Mathlib.Omega.{arith}
 use lib.ListN.{length, getD, take, drop, length-append}
-use lib.Seq.{take-at, drop-at, take-append-add, take-length, drop-append-add, drop-append-seam}
+use lib.Seq.{take-at, take-append-add, take-length, drop-append-add, drop-append-seam}
 use Rattle.error.specs.Outcome.{accept}
-use Rattle.boxes.specs.Bytes.{be, toBe, toChunk}
+use Rattle.boxes.specs.Bytes.{toChunk}
 use Rattle.boxes.specs.Parts.{held}
-use Rattle.boxes.proofs.Numbers.{be-toBe, length-toBe}
 use Rattle.nal.specs.StartCode.{isStartCode, scan, startCodeFrom}
 use Rattle.nal.proofs.StartCodes.{scan-none, scan-then-code, scan-then-four}
 use Rattle.nal.proofs.Checks.{Splittable}
-use Rattle.split.specs.Item.{itemUnits}
+use Rattle.split.specs.Item.{itemUnits, toItem}
+use Rattle.split.specs.Answers.{leftOf}
 use Rattle.split.specs.Stream.{trim, unitsFrom, annexB}
 use Rattle.split.proofs.Trim.{trim-zero, trim-whole}
 use Rattle.split.proofs.Streams.{scan-stays, units-scan, units-end, step-unit}
-use Rattle.split.proofs.Items.{left-more, left-end, items-left}
+use Rattle.split.proofs.Items.{items-left}
+use Rattle.split.proofs.ItemRoundTrip.{placed, made-left}
 
 -- ### streams
 
@@ -118,24 +119,16 @@ module _ (code : List ℕ) (c : StartCode code) where
 -- ### items
 
 module _ (size : ℕ) (u : List ℕ) (one : 1 ≤ size) (four : size ≤ 4) (some : 0 < length u) (fits : length u < 256 ^ size) where
-  length-chunk : length (toChunk size u) ≡ size + length u
-  unfolding toChunk
-  length-chunk = let a = length-append (toBe size (length u)) u in let b = length-toBe size (length u) in omega arith
-
-  number-chunk : be (toChunk size u) 0 size ≡ length u
-  unfolding toChunk
-  number-chunk = be-toBe size (length u) u fits
+  made-one : (leftOf size (toChunk size u) 0 ≡ accept (record { start = size; len = length u } ∷ []))
+      × (map (held (toChunk size u)) (record { start = size; len = length u } ∷ []) ≡ u ∷ [])
+  unfolding toItem placed
+  made-one =
+      let e : 0 + size ≡ size = omega arith in
+      rw e at (made-left size (toChunk size u) (u ∷ []) (λ k h. let z : k ≡ 0 = omega arith in rw z (some, fits)) [] 0 (sym (append-nil (toChunk size u))) refl)
 
   -- one unit behind its length is an item of that unit
   pub split-one : itemUnits size (toChunk size u) ≡ accept (record { start = size; len = length u } ∷ [])
-  split-one =
-      let l = length-chunk in
-      let n = number-chunk in
-      let e : 0 + size ≡ size = omega arith in
-      let a = left-more size (toChunk size u) 0 (omega arith) (λ z. omega arith) (omega arith) in
-      let b = left-end size (toChunk size u) (size + length u) (omega arith) in
-      items-left size (toChunk size u) one four ∙ (rw (n, e, b) at a)
+  split-one = items-left size (toChunk size u) one four ∙ made-one .0
 
   pub held-one : held (toChunk size u) (record { start = size; len = length u }) ≡ u
-  unfolding toChunk
-  held-one = rw (drop-at (toBe size (length u)) u size (length-toBe size (length u))) (take-length u)
+  held-one = ap (λ (us : List (List ℕ)). getD us 0 []) (made-one .1)

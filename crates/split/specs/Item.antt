@@ -1,12 +1,12 @@
 -- Items of length-prefixed units (ISO/IEC 14496-15 4.3.3, the sample format).
 use Prim.Native.Nat.{ℕ}
 use mathlib.Core.Bool.{Bool, _||_}
-use mathlib.Core.List.{List}
+use mathlib.Core.List.{List, [], _∷_, _++_}
 use lib.Dec.{ltb, eqb}
 use Rattle.error.specs.Logic.{if_then_else_}
 use Rattle.error.specs.Outcome.{Outcome, refuse, lentInput}
 use Rattle.error.specs.Parse.{Parser, _>>=_, _>>_, refuseIf, many, outcome}
-use Rattle.boxes.specs.Bytes.{uint, bytes}
+use Rattle.boxes.specs.Bytes.{uint, bytes, toChunk}
 use Rattle.boxes.specs.declared.Span.{Span}
 
 -- a prefix size outside 1 to 4
@@ -27,3 +27,8 @@ itemUnits size item = if outside size then refuse 4 else outcome (many (itemUnit
 -- `split_length_prefixed`: 23, 4, then in byte order 1 and 5
 unfoldable pub splitItem : ℕ → List ℕ → Outcome (List Span)
 splitItem size item = lentInput item (itemUnits size item)
+
+-- Made: the units of an item, each behind its length
+unfoldable pub toItem : ℕ → List (List ℕ) → List ℕ
+toItem size [] = []
+toItem size (u ∷ us) = toChunk size u ++ toItem size us

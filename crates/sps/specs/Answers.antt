@@ -3,7 +3,7 @@ use Prim.Native.Nat.{ℕ}
 use mathlib.Core.List.{List}
 use Rattle.error.specs.Outcome.{Outcome, handsBack}
 use Rattle.params.specs.Answers.{readOf}
-use Rattle.sps.specs.Sps.{parseSps, zeroSps}
+use Rattle.sps.specs.Sps.{parseSps, parseSpsRbsp, zeroSps}
 use Rattle.sps.specs.declared.SpsHead.{SpsHead}
 use Rattle.sps.specs.declared.SpsRead.{SpsRead}
 
@@ -14,3 +14,7 @@ spsOf r = (readOf (r .answer) (r .head), r .head)
 -- `SpsHead::parse_nal`: on a refusal all zeros
 abbrev pub spsGiven : List ℕ → Outcome SpsHead × SpsHead
 spsGiven unit = handsBack (λ h. h) zeroSps (parseSps unit)
+
+-- `SpsHead::parse_rbsp`: the same
+abbrev pub spsRbspGiven : List ℕ → Outcome SpsHead × SpsHead
+spsRbspGiven rbsp = handsBack (λ h. h) zeroSps (parseSpsRbsp rbsp)

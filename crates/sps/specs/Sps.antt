@@ -1,11 +1,11 @@
--- The head of an SPS as bits (H.266 7.3.2.4), and of a unit.
+-- The head of an SPS as bits (H.266 7.3.2.4), of a unit and of an RBSP.
 use mathlib.Core.Bool.{false}
 use mathlib.Core.List.{List}
 use Prim.Native.Nat.{ℕ, _+_}
 use lib.Dec.{ltb}
 use Rattle.error.specs.Logic.{if_then_else_}
-use Rattle.error.specs.Outcome.{Outcome}
-use Rattle.error.specs.Parse.{Parser, _>>=_, _>>_, give, refuseIf}
+use Rattle.error.specs.Outcome.{Outcome, lentInput}
+use Rattle.error.specs.Parse.{Parser, _>>=_, _>>_, give, refuseIf, outcome}
 use Rattle.bit_reader.specs.Bits.{u, isSet, ue}
 use Rattle.ptl.specs.Ptl.{profileTierLevel, zeroPtl}
 use Rattle.params.specs.OfUnit.{ofUnit}
@@ -90,3 +90,7 @@ zeroSps = record {
 -- `SpsHead::parse_nal`: 23, 10, then in bit order 11, 12, 13, 14
 unfoldable pub parseSps : List ℕ → Outcome SpsHead
 parseSps unit = ofUnit 15 spsHead unit
+
+-- `SpsHead::parse_rbsp`: 23, then in bit order 11, 12, 13, 14
+unfoldable pub parseSpsRbsp : List ℕ → Outcome SpsHead
+parseSpsRbsp rbsp = lentInput rbsp (outcome (spsHead rbsp 0))

@@ -1,4 +1,4 @@
-// For this crate's call: an SPS's head from the first bytes of its RBSP, read in the sections of its syntax table.
+// For this crate's calls: an SPS's head from the first bytes of its RBSP, read in the sections of its syntax table.
 use super::SpsHead;
 use super::SpsRead;
 use bit_reader::BitPosition;
@@ -244,7 +244,7 @@ fn head_of(i: SpsIdsRead, p: PtlBits, z: SpsSizeRead, w: ConfWindowRead, depth: 
 }
 
 // An SPS's head from the first bytes of its RBSP. Refusals in bit order: 11, 12, 13, 14.
-fn parse_rbsp(rbsp: &[u8]) -> SpsRead
+pub fn parse_front(rbsp: &[u8]) -> SpsRead
     requires { ⌜ length (now rbsp) ≤ 1132 ⌝ }
     ensures { λ r. ⌜ spsOf r ≡ readOr zeroSps (spsHead (now (rbsp .entry)) 0) ⌝ }
 {
@@ -269,5 +269,5 @@ pub fn parse_payload(payload: &[u8]) -> SpsRead
 {
     let mut buf = [0u8; 1132];
     let n = rbsp::fill::fill_rbsp(payload, &mut buf);
-    parse_rbsp(&buf[..n])
+    parse_front(&buf[..n])
 }

@@ -21,17 +21,17 @@ fill-rbsp-requires c κs = search needs
 array-share-prefix-buf : tie.Need-array-share-prefix-buf
 array-share-prefix-buf c = search needs
 
-slice-aggregate-parse-rbsp : tie.Need-slice-aggregate-parse-rbsp
-slice-aggregate-parse-rbsp c = sym (front-count _ _ _ _ (c .before .before .fill-rbsp .ensures))
+slice-aggregate-parse-front : tie.Need-slice-aggregate-parse-front
+slice-aggregate-parse-front c = sym (front-count _ _ _ _ (c .before .before .fill-rbsp .ensures))
 
-parse-rbsp-requires : tie.Need-parse-rbsp-requires
-parse-rbsp-requires c κs =
+parse-front-requires : tie.Need-parse-front-requires
+parse-front-requires c κs =
     let f = c .before .before .fill-rbsp .ensures in
     omega (arith, front-count _ _ _ _ f, f .count, length-replicate {A = ℕ} 1132 0)
 
 returns : tie.Need-returns
 returns c =
-    c .parse-rbsp .ensures
+    c .parse-front .ensures
     ∙ ap (readOr zeroSps) (enough spsHead 1132 sps-looks _ _ _ _ (length-replicate {A = ℕ} 1132 0) (c .before .before .before .fill-rbsp .ensures))
 
 pub parse-payload-spec : {M : Type 1} → statement M
@@ -41,6 +41,6 @@ parse-payload-spec =
     slice-aggregate-fill-rbsp
     fill-rbsp-requires
     array-share-prefix-buf
-    slice-aggregate-parse-rbsp
-    parse-rbsp-requires
+    slice-aggregate-parse-front
+    parse-front-requires
     returns)

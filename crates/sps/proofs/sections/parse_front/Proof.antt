@@ -1,4 +1,4 @@
--- `parse_rbsp` reads the five sections one behind the other, and they make up the head.
+-- `parse_front` reads the five sections one behind the other, and they make up the head.
 use mathlib.Core.Path.{_≡_, ap, refl, sym, _∙_}
 use Rattle.error.specs.Parse.{value, bind}
 use Rattle.bit_reader.specs.Answers.{parsed, numberIn}
@@ -9,8 +9,8 @@ use Rattle.params.specs.Answers.{readOr}
 use Rattle.sps.proofs.Bounds.{ids-place, depth-behind}
 use Rattle.sps.proofs.SpsSections.{sps-sections}
 use borrow.Author.Needs.{needs}
-use Rattle.sps.proofs.sections.parse_rbsp.Statement.{statement}
-use Rattle.sps.proofs.sections.parse_rbsp.Tie as tie
+use Rattle.sps.proofs.sections.parse_front.Statement.{statement}
+use Rattle.sps.proofs.sections.parse_front.Tie as tie
 
 read-ids-requires : tie.Need-read-ids-requires
 read-ids-requires c κs = search needs
@@ -69,5 +69,5 @@ head-of-requires c κs =
 returns-2 : tie.Need-returns-2
 returns-2 c = rw (c .head-of .ensures, sections (c .before .before .before .before), c .before .before .r .given .1)
 
-pub parse-rbsp-spec : {M : Type 1} → statement M
-parse-rbsp-spec = tie.close (tie.spec read-ids-requires read-ptl-requires read-size-requires read-window-requires read-depth-requires enum-known-r enum-told refusal-requires no-sps-requires returns head-of-requires returns-2)
+pub parse-front-spec : {M : Type 1} → statement M
+parse-front-spec = tie.close (tie.spec read-ids-requires read-ptl-requires read-size-requires read-window-requires read-depth-requires enum-known-r enum-told refusal-requires no-sps-requires returns head-of-requires returns-2)

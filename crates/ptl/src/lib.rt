@@ -5,6 +5,8 @@ pub mod sub_profiles;
 pub mod sublayers;
 
 use bit_reader::BitsRead;
+ghost use mathlib.Core.Path.{_≡_};
+ghost use Rattle.ptl.specs.Answers.{numSublayers, numBytesConstraintInfo};
 
 // VvcPTLRecord of ISO/IEC 14496-15 11.2.4.2, the original's fields. Its vectors are arrays with counts: 0 past a count and for an absent level.
 pub struct VvcPtlRecord {
@@ -20,6 +22,28 @@ pub struct VvcPtlRecord {
     pub sublayer_level_idc: [u8; 7],
     pub num_sub_profiles: usize,
     pub general_sub_profile_idc: [u32; 255],
+}
+
+impl VvcPtlRecord {
+    // The number of sublayers that the record was written for: one more than its levels, at most 7.
+    pub fn num_sublayers(self) -> u8
+        ensures { λ r. ⌜ r ≡ numSublayers self ⌝ }
+    {
+        if self.num_sublayer_levels < 7 {
+            return self.num_sublayer_levels as u8 + 1;
+        }
+        7
+    }
+
+    // The number of constraint bytes as it is written: 1 where there are none.
+    pub fn num_bytes_constraint_info(self) -> usize
+        ensures { λ r. ⌜ r ≡ numBytesConstraintInfo self ⌝ }
+    {
+        if self.num_bytes_constraint_info == 0 {
+            return 1;
+        }
+        self.num_bytes_constraint_info
+    }
 }
 
 // A PTL and its last read, which is refused where one of its reads is; the PTL is then all zeros.

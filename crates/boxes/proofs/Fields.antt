@@ -100,15 +100,10 @@ module _ (w : ℕ) (s : List ℕ) (p : ℕ) where
   field-too-long h = rw (lt-leb (length s) (2 ^ 30) h)
 
   module _ (lent : length s ≤ 2 ^ 30) where
-    pub field-width : (w ≡ 0) ⊎ (4 < w) → fieldAt w s p ≡ refuse 4
+    pub field-short : length s < p + w → fieldAt w s p ≡ refuse 1
     unfolding fieldAt
-    field-width = ⊎-elim (λ h. rw (le-leb (length s) (2 ^ 30) lent, eq-eqb w 0 h)) (λ h. rw (le-leb (length s) (2 ^ 30) lent, ne-eqb w 0 (λ e. omega arith), lt-ltb 4 w h))
+    field-short h = rw (le-leb (length s) (2 ^ 30) lent, uint-short w s p h)
 
-    module _ (some : 0 < w) (four : w ≤ 4) where
-      pub field-short : length s < p + w → fieldAt w s p ≡ refuse 1
-      unfolding fieldAt
-      field-short h = rw (le-leb (length s) (2 ^ 30) lent, ne-eqb w 0 (λ e. omega arith), le-ltb 4 w four, uint-short w s p h)
-
-      pub field-there : p + w ≤ length s → fieldAt w s p ≡ accept (be s p w, p + w)
-      unfolding fieldAt
-      field-there h = rw (le-leb (length s) (2 ^ 30) lent, ne-eqb w 0 (λ e. omega arith), le-ltb 4 w four, uint-there w s p h)
+    pub field-there : p + w ≤ length s → fieldAt w s p ≡ accept (be s p w, p + w)
+    unfolding fieldAt
+    field-there h = rw (le-leb (length s) (2 ^ 30) lent, uint-there w s p h)

@@ -5,3 +5,4 @@ pub mod Fields
 pub mod Walk
 pub mod Lent
 pub mod Output
+pub mod Places

@@ -1,9 +1,6 @@
 -- What the answers of this crate say.
 use Prim.Native.Nat.{ℕ}
 use mathlib.Core.List.{List}
-use mathlib.Core.Bool.{_||_}
-use lib.Dec.{ltb, eqb}
-use Rattle.error.specs.Logic.{if_then_else_}
 use Rattle.error.specs.Outcome.{Outcome, accept, refuse, lentInput}
 use Rattle.error.specs.Parse.{Parsed, value, refused}
 use Rattle.error.specs.Refusals.{numberOf}
@@ -20,6 +17,6 @@ abbrev pub placed : {A : Type 0} → Parsed A → Outcome (A × ℕ)
 placed (value a p) = accept (a, p)
 placed (refused e) = refuse e
 
--- `Reader::uint`: 23, 4 a width outside 1 to 4, 1
+-- a field of w bytes, `Reader::u8`, `u16` and `u32`: 23, 1
 unfoldable pub fieldAt : ℕ → List ℕ → ℕ → Outcome (ℕ × ℕ)
-fieldAt w s p = lentInput s (if eqb w 0 || ltb 4 w then refuse 4 else placed (uint w s p))
+fieldAt w s p = lentInput s (placed (uint w s p))

@@ -1,4 +1,5 @@
 pub mod Bytes
 pub mod Parts
 pub mod Walk
+pub mod Places
 pub mod Answers

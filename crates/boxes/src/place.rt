@@ -1,11 +1,14 @@
 // For the crates further down: bytes and numbers at a place that is known to be there, read and written.
 use super::Span;
+use super::UnitPlace;
 ghost use mathlib.Core.Path.{_≡_};
+ghost use mathlib.Core.List.{[]};
 ghost use Prim.Native.Nat.{_+_, _≤_, _<_, _^_};
 ghost use lib.ListN.{length, getD, set};
 ghost use lib.Seq.{sets};
 ghost use Rattle.boxes.specs.Bytes.{be, toBe};
 ghost use Rattle.boxes.specs.Parts.{PartOf};
+ghost use Rattle.boxes.specs.Places.{placeOf, lying, firstOf, PlaceFits};
 
 // A byte as a number of its own width.
 pub fn wide(x: u8) -> usize
@@ -56,6 +59,18 @@ pub fn part(s: &[u8], a: Span) -> &[u8]
     let from = a.start;
     let to = a.start + a.len;
     &s[from..to]
+}
+
+// The part of the first slice where a unit lies; the empty part where none lies in it.
+pub fn part_at(s: &[u8], unit: UnitPlace) -> &[u8]
+    requires { ⌜ PlaceFits (now s) [] unit ⌝ }
+    ensures { λ r. ⌜ PartOf r (s .entry) (firstOf (lying (placeOf unit))) ⌝ }
+{
+    let UnitPlace::First(a) = unit else {
+        let nowhere = Span { start: 0, len: 0 };
+        return part(s, nowhere);
+    };
+    part(s, a)
 }
 
 // Stores a byte; past the end there is nothing to store to.

@@ -1,0 +1,24 @@
+// For this crate's calls: a field of lent bytes, which may not be there.
+use super::Field;
+use super::place;
+use error::LARGEST_INPUT;
+use error::Refusal;
+ghost use mathlib.Core.Path.{_≡_};
+ghost use Prim.Native.Nat.{_≤_};
+ghost use Rattle.boxes.specs.Answers.{fieldOf, fieldAt};
+
+// An unsigned number of 1 to 4 bytes. Refusals: 23, 1.
+pub fn uint_at(s: &[u8], at: usize, width: usize) -> Field
+    requires { ⌜ (1 ≤ width) × (width ≤ 4) ⌝ }
+    ensures { λ r. ⌜ fieldOf r ≡ fieldAt width (now (s .entry)) at ⌝ }
+{
+    if LARGEST_INPUT < s.len() {
+        return Field::Refused(Refusal::InputTooLong);
+    }
+    if s.len() < at || s.len() - at < width {
+        return Field::Refused(Refusal::Truncated);
+    }
+    let value = place::number(s, at, width) as u32;
+    let behind = at + width;
+    Field::Value(value, behind)
+}

@@ -6,10 +6,13 @@ use super::ListStep;
 use super::Wanted;
 use super::walk;
 use boxes::Span;
+use boxes::UnitPlace;
 use error::Counted;
 use error::Refusal;
 ghost use mathlib.Core.Path.{_≡_};
+ghost use mathlib.Core.List.{[]};
 ghost use Prim.Native.Nat.{_+_, _<_, _^_};
+ghost use Rattle.boxes.specs.Places.{inFirst, placeOf, placeFound, PlaceFits};
 ghost use Rattle.unit_list.specs.Walk.{Fits, leftOf};
 ghost use Rattle.unit_list.specs.Find.{wants, Finds, wantedOf, wantedList, seeing};
 
@@ -94,5 +97,23 @@ pub fn find(list: &[u8], w: Wanted, k: usize) -> Found
             counted: Counted::Refused(e),
             unit: Span { start: 0, len: 0 },
         },
+    }
+}
+
+// Where number k of the wanted units of a list lies. Refusals: 23, 21.
+pub fn unit_at(list: &[u8], w: Wanted, k: usize) -> UnitPlace
+    ensures { λ r. ⌜ (placeOf r ≡ placeFound inFirst (wantedList w (now (list .entry))) k) × PlaceFits (now (list .entry)) [] r ⌝ }
+{
+    let found = find(list, w, k);
+    let counted = found.counted;
+    match counted {
+        Counted::Count(n) => {
+            if n <= k {
+                return UnitPlace::Past;
+            }
+            let unit = found.unit;
+            UnitPlace::First(unit)
+        }
+        Counted::Refused(e) => UnitPlace::Refused(e),
     }
 }

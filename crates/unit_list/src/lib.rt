@@ -4,13 +4,16 @@ pub mod walk;
 pub mod write;
 
 use boxes::Span;
+use boxes::UnitPlace;
 use boxes::place;
 use error::Counted;
 use error::Refusal;
 ghost use mathlib.Core.Path.{_≡_};
+ghost use mathlib.Core.List.{[]};
 ghost use Rattle.error.specs.Answers.{countOf};
 ghost use Rattle.boxes.specs.Parts.{PartOf};
 ghost use Rattle.boxes.specs.Walk.{countFound, found};
+ghost use Rattle.boxes.specs.Places.{inFirst, placeOf, placeFound, PlaceFits};
 ghost use Rattle.unit_list.specs.Answers.{listUnits, listUnitsOfType};
 
 // The largest type that an array may have.
@@ -70,13 +73,19 @@ pub fn nal_count(list: &[u8]) -> Counted
     r.counted
 }
 
+// Where unit k of a list lies, from 0 on. Refusals: 23, 21.
+pub fn nal_unit_at(list: &[u8], k: usize) -> UnitPlace
+    ensures { λ r. ⌜ (placeOf r ≡ placeFound inFirst (listUnits (now (list .entry))) k) × PlaceFits (now (list .entry)) [] r ⌝ }
+{
+    find::unit_at(list, Wanted::Every, k)
+}
+
 // Unit k of a list, from 0 on; the empty part past the last and on a refusal.
 pub fn nal_unit(list: &[u8], k: usize) -> &[u8]
     ensures { λ r. ⌜ PartOf r (list .entry) (found (listUnits (now (list .entry))) k) ⌝ }
 {
-    let r = find::find(list, Wanted::Every, k);
-    let unit = r.unit;
-    place::part(list, unit)
+    let unit = nal_unit_at(list, k);
+    place::part_at(list, unit)
 }
 
 // How many units the arrays of a type have. Refusals: 23, 21.
@@ -87,11 +96,17 @@ pub fn nal_count_of_type(list: &[u8], t: u8) -> Counted
     r.counted
 }
 
+// Where unit k in the arrays of a type lies, from 0 on. Refusals: 23, 21.
+pub fn nal_unit_of_type_at(list: &[u8], t: u8, k: usize) -> UnitPlace
+    ensures { λ r. ⌜ (placeOf r ≡ placeFound inFirst (listUnitsOfType t (now (list .entry))) k) × PlaceFits (now (list .entry)) [] r ⌝ }
+{
+    find::unit_at(list, Wanted::OfType(t), k)
+}
+
 // Unit k in the arrays of a type, from 0 on; the empty part past the last and on a refusal.
 pub fn nal_unit_of_type(list: &[u8], t: u8, k: usize) -> &[u8]
     ensures { λ r. ⌜ PartOf r (list .entry) (found (listUnitsOfType t (now (list .entry))) k) ⌝ }
 {
-    let r = find::find(list, Wanted::OfType(t), k);
-    let unit = r.unit;
-    place::part(list, unit)
+    let unit = nal_unit_of_type_at(list, t, k);
+    place::part_at(list, unit)
 }

@@ -1,5 +1,5 @@
 -- Laws of the place of unit k: by the count and the one found, and of the part that is handed back for it.
-use Prim.Native.Nat.{ℕ, zero, suc, _+_, _≤_, _<_}
+use Prim.Native.Nat.{ℕ, zero, suc, _-_, _≤_, _<_}
 use mathlib.Core.Path.{_≡_, refl, sym, ap, _∙_}
 use mathlib.Core.List.{List, [], _∷_, map}
 use mathlib.Core.Option.{Option, none, some}
@@ -29,6 +29,17 @@ module _ {A : Type 0} (lies : A → Place) where
   nth-there d [] k h = absurd (omega arith)
   nth-there d (x ∷ xs) zero h = refl
   nth-there d (x ∷ xs) (suc k) h = nth-there d xs k (omega arith)
+
+  -- with x in front
+  pub nth-here : (x : A) (xs : List A) (k : ℕ) → k ≡ 0 → some (lies x) ≡ nth (map lies (x ∷ xs)) k
+  unfolding nth
+  nth-here x xs zero z = refl
+  nth-here x xs (suc k) z = absurd (omega arith)
+
+  pub nth-next : (x : A) (xs : List A) (k : ℕ) → (k ≡ 0 → ⊥) → nth (map lies xs) (k - 1) ≡ nth (map lies (x ∷ xs)) k
+  unfolding nth
+  nth-next x xs zero z = absurd (z refl)
+  nth-next x xs (suc k) z = let l : suc k - 1 ≡ k = omega arith in rw l
 
   -- the answer, by the count
   pub place-refused : (o : Outcome (List A)) (k n : ℕ) → countFound o ≡ refuse n → refuse n ≡ placeFound lies o k

@@ -41,10 +41,6 @@ module _ {A : Type 0} where
   total-count (accept xs) n e = cc
   total-count (refuse k) n e = let z : _≡_ {A = ℕ} 0 1 = cc in absurd (omega arith)
 
-  pub total-refused : (o : Outcome (List A)) (n : ℕ) → countFound o ≡ refuse n → total o ≡ 0
-  total-refused (accept xs) n e = let z : _≡_ {A = ℕ} 0 1 = cc in absurd (omega arith)
-  total-refused (refuse k) n e = refl
-
 pub found-here : (a : Span) (o : Outcome (List Span)) → 0 < total (more a o) → found (more a o) 0 ≡ a
 found-here a (accept xs) h = refl
 found-here a (refuse e) h = absurd (omega arith)
@@ -53,10 +49,6 @@ pub found-next : (a : Span) (o : Outcome (List Span)) (i : ℕ) → suc i < tota
     → (i < total o) × (found o i ≡ found (more a o) (suc i))
 found-next a (accept xs) i h = (omega arith, refl)
 found-next a (refuse e) i h = absurd (omega arith)
-
-pub found-past : (o : Outcome (List Span)) (k : ℕ) → total o ≤ k → found o k ≡ nowhere
-found-past (accept xs) k h = List·getD-eq-default xs nowhere h
-found-past (refuse e) k h = refl
 
 -- ### a walk that keeps what it has passed: what is done, and what is left behind it
 

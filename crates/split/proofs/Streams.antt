@@ -6,26 +6,24 @@ use mathlib.Core.Option.{none, some}
 use mathlib.Core.Logic.{_⊎_, ⊎-elim, inl, inr}
 use native.Mathlib.Omega.{arith}
 use native.Mathlib.Decide.{decLe}
-use types.Run.{OneOf}
-use denote.Enum.Declared.{tagOf}
-use lib.ListN.{length, getD, take, drop, length-take, length-drop, drop-of-length-le}
+use lib.ListN.{length, take, drop, length-take, length-drop, drop-of-length-le}
 use lib.Seq.{drop-drop}
 use borrow.Author.Tests.{le-leb, lt-leb, eq-eqb, ne-eqb}
 use Rattle.error.specs.Outcome.{Outcome, accept, refuse, lentInput}
 use Rattle.error.specs.Parse.{value, many}
 use Rattle.error.specs.Refusals.{numberOf}
 use Rattle.error.specs.declared.Refusal.{Refusal}
-use Rattle.boxes.specs.Parts.{nowhere}
-use Rattle.boxes.specs.Walk.{more, found}
+use Rattle.boxes.specs.Walk.{more}
+use Rattle.boxes.specs.Places.{inFirst, placeFound}
 use Rattle.boxes.specs.declared.Span.{Span}
 use Rattle.boxes.proofs.Many.{Advances, many-nil, many-step, many-induction}
+use Rattle.boxes.proofs.Places.{nth-here, nth-next}
 use Rattle.nal.specs.StartCode.{scan, startCodeFrom}
 use Rattle.nal.proofs.StartCodes.{scan-le, scan-found, scan-first, scan-skip, scan-hit, drop-code}
 use Rattle.split.specs.Stream.{trim, segment, nonEmpty, allRead, unitsFrom, splitStream}
 use Rattle.split.specs.Answers.{UnitAhead, Next, first, nextOf, nextGiven}
 use Rattle.split.specs.declared.NextUnit.{NextUnit}
 use Rattle.split.specs.declared.NextUnit.the-variants as N
-use Rattle.split.proofs.NextUnit.{the-type}
 use Rattle.split.proofs.Spans.{Apart}
 use Rattle.split.proofs.Trim.{trim-le}
 
@@ -240,18 +238,11 @@ module _ (s : List ℕ) where
     pub passed-more : streamLeft p ≡ more a (streamLeft b)
     passed-more = rw (left-lent p (turn .lent), left-lent b (turn .lent)) (ap accept (turn .rest))
 
-    both : (k : ℕ) → found (streamLeft p) k ≡ getD (a ∷ unitsFrom s b) k nowhere
-    both k = rw (left-lent p (turn .lent), turn .rest)
+    pub passed-here : (k : ℕ) → k ≡ 0 → accept (some (inFirst a)) ≡ placeFound inFirst (streamLeft p) k
+    passed-here k z = rw (left-lent p (turn .lent), turn .rest) (ap accept (nth-here inFirst a (unitsFrom s b) k z))
 
-    pub passed-here : (k : ℕ) → k ≡ 0 → a ≡ found (streamLeft p) k
-    passed-here zero z = sym (both 0)
-    passed-here (suc k) z = absurd (omega arith)
-
-    pub passed-next : (k : ℕ) → (k ≡ 0 → ⊥) → found (streamLeft b) (k - 1) ≡ found (streamLeft p) k
-    passed-next zero z = absurd (z refl)
-    passed-next (suc k) z =
-        let l : suc k - 1 ≡ k = omega arith in
-        rw (l, left-lent b (turn .lent)) (sym (both (suc k)))
+    pub passed-next : (k : ℕ) → (k ≡ 0 → ⊥) → placeFound inFirst (streamLeft b) (k - 1) ≡ placeFound inFirst (streamLeft p) k
+    passed-next k z = rw (left-lent p (turn .lent), left-lent b (turn .lent), turn .rest) (ap accept (nth-next inFirst a (unitsFrom s b) k z))
 
   -- what the next unit says
   given-is : (p : ℕ) → ((2 ^ 30 < length s) × (nextGiven s p ≡ refuse 23)) ⊎ ((length s ≤ 2 ^ 30) × (nextGiven s p ≡ accept (first (unitsFrom s p))))
@@ -292,9 +283,3 @@ module _ (s : List ℕ) where
         let w : refuse (numberOf e) ≡ nextGiven s p = ap nextOf (sym k) ∙ said in
         ⊎-elim (λ h. let v = h .1 in rw (lt-leb (length s) (2 ^ 30) (h .0)) cc)
         (λ h. let v = h .1 in let z : _≡_ {A = ℕ} 0 1 = cc in absurd (omega arith)) (given-is p)
-
-  -- where no unit was found, there is none
-  pub next-none : (p : ℕ) (r : NextUnit) → nextOf r ≡ nextGiven s p → OneOf (1 ∷ 2 ∷ []) (tagOf the-type r) → (k : ℕ) → nowhere ≡ found (streamLeft p) k
-  next-none p (N.Unit a b) e t k = absurd (⊎-elim (λ h. omega arith) (λ h. omega arith) t)
-  next-none p N.End e t k = rw (next-ended p N.End e refl)
-  next-none p (N.Refused x) e t k = rw (next-refused p (N.Refused x) e x refl)

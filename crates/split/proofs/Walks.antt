@@ -4,10 +4,9 @@ use mathlib.Core.Path.{_≡_, refl, sym, ap, _∙_}
 use mathlib.Core.List.{List, []}
 use native.Mathlib.Omega.{arith}
 use Rattle.error.specs.Outcome.{Outcome, accept, refuse}
-use Rattle.boxes.specs.Parts.{nowhere}
 use Rattle.boxes.specs.Walk.{more, countFound, found}
 use Rattle.boxes.specs.declared.Span.{Span}
-use Rattle.boxes.proofs.Walk.{plus, total, total-count, total-refused, count-more, found-here, found-next, found-past}
+use Rattle.boxes.proofs.Walk.{plus, total, count-more, found-here, found-next}
 
 -- counting, with n counted before and t to be answered
 module _ (n : ℕ) (t : Outcome ℕ) (o : Outcome (List Span)) (whole : plus n (countFound o) ≡ t) where
@@ -38,11 +37,3 @@ module _ (i : ℕ) (x : Span) (o : Outcome (List Span)) (there : i < total o) (w
           let r = found-next a rest i (rw e at h) in
           let l : suc i - 1 ≡ i = omega arith in
           rw l (r .0, r .1 ∙ (rw e at w))
-
--- by the count: past the last unit and on a refusal nothing is found
-module _ (o : Outcome (List Span)) (n k : ℕ) where
-  pub past-last : countFound o ≡ accept n → n ≤ k → nowhere ≡ found o k
-  past-last e h = let t = total-count o n e in sym (found-past o k (omega arith))
-
-  pub past-refusal : countFound o ≡ refuse n → nowhere ≡ found o k
-  past-refusal e = let t = total-refused o n e in sym (found-past o k (omega arith))

@@ -1,16 +1,20 @@
 // Items and streams split into their units.
+// A walk over units is left by its label (document 01's form: "a label leaves the unit walk"), which names what a `break` inside a match leaves.
 pub mod walk;
 
 use boxes::Span;
+use boxes::UnitPlace;
 use boxes::place;
 use error::Counted;
 use error::LARGEST_INPUT;
 use error::Refusal;
 use nal::start_code;
 ghost use mathlib.Core.Path.{_≡_};
+ghost use mathlib.Core.List.{[]};
 ghost use Rattle.error.specs.Answers.{countOf};
 ghost use Rattle.boxes.specs.Parts.{PartOf};
 ghost use Rattle.boxes.specs.Walk.{countFound, found};
+ghost use Rattle.boxes.specs.Places.{inFirst, placeOf, placeFound, PlaceFits};
 ghost use Rattle.split.specs.Item.{splitItem};
 ghost use Rattle.split.specs.Stream.{splitStream};
 ghost use Rattle.split.specs.Answers.{nextOf, nextItemUnit, nextGiven};
@@ -35,12 +39,30 @@ pub fn split_length_prefixed_count(item: &[u8], length_size: u8) -> Counted
     walk::item_count(item, place::wide(length_size))
 }
 
+// Where unit k of an item lies, from 0 on. It is counted first: a refusal further on leaves no unit. Refusals: 23, 4, then in byte order 1
+// and 5.
+pub fn split_length_prefixed_at(item: &[u8], length_size: u8, k: usize) -> UnitPlace
+    ensures { λ r. ⌜ (placeOf r ≡ placeFound inFirst (splitItem «length_size» (now (item .entry))) k) × PlaceFits (now (item .entry)) [] r ⌝ }
+{
+    let counted = split_length_prefixed_count(item, length_size);
+    match counted {
+        Counted::Count(n) => {
+            if n <= k {
+                return UnitPlace::Past;
+            }
+            let unit = walk::item_unit(item, place::wide(length_size), k);
+            UnitPlace::First(unit)
+        }
+        Counted::Refused(e) => UnitPlace::Refused(e),
+    }
+}
+
 // Unit k of an item, a part of it; the empty part past the last unit and on a refusal.
 pub fn split_length_prefixed(item: &[u8], length_size: u8, k: usize) -> &[u8]
     ensures { λ r. ⌜ PartOf r (item .entry) (found (splitItem «length_size» (now (item .entry))) k) ⌝ }
 {
-    let unit = walk::item_span(item, length_size, k);
-    place::part(item, unit)
+    let unit = split_length_prefixed_at(item, length_size, k);
+    place::part_at(item, unit)
 }
 
 // The unit whose length stands at a place of an item, and the place behind it, to go on from. Refusals: 23, 4, then in byte order 1 and 5.
@@ -113,10 +135,37 @@ pub fn split_annex_b_count(stream: &[u8]) -> Counted
     Counted::Count(n)
 }
 
+// Where unit k of a stream lies, from 0 on. Refusal: 23.
+pub fn split_annex_b_at(stream: &[u8], k: usize) -> UnitPlace
+    ensures { λ r. ⌜ (placeOf r ≡ placeFound inFirst (splitStream (now (stream .entry))) k) × PlaceFits (now (stream .entry)) [] r ⌝ }
+{
+    let mut at: usize = 0;
+    let mut left = k;
+    let unit = 'walk: loop {
+        let next = next_unit(stream, at);
+        match next {
+            NextUnit::Unit(a, behind) => {
+                if left == 0 {
+                    break 'walk UnitPlace::First(a);
+                }
+                left -= 1;
+                at = behind;
+            }
+            NextUnit::End => {
+                break 'walk UnitPlace::Past;
+            }
+            NextUnit::Refused(e) => {
+                break 'walk UnitPlace::Refused(e);
+            }
+        }
+    };
+    unit
+}
+
 // Unit k of a stream, a part of it; the empty part past the last unit and on a refusal.
 pub fn split_annex_b(stream: &[u8], k: usize) -> &[u8]
     ensures { λ r. ⌜ PartOf r (stream .entry) (found (splitStream (now (stream .entry))) k) ⌝ }
 {
-    let unit = walk::stream_span(stream, k);
-    place::part(stream, unit)
+    let unit = split_annex_b_at(stream, k);
+    place::part_at(stream, unit)
 }

@@ -1,4 +1,5 @@
 // For the crates further down: the steps of the walks over items and streams.
+// A walk over units is left by its label (document 01's form: "a label leaves the unit walk"), which names what a `break` inside a match leaves.
 use super::NextUnit;
 use boxes::Span;
 use boxes::place;
@@ -9,8 +10,8 @@ ghost use Prim.Native.Nat.{_+_, _-_, _≤_, _<_, _^_};
 ghost use lib.ListN.{length, take, drop};
 ghost use Rattle.error.specs.Answers.{countOf};
 ghost use Rattle.boxes.specs.Walk.{countFound, found};
-ghost use Rattle.split.specs.Item.{outside, splitItem};
-ghost use Rattle.split.specs.Stream.{trim, splitStream};
+ghost use Rattle.split.specs.Item.{outside};
+ghost use Rattle.split.specs.Stream.{trim};
 ghost use Rattle.split.specs.Answers.{leftOf, HasUnit, nextOf, itemStep};
 
 // Whether a prefix size is outside 1 to 4.
@@ -93,20 +94,6 @@ pub fn item_unit(item: &[u8], size: usize, k: usize) -> Span
     unit
 }
 
-// Where unit k of an item lies; nowhere past the last unit and on a refusal. It is counted first: a refusal further on leaves no unit.
-pub fn item_span(item: &[u8], length_size: u8, k: usize) -> Span
-    ensures { λ r. ⌜ (r ≡ found (splitItem «length_size» (now (item .entry))) k) × (r .start + r .len ≤ length (now (item .entry))) ⌝ }
-{
-    let counted = super::split_length_prefixed_count(item, length_size);
-    let Counted::Count(n) = counted else {
-        return Span { start: 0, len: 0 };
-    };
-    if n <= k {
-        return Span { start: 0, len: 0 };
-    }
-    item_unit(item, place::wide(length_size), k)
-}
-
 // How many of the bytes between two places are left without the trailing zeros.
 pub fn trimmed(s: &[u8], from: usize, to: usize) -> usize
     requires { ⌜ (from ≤ to) × (to ≤ length (now s)) ⌝ }
@@ -123,24 +110,4 @@ pub fn trimmed(s: &[u8], from: usize, to: usize) -> usize
         end -= 1;
     };
     kept
-}
-
-// Where unit k of a stream lies; nowhere past the last unit and on a refusal.
-pub fn stream_span(stream: &[u8], k: usize) -> Span
-    ensures { λ r. ⌜ (r ≡ found (splitStream (now (stream .entry))) k) × (r .start + r .len ≤ length (now (stream .entry))) ⌝ }
-{
-    let mut at: usize = 0;
-    let mut left = k;
-    let unit = 'walk: loop {
-        let next = super::next_unit(stream, at);
-        let NextUnit::Unit(a, behind) = next else {
-            break 'walk Span { start: 0, len: 0 };
-        };
-        if left == 0 {
-            break 'walk a;
-        }
-        left -= 1;
-        at = behind;
-    };
-    unit
 }

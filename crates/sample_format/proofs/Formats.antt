@@ -1,41 +1,46 @@
 -- The sample format by cases: of the head, of an SPS, of a list.
-use Prim.Native.Nat.{ℕ, _+_, _≤_, _<_}
+use Prim.Native.Nat.{ℕ, _+_, _≤_}
 use native.Mathlib.Omega.{arith}
-use mathlib.Core.Path.{_≡_, refl, sym, ap, _∙_}
-use mathlib.Core.Bool.{Bool, true, false}
-use mathlib.Core.List.{List, [], _∷_}
+use mathlib.Core.Path.{_≡_, refl, sym, ap, _∙_, subst}
+use mathlib.Core.Bool.{true, false}
+use mathlib.Core.List.{List, [], _∷_, map}
+use mathlib.Core.Option.{Option, none, some}
+use mathlib.Core.Logic.{⊎-elim}
 use lib.ListN.{length}
-use borrow.Author.Tests.{lt-ltb, le-ltb}
+use types.Run.{OneOf}
+use denote.Enum.Declared.{tagOf}
 use Rattle.error.specs.Logic.{if_then_else_}
 use Rattle.error.specs.Outcome.{Outcome, accept, refuse, andThen, handsBack}
-use Rattle.error.specs.Answers.{countOf}
 use Rattle.error.specs.Refusals.{numberOf}
 use Rattle.error.specs.declared.Refusal.{Refusal}
-use Rattle.error.specs.declared.Counted.{Counted}
-use Rattle.error.specs.declared.Counted.the-variants.{Count, Refused}
 use Rattle.boxes.specs.Parts.{held}
-use Rattle.boxes.specs.Walk.{countFound, found}
+use Rattle.boxes.specs.Places.{Place, inFirst, inSecond, placeOf, nth, placeFound, PlaceFits}
 use Rattle.boxes.specs.declared.Span.{Span}
+use Rattle.boxes.specs.declared.UnitPlace.{UnitPlace}
+use Rattle.boxes.specs.declared.UnitPlace.the-variants as U
+use Rattle.boxes.proofs.UnitPlace.{the-type}
 use Rattle.unit_list.specs.UnitList.{Array, decode, unitsOfType}
-use Rattle.unit_list.specs.Answers.{listUnitsOfType}
 use Rattle.sps.specs.Sps.{parseSps, zeroSps}
 use Rattle.params.specs.Answers.{readOf}
 use Rattle.sps.specs.Answers.{spsOf, spsGiven}
 use Rattle.params.specs.declared.ParamsAnswer.the-variants as A
 use Rattle.sps.specs.declared.SpsHead.{SpsHead}
 use Rattle.sps.specs.declared.SpsRead.{SpsRead}
+use Rattle.full.specs.Answers.{depthOf, bitDepth, spsPlace}
+use Rattle.full.specs.declared.BitDepth.{BitDepth}
+use Rattle.full.specs.declared.BitDepth.the-variants as B
 use Rattle.full.specs.declared.VvcConfig.{VvcConfig}
-use Rattle.sample_format.specs.Format.{headFormat, spsFormatOf, firstFormat, sampleFormat}
+use Rattle.sample_format.specs.Format.{Format, headFormat, spsFormatOf, firstFormat, sampleFormat}
 
 -- ---- the head
-module _ (h : VvcConfig) where
-  pub head-wide : 247 < h .«bit_depth_minus8» → refuse 22 ≡ headFormat h
+module _ (h : VvcConfig) (r : BitDepth) (e : depthOf r ≡ bitDepth h) where
+  pub head-given : (d : ℕ) → r ≡ B.Bits d → accept (record { chroma = h .«chroma_format_idc»; depth = d }) ≡ headFormat h
   unfolding headFormat
-  head-wide e = rw (lt-ltb 247 (h .«bit_depth_minus8») e)
+  head-given d f = rw (sym e ∙ ap depthOf f)
 
-  pub head-holds : h .«bit_depth_minus8» ≤ 247 → accept (record { chroma = h .«chroma_format_idc»; depth = h .«bit_depth_minus8» + 8 }) ≡ headFormat h
+  pub head-refused : (n : Refusal) → r ≡ B.Refused n → refuse (numberOf n) ≡ headFormat h
   unfolding headFormat
-  head-holds e = rw (le-ltb 247 (h .«bit_depth_minus8») e)
+  head-refused n f = rw (sym e ∙ ap depthOf f)
 
 -- ---- an SPS
 module _ (s : List ℕ) (r : SpsRead) (e : spsOf r ≡ spsGiven s) where
@@ -55,54 +60,61 @@ module _ (s : List ℕ) (r : SpsRead) (e : spsOf r ≡ spsGiven s) where
   sps-refused n f = let g : parseSps s ≡ refuse (numberOf n) = sym answered ∙ ap (λ a. readOf a (r .head)) f in rw g
 
 -- ---- a list
-module _ (h : VvcConfig) (s : List ℕ) (r : Counted) (e : countOf r ≡ countFound (listUnitsOfType 15 s)) where
-  -- a list that was counted decodes, with so many units
-  record Read (n : ℕ) : Type 0 where
-    pub arrays : List (Array Span)
-    pub decodes : decode s ≡ accept arrays
-    pub count : length (unitsOfType 15 arrays) ≡ n
 
-  was-read : (n : ℕ) → r ≡ Count n → Read n
-  was-read n f = go (decode s) refl (sym (ap countOf f) ∙ e)
+-- the format of the first SPS by where it lies
+abbrev firstAt : List ℕ → Option Place → Outcome Format
+firstAt s none = refuse 17
+firstAt s (some (inFirst a)) = spsFormatOf (held s a)
+firstAt s (some (inSecond a)) = refuse 17
+
+abbrev byPlace : VvcConfig → List ℕ → UnitPlace → Outcome Format
+byPlace h s r = andThen (placeOf r) (λ p. if h .«ptl_present_flag» then headFormat h else firstAt s p)
+
+not-refused : (n : Refusal) → OneOf (0 ∷ 1 ∷ 2 ∷ []) (tagOf the-type (U.Refused n)) → ⊥
+not-refused n k = ⊎-elim (λ h. omega arith) (⊎-elim (λ h. omega arith) (λ h. omega arith)) k
+
+module _ (h : VvcConfig) (s : List ℕ) (r : UnitPlace) (e : placeOf r ≡ spsPlace s) where
+  by-place : byPlace h s r ≡ sampleFormat h s
+  unfolding sampleFormat firstFormat nth
+  by-place = rw e (go (decode s))
     where
-      go : (o : Outcome (List (Array Span))) → decode s ≡ o → accept n ≡ countFound (andThen o (λ xs. accept (unitsOfType 15 xs))) → Read n
-      go (accept xs) d g = record { arrays = xs; decodes = d; count = let z : n ≡ length (unitsOfType 15 xs) = cc in sym z }
-      go (refuse k) d g = let z : _≡_ {A = ℕ} 0 1 = cc in absurd (omega arith)
+      first : (us : List Span) → firstAt s (nth (map inFirst us) 0) ≡ firstFormat s us
+      first [] = refl
+      first (a ∷ us) = refl
 
-  pub list-refused : (n : Refusal) → r ≡ Refused n → refuse (numberOf n) ≡ sampleFormat h s
-  unfolding sampleFormat
-  list-refused n f = go (decode s) refl (sym (ap countOf f) ∙ e)
-    where
-      go : (o : Outcome (List (Array Span))) → decode s ≡ o → refuse (numberOf n) ≡ countFound (andThen o (λ xs. accept (unitsOfType 15 xs)))
-          → refuse (numberOf n) ≡ andThen o (λ xs. if h .«ptl_present_flag» then headFormat h else firstFormat s (unitsOfType 15 xs))
-      go (accept xs) d g = let z : _≡_ {A = ℕ} 0 1 = cc in absurd (omega arith)
-      go (refuse k) d g = let z : numberOf n ≡ k = cc in ap refuse z
+      go : (o : Outcome (List (Array Span)))
+          → andThen (placeFound inFirst (andThen o (λ xs. accept (unitsOfType 15 xs))) 0) (λ p. if h .«ptl_present_flag» then headFormat h else firstAt s p)
+          ≡ andThen o (λ xs. if h .«ptl_present_flag» then headFormat h else firstFormat s (unitsOfType 15 xs))
+      go (accept xs) = ap (λ (o : Outcome Format). if h .«ptl_present_flag» then headFormat h else o) (first (unitsOfType 15 xs))
+      go (refuse n) = refl
 
-  module _ (n : ℕ) (f : r ≡ Count n) where
+  pub list-refused : (n : Refusal) → r ≡ U.Refused n → refuse (numberOf n) ≡ sampleFormat h s
+  list-refused n f = sym (ap (byPlace h s) f) ∙ by-place
+
+  -- the list was read: no refusal was told
+  module _ (k : OneOf (0 ∷ 1 ∷ 2 ∷ []) (tagOf the-type r)) where
     pub list-head : h .«ptl_present_flag» ≡ true → headFormat h ≡ sampleFormat h s
-    unfolding sampleFormat
-    list-head b = let k = was-read n f in rw (k .decodes) (ap (λ (c : Bool). if c then headFormat h else firstFormat s (unitsOfType 15 (k .arrays))) (sym b))
+    list-head b = go r k ∙ by-place
+      where
+        go : (r : UnitPlace) → OneOf (0 ∷ 1 ∷ 2 ∷ []) (tagOf the-type r) → headFormat h ≡ byPlace h s r
+        go (U.First a) k = rw b
+        go (U.Second a) k = rw b
+        go U.Past k = rw b
+        go (U.Refused n) k = absurd (not-refused n k)
 
     module _ (b : h .«ptl_present_flag» ≡ false) where
-      first-of : sampleFormat h s ≡ firstFormat s (unitsOfType 15 (was-read n f .arrays))
-      unfolding sampleFormat
-      first-of = let k = was-read n f in rw (k .decodes) (ap (λ (c : Bool). if c then headFormat h else firstFormat s (unitsOfType 15 (k .arrays))) b)
-
-      pub list-none : n ≡ 0 → refuse 17 ≡ sampleFormat h s
-      unfolding firstFormat
-      list-none z = go (unitsOfType 15 (was-read n f .arrays)) (was-read n f .count) ∙ sym first-of
+      pub list-none : OneOf (1 ∷ 2 ∷ 3 ∷ []) (tagOf the-type r) → refuse 17 ≡ sampleFormat h s
+      list-none j = go r k j ∙ by-place
         where
-          go : (us : List Span) → length us ≡ n → refuse 17 ≡ firstFormat s us
-          go [] l = refl
-          go (a ∷ us) l = absurd (omega arith)
+          go : (r : UnitPlace) → OneOf (0 ∷ 1 ∷ 2 ∷ []) (tagOf the-type r) → OneOf (1 ∷ 2 ∷ 3 ∷ []) (tagOf the-type r) → refuse 17 ≡ byPlace h s r
+          go (U.First a) k j = absurd (⊎-elim (λ h. omega arith) (⊎-elim (λ h. omega arith) (λ h. omega arith)) j)
+          go (U.Second a) k j = rw b
+          go U.Past k j = rw b
+          go (U.Refused n) k j = absurd (not-refused n k)
 
-      pub list-first : (n ≡ 0 → ⊥) → spsFormatOf (held s (found (listUnitsOfType 15 s) 0)) ≡ sampleFormat h s
-      unfolding firstFormat
-      list-first z = at ∙ go (unitsOfType 15 (was-read n f .arrays)) (was-read n f .count) ∙ sym first-of
-        where
-          at : spsFormatOf (held s (found (listUnitsOfType 15 s) 0)) ≡ spsFormatOf (held s (found (accept (unitsOfType 15 (was-read n f .arrays))) 0))
-          at = rw (was-read n f .decodes)
+      pub list-first : (a : Span) → r ≡ U.First a → spsFormatOf (held s a) ≡ sampleFormat h s
+      list-first a f = (rw b) ∙ sym (ap (byPlace h s) f) ∙ by-place
 
-          go : (us : List Span) → length us ≡ n → spsFormatOf (held s (found (accept us) 0)) ≡ firstFormat s us
-          go [] l = absurd (z (sym l))
-          go (a ∷ us) l = refl
+-- a unit lies inside its list
+pub first-inside : (s : List ℕ) (r : UnitPlace) → PlaceFits s [] r → (a : Span) → r ≡ U.First a → a .start + a .len ≤ length s
+first-inside s r h a f = subst (PlaceFits s []) f h

@@ -1,13 +1,13 @@
 -- The sample format that a record announces.
-use Prim.Native.Nat.{ℕ, _+_}
+use Prim.Native.Nat.{ℕ}
 use mathlib.Core.List.{List, [], _∷_}
-use lib.Dec.{ltb}
 use Rattle.error.specs.Logic.{if_then_else_}
 use Rattle.error.specs.Outcome.{Outcome, accept, refuse, andThen}
 use Rattle.boxes.specs.Parts.{held}
 use Rattle.boxes.specs.declared.Span.{Span}
 use Rattle.unit_list.specs.UnitList.{decode, unitsOfType}
 use Rattle.sps.specs.Sps.{parseSps}
+use Rattle.full.specs.Answers.{bitDepth}
 use Rattle.full.specs.declared.VvcConfig.{VvcConfig}
 
 -- chroma format and bit depth
@@ -15,10 +15,9 @@ pub record Format : Type 0 where
   pub chroma : ℕ
   pub depth : ℕ
 
--- the head's: "only 22 for depth minus 8 above 247", which a byte cannot hold with 8 more
+-- the head's: "only 22 for depth minus 8 above 247"
 unfoldable pub headFormat : VvcConfig → Outcome Format
-headFormat h =
-    if ltb 247 (h .«bit_depth_minus8») then refuse 22 else accept (record { chroma = h .«chroma_format_idc»; depth = h .«bit_depth_minus8» + 8 })
+headFormat h = andThen (bitDepth h) (λ d. accept (record { chroma = h .«chroma_format_idc»; depth = d }))
 
 -- an SPS's, with its refusals
 unfoldable pub spsFormatOf : List ℕ → Outcome Format

@@ -1,6 +1,8 @@
 // The sample format that a full record announces.
-use error::Counted;
+use boxes::UnitPlace;
+use boxes::place;
 use error::Refusal;
+use full::BitDepth;
 use full::VvcConfig;
 use params::ParamsAnswer;
 use sps::SpsHead;
@@ -27,30 +29,29 @@ fn sps_format(sps: &[u8]) -> SampleFormat
     }
 }
 
-// The head's format, which a byte must hold. Refusal: 22.
+// The head's format. Refusal: 22.
 fn head_format(head: VvcConfig) -> SampleFormat
     ensures { λ r. ⌜ formatOf r ≡ headFormat head ⌝ }
 {
-    if 247 < head.bit_depth_minus8 {
-        return SampleFormat::Refused(Refusal::FieldTooWide);
+    match head.bit_depth() {
+        BitDepth::Bits(depth) => SampleFormat::Format(head.chroma_format_idc, depth),
+        BitDepth::Refused(e) => SampleFormat::Refused(e),
     }
-    SampleFormat::Format(head.chroma_format_idc, head.bit_depth_minus8 + 8)
 }
 
 // With the PTL flag the head's format, else the first SPS's, by the array's type. Refusals: 23, 21; with the flag 22; else 17 and the SPS's.
 pub fn sample_format(head: VvcConfig, list: &[u8]) -> SampleFormat
     ensures { λ r. ⌜ formatOf r ≡ sampleFormat head (now (list .entry)) ⌝ }
 {
-    match unit_list::nal_count_of_type(list, nal::NAL_SPS) {
-        Counted::Refused(e) => SampleFormat::Refused(e),
-        Counted::Count(n) => {
-            if head.ptl_present_flag {
-                return head_format(head);
-            }
-            if n == 0 {
-                return SampleFormat::Refused(Refusal::NoSps);
-            }
-            sps_format(unit_list::nal_unit_of_type(list, nal::NAL_SPS, 0))
-        }
+    let sps = VvcConfig::sps_at(list);
+    if let UnitPlace::Refused(e) = sps {
+        return SampleFormat::Refused(e);
     }
+    if head.ptl_present_flag {
+        return head_format(head);
+    }
+    let UnitPlace::First(unit) = sps else {
+        return SampleFormat::Refused(Refusal::NoSps);
+    };
+    sps_format(place::part(list, unit))
 }

@@ -9,8 +9,14 @@ ghost use Rattle.nal.specs.Header.{layerId, unitType, temporalIdPlus1, n
 ghost use Rattle.nal.specs.Kinds.{unitKind, isPictureData, isRecord};
 ghost use Rattle.nal.specs.Answers.{headerOf, headerPart, checkOf, checked};
 
-// The unit types that are named in this build, after the original.
+// The unit types that the original names (H.266 table 5).
+pub const NAL_IDR_W_RADL: u8 = 7;
+
 pub const NAL_IDR_N_LP: u8 = 8;
+
+pub const NAL_CRA: u8 = 9;
+
+pub const NAL_GDR: u8 = 10;
 
 pub const NAL_OPI: u8 = 12;
 
@@ -24,9 +30,19 @@ pub const NAL_PPS: u8 = 16;
 
 pub const NAL_PREFIX_APS: u8 = 17;
 
+pub const NAL_SUFFIX_APS: u8 = 18;
+
+pub const NAL_PH: u8 = 19;
+
 pub const NAL_AUD: u8 = 20;
 
+pub const NAL_EOS: u8 = 21;
+
+pub const NAL_EOB: u8 = 22;
+
 pub const NAL_PREFIX_SEI: u8 = 23;
+
+pub const NAL_SUFFIX_SEI: u8 = 24;
 
 // The largest unit type, of 5 bits, and how many types there are.
 pub const LARGEST_UNIT_TYPE: u8 = 31;

@@ -3,6 +3,7 @@ use super::SpsHead;
 use super::SpsRead;
 use bit_reader::BitPosition;
 use bit_reader::BitsRead;
+use bit_reader::FIRST_BIT;
 use bit_reader::behind;
 use bit_reader::bits;
 use error::Refusal;
@@ -248,7 +249,7 @@ pub fn parse_front(rbsp: &[u8]) -> SpsRead
     requires { ⌜ length (now rbsp) ≤ 1132 ⌝ }
     ensures { λ r. ⌜ spsOf r ≡ readOr zeroSps (spsHead (now (rbsp .entry)) 0) ⌝ }
 {
-    let ids = read_ids(rbsp, BitPosition(0));
+    let ids = read_ids(rbsp, FIRST_BIT);
     let ptl_read = read_ptl(rbsp, ids);
     let behind_ptl = ptl_read.answer;
     let size = read_size(rbsp, behind_ptl);

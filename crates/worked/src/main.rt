@@ -1,6 +1,6 @@
 // The worked bytes of document 01 that are run: each line says what is asked and what the calls answer. The others are proved in `path`.
-use bit_reader::BitPosition;
 use bit_reader::BitsRead;
+use bit_reader::FIRST_BIT;
 use compact::CompactVvcConfig;
 use error::Written;
 use replay_text::text;
@@ -79,7 +79,7 @@ fn code(s: &[u8]) {
     if 1024 < s.len() {
         return;
     }
-    let r = bit_reader::bits::exp_golomb(s, BitPosition(0));
+    let r = bit_reader::bits::exp_golomb(s, FIRST_BIT);
     let mut line = [0u8; 200];
     let first = text::put_digits(&mut line, 0, s);
     let next = text::put_all(&mut line, first, b" as Exp-Golomb:");

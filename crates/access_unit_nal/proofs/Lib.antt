@@ -1,2 +1,3 @@
 pub mod KeptWalk
 pub mod Sources
+pub mod Parts

@@ -2,10 +2,10 @@
 use Prim.Native.Nat.{ℕ, zero, suc, _+_, _-_, _≤_, _<_}
 use mathlib.Core.Path.{_≡_, refl, sym, ap, _∙_}
 use mathlib.Core.List.{List, [], _∷_, _++_, map}
-use mathlib.Core.Option.{Option}
+use mathlib.Core.Option.{Option, none, some}
 use mathlib.Core.Logic.{⊎-elim}
 use native.Mathlib.Omega.{arith}
-use lib.ListN.{length, getD, length-append, length-map, List·getD-append, List·getD-eq-default}
+use lib.ListN.{length, getD, length-append, length-map, List·getD-append}
 use lib.Seq.{getD-append-add}
 use Rattle.error.specs.Outcome.{Outcome, accept, refuse}
 use Rattle.boxes.specs.Parts.{nowhere}
@@ -15,11 +15,11 @@ use Rattle.access_unit.specs.Inside.{Gathered, gather, inOrder, sources, Walks,
 use Rattle.access_unit_nal.specs.Inside.{HasKept, KeptNumber}
 use Rattle.access_unit.proofs.KeptUnits.{leads-and-follows}
 use Rattle.access_unit.proofs.Sums.{leading-le}
-use Rattle.boxes.specs.Walk.{found}
-use Rattle.unit_list.specs.Find.{wantedList}
-use Rattle.unit_list.specs.declared.Wanted.the-variants.{Every}
-use Rattle.unit_list.proofs.Units.{list-every}
-use Rattle.access_unit.specs.Answers.{sourceAt}
+use Rattle.boxes.specs.Walk.{countFound, found}
+use Rattle.boxes.specs.Places.{Place, inFirst, inSecond, placeFound}
+use Rattle.boxes.proofs.Places.{nth-there, place-past}
+use Rattle.unit_list.specs.Answers.{listUnits}
+use Rattle.access_unit_nal.specs.Answers.{sourcePlace}
 use Rattle.access_unit.specs.declared.sizes.Sizes.{Sizes}
 use Rattle.access_unit.proofs.Gathering.{From, gathered, Known}
 use Rattle.access_unit.proofs.Order.{order-length}
@@ -85,17 +85,14 @@ module _ (item : List ℕ) (g : Gathered) (k : ℕ) where
         ∙ getD-mapped ofItem (following item (g .kept)) j (ofList nowhere) (omega arith)
         ∙ ap ofItem (sym a))
 
-    pub source-past : length (g .units) ≤ k - length (leading item (g .kept)) → length (g .kept) ≤ k - length (g .units)
-        → ofList nowhere ≡ getD (inOrder item g) k (ofList nowhere)
-    source-past h i =
-        let x = kept-length in
-        let l = order-length item g in
-        sym (List·getD-eq-default (inOrder item g) (ofList nowhere) {n = k} (omega arith))
-
 -- ### by what was measured
 
 module _ (size : ℕ) (target : Option ℕ) (list item : List ℕ) (k : ℕ) where
-  pub source-unknown : (n : ℕ) → gather size target list item ≡ refuse n → ofList nowhere ≡ sourceAt (sources size target list item) k
+  -- where unit k of the access unit lies
+  abbrev unitPlace : Outcome (Option Place)
+  unitPlace = placeFound sourcePlace (sources size target list item) k
+
+  pub source-unknown : (n : ℕ) → gather size target list item ≡ refuse n → refuse n ≡ unitPlace
   source-unknown n e = rw e
 
   module _ (v : Sizes) (n : Known size target list item v) (s : ℕ) (same : s ≡ size) where
@@ -105,8 +102,14 @@ module _ (size : ℕ) (target : Option ℕ) (list item : List ℕ) (k : ℕ) whe
     found-all : keptLeft s target item 0 ≡ accept (n .parts .kept)
     found-all = rw same (made .found)
 
-    in-order : getD (inOrder item (n .parts)) k (ofList nowhere) ≡ sourceAt (sources size target list item) k
-    in-order = rw (n .found)
+    counted : countFound (sources size target list item) ≡ accept (v .listed + v .kept)
+    counted = rw (n .found) (ap accept (order-length item (n .parts) ∙ sym (ap (λ (w : Sizes). w .listed + w .kept) (n .sized))))
+
+    in-order : k < v .listed + v .kept → (x : Source) → x ≡ getD (inOrder item (n .parts)) k (ofList nowhere) → accept (some (sourcePlace x)) ≡ unitPlace
+    in-order h x e =
+        let l = order-length item (n .parts) in
+        let m : v .listed + v .kept ≡ length (n .parts .units) + length (n .parts .kept) = ap (λ (w : Sizes). w .listed + w .kept) (n .sized) in
+        rw (n .found, e) (ap accept (nth-there sourcePlace (ofList nowhere) (inOrder item (n .parts)) k (omega arith)))
 
     lead-of : v .lead ≡ length (leading item (n .parts .kept))
     lead-of = ap (λ (w : Sizes). w .lead) (n .sized)
@@ -125,49 +128,44 @@ module _ (size : ℕ) (target : Option ℕ) (list item : List ℕ) (k : ℕ) whe
         let y = kept-of in
         (rw same (record { some = made .some; four = made .four; within = omega arith; lent = made .lent }), record { units = n .parts .kept; found = found-all; within = omega arith })
 
-    pub at-leading : k < v .lead → (a : Span) → a ≡ found (keptLeft s target item 0) k → ofItem a ≡ sourceAt (sources size target list item) k
+    pub at-leading : k < v .lead → (a : Span) → a ≡ found (keptLeft s target item 0) k → accept (some (inSecond a)) ≡ unitPlace
     at-leading h a e =
         let x = lead-of in
-        ap ofItem (e ∙ ap (λ (o : Outcome (List Span)). found o k) found-all) ∙ source-leading item (n .parts) k (omega arith) ∙ in-order
+        let l = lead-kept in
+        in-order (omega arith) (ofItem a) (ap ofItem (e ∙ ap (λ (o : Outcome (List Span)). found o k) found-all) ∙ source-leading item (n .parts) k (omega arith))
 
     module _ (behind : v .lead ≤ k) where
-      pub at-listed : k - v .lead < v .listed → (a : Span) → a ≡ found (wantedList Every list) (k - v .lead) → ofList a ≡ sourceAt (sources size target list item) k
-      at-listed h a e =
+      pub at-listed : k - v .lead < v .listed → placeFound inFirst (listUnits list) (k - v .lead) ≡ unitPlace
+      at-listed h =
           let x = lead-of in
           let y = listed-of in
+          let l = lead-kept in
           let j : k - v .lead ≡ k - length (leading item (n .parts .kept)) = omega arith in
-          ap ofList (
-          e
-          ∙ ap (λ (o : Outcome (List Span)). found o (k - v .lead)) (list-every list ∙ made .listed)
-          ∙ ap (λ (i : ℕ). getD (n .parts .units) i nowhere) j)
-          ∙ source-listed item (n .parts) k (omega arith) (omega arith)
-          ∙ in-order
+          rw (made .listed, j) (
+          sym (ap accept (nth-there inFirst nowhere (n .parts .units) (k - length (leading item (n .parts .kept))) (omega arith)))
+          ∙ in-order (omega arith) (ofList (getD (n .parts .units) (k - length (leading item (n .parts .kept))) nowhere)) (source-listed item (n .parts) k (omega arith) (omega arith)))
 
       module _ (past : v .listed ≤ k - v .lead) where
-        pub at-following : k - v .listed < v .kept → (a : Span) → a ≡ found (keptLeft s target item 0) (k - v .listed) → ofItem a ≡ sourceAt (sources size target list item) k
+        pub at-following : k - v .listed < v .kept → (a : Span) → a ≡ found (keptLeft s target item 0) (k - v .listed) → accept (some (inSecond a)) ≡ unitPlace
         at-following h a e =
             let x = lead-of in
             let y = listed-of in
             let z = kept-of in
             let j : k - v .listed ≡ k - length (n .parts .units) = omega arith in
+            in-order (omega arith) (ofItem a) (
             ap ofItem (
             e
             ∙ ap (λ (o : Outcome (List Span)). found o (k - v .listed)) found-all
             ∙ ap (λ (i : ℕ). getD (n .parts .kept) i nowhere) j)
-            ∙ source-following item (n .parts) k (omega arith) (omega arith) (omega arith)
-            ∙ in-order
+            ∙ source-following item (n .parts) k (omega arith) (omega arith) (omega arith))
 
-        pub at-past : v .kept ≤ k - v .listed → ofList nowhere ≡ sourceAt (sources size target list item) k
-        at-past h =
-            let x = lead-of in
-            let y = listed-of in
-            let z = kept-of in
-            source-past item (n .parts) k (omega arith) (omega arith) (omega arith) ∙ in-order
+        pub at-past : v .kept ≤ k - v .listed → accept none ≡ unitPlace
+        at-past h = let l = lead-kept in place-past sourcePlace (sources size target list item) k (v .listed + v .kept) counted (omega arith)
 
     -- the kept unit with number j is unit k
     pub record KeptAt (j : ℕ) : Type 0 where
       pub within : j < v .kept
-      pub is : (a : Span) → a ≡ found (keptLeft s target item 0) j → ofItem a ≡ sourceAt (sources size target list item) k
+      pub is : (a : Span) → a ≡ found (keptLeft s target item 0) j → accept (some (inSecond a)) ≡ unitPlace
 
     pub kept-number : (j : ℕ) → KeptNumber v k j → KeptAt j
     kept-number j =

@@ -1,5 +1,5 @@
--- What the functions inside this crate say: the walk over the kept units of an item, and the place of a unit.
-use Prim.Native.Nat.{ℕ, _+_, _-_, _≤_, _<_}
+-- What the functions inside this crate say: the walk over the kept units of an item, and which unit a number is of.
+use Prim.Native.Nat.{ℕ, _-_, _≤_, _<_}
 use mathlib.Core.Path.{_≡_}
 use mathlib.Core.Logic.{_⊎_}
 use mathlib.Core.List.{List, []}
@@ -11,13 +11,10 @@ use Rattle.boxes.specs.Walk.{more}
 use Rattle.boxes.specs.declared.Span.{Span}
 use Rattle.split.specs.declared.NextUnit.{NextUnit}
 use Rattle.split.specs.declared.NextUnit.the-variants as N
-use Rattle.access_unit.specs.AccessUnit.{Source, ofList, ofItem}
 use Rattle.access_unit.specs.Inside.{keptLeft}
 use Rattle.access_unit.specs.declared.sizes.Sizes.{Sizes}
 use Rattle.access_unit_nal.specs.declared.source.UnitNumber.{UnitNumber}
 use Rattle.access_unit_nal.specs.declared.source.UnitNumber.the-variants as K
-use Rattle.access_unit_nal.specs.declared.source.UnitPlace.{UnitPlace}
-use Rattle.access_unit_nal.specs.declared.source.UnitPlace.the-variants as U
 
 -- what a step to the next kept unit says of those from the place that it started from
 abbrev pub keptStepped : ℕ → Option ℕ → List ℕ → NextUnit → Outcome (List Span)
@@ -34,16 +31,6 @@ abbrev pub Numbered : Sizes → ℕ → UnitNumber → Type 0
 Numbered v k (K.Kept j) = KeptNumber v k j
 Numbered v k (K.Listed j) = (v .lead ≤ k) × (j ≡ k - v .lead) × (j < v .listed)
 Numbered v k K.Past = (v .lead ≤ k) × (v .listed ≤ k - v .lead) × (v .kept ≤ k - v .listed)
-
--- the unit at a place
-abbrev pub sourceOf : UnitPlace → Source
-sourceOf (U.OfList a) = ofList a
-sourceOf (U.OfItem a) = ofItem a
-
--- a unit lies inside the list or the item that it is of
-abbrev pub SourceFits : List ℕ → List ℕ → UnitPlace → Type 0
-SourceFits list item (U.OfList a) = a .start + a .len ≤ length list
-SourceFits list item (U.OfItem a) = a .start + a .len ≤ length item
 
 -- an item has a kept unit number k
 pub record HasKept (size : ℕ) (target : Option ℕ) (item : List ℕ) (k : ℕ) : Type 0 where

@@ -1,13 +1,31 @@
-// One unit of the access unit of a still, handed back as a part of record or item.
+// One unit of the access unit of a still: where it lies in record or item, and that part handed back.
 pub mod source;
 
 use access_unit::Target;
 use access_unit::kept;
+use boxes::UnitPlace;
 use boxes::place;
 use full::VvcConfig;
-use source::UnitPlace;
+ghost use mathlib.Core.Path.{_≡_};
+ghost use Rattle.boxes.specs.Places.{placeOf, placeFound, PlaceFits};
 ghost use Rattle.access_unit.specs.AccessUnit.{accessUnit};
 ghost use Rattle.access_unit.specs.Answers.{tolsOf, sourceAt, PartOfEither};
+ghost use Rattle.access_unit_nal.specs.Answers.{sourcePlace};
+
+// Where unit k of the access unit lies, from 0 on: in the list, which is the first slice, or in the item, the second. Refusals: 23, 21, 4, then
+// in byte order 1 and 5, 19.
+pub fn access_unit_nal_at(
+    head: VvcConfig,
+    list: &[u8],
+    item: &[u8],
+    tols: Target,
+    k: usize,
+) -> UnitPlace
+    ensures { λ r. ⌜ (placeOf r ≡ placeFound sourcePlace (accessUnit head (now (list .entry)) (now (item .entry)) (tolsOf tols)) k) × PlaceFits (now (list .entry)) (now (item .entry)) r ⌝ }
+{
+    let target = kept::target_of(head, tols);
+    source::source_at(list, item, head.length_size, target, k)
+}
 
 // Unit k of the access unit, from 0 on, a part of the list or of the item; the list's empty part past the last and on a refusal.
 pub fn access_unit_nal<'a>(
@@ -19,10 +37,9 @@ pub fn access_unit_nal<'a>(
 ) -> &'a [u8]
     ensures { λ r. ⌜ PartOfEither r (list .entry) (item .entry) (sourceAt (accessUnit head (now (list .entry)) (now (item .entry)) (tolsOf tols)) k) ⌝ }
 {
-    let target = kept::target_of(head, tols);
-    let unit = source::source_at(list, item, head.length_size, target, k);
-    match unit {
-        UnitPlace::OfList(a) => place::part(list, a),
-        UnitPlace::OfItem(a) => place::part(item, a),
-    }
+    let unit = access_unit_nal_at(head, list, item, tols, k);
+    let UnitPlace::Second(a) = unit else {
+        return place::part_at(list, unit);
+    };
+    place::part(item, a)
 }

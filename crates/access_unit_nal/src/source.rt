@@ -1,29 +1,25 @@
 // For this crate's calls: where unit k of an access unit lies.
+// As in `split`, a label leaves a walk over units.
 use access_unit::Target;
 use access_unit::kept;
 use access_unit::sizes;
 use access_unit::sizes::Measured;
 use access_unit::sizes::Sizes;
 use boxes::Span;
+use boxes::UnitPlace;
 use boxes::place;
 use split::NextUnit;
 use split::walk;
-use unit_list::Wanted;
-use unit_list::find;
 ghost use mathlib.Core.Path.{_≡_};
 ghost use Prim.Native.Nat.{_+_, _≤_};
 ghost use lib.ListN.{length};
 ghost use Rattle.boxes.specs.Walk.{found};
+ghost use Rattle.boxes.specs.Places.{placeOf, placeFound, PlaceFits};
 ghost use Rattle.split.specs.Answers.{Onward};
-ghost use Rattle.access_unit.specs.Answers.{tolsOf, sourceAt};
+ghost use Rattle.access_unit.specs.Answers.{tolsOf};
 ghost use Rattle.access_unit.specs.Inside.{Walks, keptLeft, sources};
-ghost use Rattle.access_unit_nal.specs.Inside.{Numbered, keptStepped, HasKept, sourceOf, SourceFits};
-
-// A span of the list or of the item.
-pub enum UnitPlace {
-    OfList(Span),
-    OfItem(Span),
-}
+ghost use Rattle.access_unit_nal.specs.Answers.{sourcePlace};
+ghost use Rattle.access_unit_nal.specs.Inside.{Numbered, keptStepped, HasKept};
 
 // A unit by its number: among the kept ones of the item, among the list's, or past the last.
 pub enum UnitNumber {
@@ -89,25 +85,20 @@ fn kept_unit(item: &[u8], size: usize, target: Target, k: usize) -> Span
     unit
 }
 
-// Where unit k of an access unit lies; the list's empty part past the last and on a refusal.
+// Where unit k of an access unit lies. Refusals: 23, 21, 4, then in byte order 1 and 5, 19.
 pub fn source_at(list: &[u8], item: &[u8], length_size: u8, target: Target, k: usize) -> UnitPlace
-    ensures { λ r. ⌜ (sourceOf r ≡ sourceAt (sources «length_size» (tolsOf target) (now (list .entry)) (now (item .entry))) k) × SourceFits (now (list .entry)) (now (item .entry)) r ⌝ }
+    ensures { λ r. ⌜ (placeOf r ≡ placeFound sourcePlace (sources «length_size» (tolsOf target) (now (list .entry)) (now (item .entry))) k) × PlaceFits (now (list .entry)) (now (item .entry)) r ⌝ }
 {
-    let nowhere = Span { start: 0, len: 0 };
     let measured = sizes::measure(list, item, length_size, target);
-    let Measured::Sized(sizes) = measured else {
-        return UnitPlace::OfList(nowhere);
-    };
-    match number_of(sizes, k) {
-        UnitNumber::Kept(n) => {
-            let size = place::wide(length_size);
-            UnitPlace::OfItem(kept_unit(item, size, target, n))
-        }
-        UnitNumber::Listed(n) => {
-            let listed = find::find(list, Wanted::Every, n);
-            let unit = listed.unit;
-            UnitPlace::OfList(unit)
-        }
-        UnitNumber::Past => UnitPlace::OfList(nowhere),
+    match measured {
+        Measured::Sized(sizes) => match number_of(sizes, k) {
+            UnitNumber::Kept(n) => {
+                let unit = kept_unit(item, place::wide(length_size), target, n);
+                UnitPlace::Second(unit)
+            }
+            UnitNumber::Listed(n) => unit_list::nal_unit_at(list, n),
+            UnitNumber::Past => UnitPlace::Past,
+        },
+        Measured::Refused(e) => UnitPlace::Refused(e),
     }
 }

@@ -1,5 +1,6 @@
 // Items and streams split into their units.
-// A walk over units is left by its label (document 01's form: "a label leaves the unit walk"), which names what a `break` inside a match leaves.
+// Document 01 asks that a label leaves a walk over units: it names the walk, also where the `break` stands inside a match. With one loop to a
+// function a plain `break` would leave the same one.
 pub mod walk;
 
 use boxes::Span;

@@ -1,12 +1,15 @@
--- `source::source_at` finds where unit k of the access unit lies, by its number among the kept units or the list's.
+-- `source::source_at` says where unit k of the access unit lies, by its number among the kept units or the list's.
+use Prim.Native.Nat.{ℕ}
 use mathlib.Core.Path.{refl, sym, ap, _∙_, subst}
+use Rattle.boxes.specs.Places.{inFirst, placeFound}
+use Rattle.boxes.proofs.Places.{fits-more}
+use Rattle.unit_list.specs.Answers.{listUnits}
 use Rattle.access_unit.specs.Answers.{tolsOf}
 use Rattle.access_unit.specs.Inside.{measuredOf}
 use Rattle.access_unit.proofs.Gathering.{Known, known, unknown}
 use Rattle.access_unit_nal.specs.Inside.{Numbered}
 use Rattle.access_unit_nal.proofs.Sources.{source-unknown, has-kept, at-listed, at-past, KeptAt, kept-number}
 use borrow.Author.Needs.{needs}
-use native.Mathlib.Omega.{arith}
 use Rattle.access_unit_nal.proofs.source.source_at.Statement.{statement}
 use Rattle.access_unit_nal.proofs.source.source_at.Tie as tie
 
@@ -26,14 +29,6 @@ measure-requires c κs = search needs
 enum-known-measured : tie.Need-enum-known-measured
 enum-known-measured c = search needs
 
-enum-told : tie.Need-enum-told
-enum-told c = search needs
-
-returns : tie.Need-returns
-returns c =
-    let a = c .before .before .before .before .before .args in
-    (source-unknown (a .length-size) (tolsOf (a .target)) (a .list .now) (a .item .now) (a .k) _ (unknown _ _ _ _ _ (ap measuredOf (sym (c .enum-told .given .1)) ∙ c .before .before .measure .ensures)), omega arith)
-
 number-of-requires : tie.Need-number-of-requires
 number-of-requires c κs = search needs
 
@@ -50,28 +45,35 @@ kept-unit-requires c κs =
 enum-known-n-2 : tie.Need-enum-known-n-2
 enum-known-n-2 c = search needs
 
-find-requires : tie.Need-find-requires
-find-requires c κs = search needs
+nal-unit-at-requires : tie.Need-nal-unit-at-requires
+nal-unit-at-requires c κs = search needs
 
-enum-told-2 : tie.Need-enum-told-2
-enum-told-2 c = search needs
+enum-told : tie.Need-enum-told
+enum-told c = search needs
+
+enum-known-measured-2 : tie.Need-enum-known-measured-2
+enum-known-measured-2 c = search needs
+
+returns : tie.Need-returns
+returns c = (kept-at (c .before) .is _ (c .kept-unit .ensures .0), c .kept-unit .ensures .1)
 
 returns-2 : tie.Need-returns-2
-returns-2 c = (kept-at (c .before) .is _ (c .kept-unit .ensures .0), c .kept-unit .ensures .1)
+returns-2 c =
+    let a = c .before .before .before .before .before .before .before .before .before .before .before .args in
+    let h = subst (Numbered (c .before .before .before .before .before .before .measured .given .0 .0) (a .k)) (c .before .before .n2 .given .1) (c .before .before .before .before .number-of .ensures) in
+    let u = c .nal-unit-at in
+    (u .ensures .0 ∙ ap (λ (j : ℕ). placeFound inFirst (listUnits (a .list .now)) j) (h .1) ∙ at-listed (a .length-size) (tolsOf (a .target)) (a .list .now) (a .item .now) (a .k) _ (known-at (c .before .before .before .before .before)) (a .length-size) refl (h .0) (rw (h .1) at (h .2)), fits-more (a .list .now) (a .item .now) (u .result) (u .ensures .1))
 
 returns-3 : tie.Need-returns-3
 returns-3 c =
-    let a = c .before .before .before .before .before .before .before .before .before .before .before .before .args in
-    let g = c .before .before .before .n2 .given in
-    let h = subst (Numbered (c .before .before .before .before .before .before .before .measured .given .0 .0) (a .k)) (g .1) (c .before .before .before .before .before .number-of .ensures) in
-    let f = c .before .find .ensures in
-    (at-listed (a .length-size) (tolsOf (a .target)) (a .list .now) (a .item .now) (a .k) _ (known-at (c .before .before .before .before .before .before)) (a .length-size) refl (h .0) (rw (h .1) at (h .2)) _ (rw (h .1) at (f .unit)), f .inside)
+    let a = c .before .before .before .before .before .before .before .before .before .args in
+    let h = subst (Numbered (c .before .before .before .before .measured .given .0 .0) (a .k)) (c .enum-told .given .1) (c .before .before .number-of .ensures) in
+    (at-past (a .length-size) (tolsOf (a .target)) (a .list .now) (a .item .now) (a .k) _ (known-at (c .before .before .before)) (a .length-size) refl (h .0) (h .1) (h .2), tt)
 
 returns-4 : tie.Need-returns-4
 returns-4 c =
-    let a = c .before .before .before .before .before .before .before .before .before .args in
-    let h = subst (Numbered (c .before .before .before .before .measured .given .0 .0) (a .k)) (c .enum-told2 .given .1) (c .before .before .number-of .ensures) in
-    (at-past (a .length-size) (tolsOf (a .target)) (a .list .now) (a .item .now) (a .k) _ (known-at (c .before .before .before)) (a .length-size) refl (h .0) (h .1) (h .2), omega arith)
+    let a = c .before .before .before .before .before .before .args in
+    (source-unknown (a .length-size) (tolsOf (a .target)) (a .list .now) (a .item .now) (a .k) _ (unknown _ _ _ _ _ (ap measuredOf (sym (c .before .measured2 .given .1)) ∙ c .before .before .before .measure .ensures)), tt)
 
 pub source-at-spec : {M : Type 1} → statement M
 source-at-spec =
@@ -79,15 +81,15 @@ source-at-spec =
     (tie.spec
     measure-requires
     enum-known-measured
-    enum-told
-    returns
     number-of-requires
     enum-known-n
     wide-requires
     kept-unit-requires
     enum-known-n-2
-    find-requires
-    enum-told-2
+    nal-unit-at-requires
+    enum-told
+    enum-known-measured-2
+    returns
     returns-2
     returns-3
     returns-4)

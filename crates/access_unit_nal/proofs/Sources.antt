@@ -15,7 +15,7 @@ use Rattle.access_unit.specs.Inside.{Gathered, gather, inOrder, sources, Walks,
 use Rattle.access_unit_nal.specs.Inside.{HasKept, KeptNumber}
 use Rattle.access_unit.proofs.KeptUnits.{leads-and-follows}
 use Rattle.access_unit.proofs.Sums.{leading-le}
-use Rattle.boxes.specs.Walk.{countFound, found}
+use Rattle.boxes.specs.Walk.{found}
 use Rattle.boxes.specs.Places.{Place, inFirst, inSecond, placeFound}
 use Rattle.boxes.proofs.Places.{nth-there, place-past}
 use Rattle.unit_list.specs.Answers.{listUnits}
@@ -102,14 +102,11 @@ module _ (size : ℕ) (target : Option ℕ) (list item : List ℕ) (k : ℕ) whe
     found-all : keptLeft s target item 0 ≡ accept (n .parts .kept)
     found-all = rw same (made .found)
 
-    counted : countFound (sources size target list item) ≡ accept (v .listed + v .kept)
-    counted = rw (n .found) (ap accept (order-length item (n .parts) ∙ sym (ap (λ (w : Sizes). w .listed + w .kept) (n .sized))))
+    all-of : v .listed + v .kept ≡ length (inOrder item (n .parts))
+    all-of = ap (λ (w : Sizes). w .listed + w .kept) (n .sized) ∙ sym (order-length item (n .parts))
 
     in-order : k < v .listed + v .kept → (x : Source) → x ≡ getD (inOrder item (n .parts)) k (ofList nowhere) → accept (some (sourcePlace x)) ≡ unitPlace
-    in-order h x e =
-        let l = order-length item (n .parts) in
-        let m : v .listed + v .kept ≡ length (n .parts .units) + length (n .parts .kept) = ap (λ (w : Sizes). w .listed + w .kept) (n .sized) in
-        rw (n .found, e) (ap accept (nth-there sourcePlace (ofList nowhere) (inOrder item (n .parts)) k (omega arith)))
+    in-order h x e = let l = all-of in rw (n .found, e) (ap accept (nth-there sourcePlace (ofList nowhere) (inOrder item (n .parts)) k (omega arith)))
 
     lead-of : v .lead ≡ length (leading item (n .parts .kept))
     lead-of = ap (λ (w : Sizes). w .lead) (n .sized)
@@ -160,7 +157,7 @@ module _ (size : ℕ) (target : Option ℕ) (list item : List ℕ) (k : ℕ) whe
             ∙ source-following item (n .parts) k (omega arith) (omega arith) (omega arith))
 
         pub at-past : v .kept ≤ k - v .listed → accept none ≡ unitPlace
-        at-past h = let l = lead-kept in place-past sourcePlace (sources size target list item) k (v .listed + v .kept) counted (omega arith)
+        at-past h = let l = lead-kept in place-past sourcePlace (sources size target list item) k (v .listed + v .kept) (rw (n .found, ← all-of)) (omega arith)
 
     -- the kept unit with number j is unit k
     pub record KeptAt (j : ℕ) : Type 0 where

@@ -17,6 +17,11 @@ use Rattle.boxes.specs.declared.UnitPlace.{UnitPlace}
 use Rattle.boxes.specs.declared.UnitPlace.the-variants as U
 use Rattle.boxes.proofs.UnitPlace.{the-type}
 
+-- the one found as number k, d where there is none
+abbrev pub foundOr : {A : Type 0} → A → Outcome (List A) → ℕ → A
+foundOr d (accept xs) k = getD xs k d
+foundOr d (refuse e) k = d
+
 module _ {A : Type 0} (lies : A → Place) where
   nth-past : (xs : List A) (k : ℕ) → length xs ≤ k → none ≡ nth (map lies xs) k
   unfolding nth
@@ -50,11 +55,7 @@ module _ {A : Type 0} (lies : A → Place) where
   place-past (accept xs) k n e h = let l : length xs ≡ n = cc in ap accept (nth-past xs k (omega arith))
   place-past (refuse m) k n e h = let z : _≡_ {A = ℕ} 0 1 = cc in absurd (omega arith)
 
-  -- the part that is handed back is at the one found, where d stands for none
-  abbrev foundOr : A → Outcome (List A) → ℕ → A
-  foundOr d (accept xs) k = getD xs k d
-  foundOr d (refuse e) k = d
-
+  -- the part that is handed back is at the one found
   module _ (d : A) (front : lies d ≡ inFirst nowhere) where
     nth-lying : (xs : List A) (k : ℕ) → lying (accept (nth (map lies xs) k)) ≡ lies (getD xs k d)
     unfolding nth

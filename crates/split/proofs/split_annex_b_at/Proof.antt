@@ -1,6 +1,6 @@
 -- `split_annex_b_at` says where unit k of a stream lies. The loop's invariant: unit `left` of those left is unit k.
 use Prim.Native.Nat.{_-_, _≤_}
-use mathlib.Core.Path.{_≡_, refl, ap, _∙_}
+use mathlib.Core.Path.{_≡_, ap, _∙_}
 use native.Mathlib.Omega.{arith}
 use borrow.Author.Needs.{needs}
 use lib.ListN.{length}

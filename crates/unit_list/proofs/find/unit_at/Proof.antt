@@ -1,5 +1,5 @@
 -- `find::unit_at` says where number k of the wanted units lies, by their count and the one found.
-use mathlib.Core.Path.{_≡_, sym, ap, _∙_}
+use mathlib.Core.Path.{sym, ap, _∙_}
 use native.Mathlib.Omega.{arith}
 use borrow.Author.Needs.{needs}
 use Rattle.error.specs.Answers.{countOf}

@@ -3,7 +3,7 @@
  * The functions are in the static library libvvcc_c.a (`rt staticlib vvcc_c`). Each is proved to give exactly what its definition says, on
  * any input: the contracts are in crates/vvcc_c/src/lib.rt. They allocate nothing, keep nothing, end on every input, may be called from
  * several threads at once, and use less than 64 KiB of stack. What is said below of the lengths of `scratch` and `out` is proved too
- * (crates/output_lengths): with so many bytes no call answers 20. What is said of the stack was worked out by hand.
+ * (crates/output_lengths): with so many bytes no call answers 20. What is said of the stack was worked out by hand, and is run (bindings/guarded).
  *
  * What a caller owes:
  *  - a pointer and the length behind it describe memory that may be read (written, for `out` and `scratch`), and the pointer is not null,
@@ -78,7 +78,8 @@ vvcc_written vvcc_still_record(const uint8_t *record, size_t record_len,
  * `stored` is what the file stores for the picture. With `has_target` other than 0, `target` is the operating point that the caller asks for.
  * With the multi-layer flag clear the stream has at most 4 times `record_len`, `stored_len` and 6 bytes; with it set, 4 times `record_len` and
  * 2.5 times `stored_len`.
- * Refusals, in this order: 23; those of vvcc_still_record but for 20; 6, or with the flag set those of vvcc_access_unit's item; 20. */
+ * Refusals, in this order: 23; those of vvcc_still_record but for 20; with the flag clear 6, then 23 where the item would pass 2^30 bytes, with
+ * the flag set those of vvcc_access_unit's item; 20. */
 vvcc_written vvcc_still_stream(const uint8_t *record, size_t record_len,
                                const uint8_t *stored, size_t stored_len,
                                uint8_t has_target, uint16_t target,

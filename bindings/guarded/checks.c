@@ -1,0 +1,149 @@
+/* A case at both placements. */
+#include "guarded.h"
+
+#include <string.h>
+
+/* What the call gave with as much memory as the header names: its answer, its output and the unit list in its scratch. */
+static struct {
+    vvcc_written answer;
+    uint8_t out[ROOM], scratch[ROOM];
+    size_t list_len;
+} whole;
+
+/* The output that always suffices, by the header. */
+size_t header_out(const test_case *c) {
+    size_t first = c->first.len, second = c->second.len;
+    bool layers = first && c->first.at[0] >> 7, four = first && (c->first.at[0] >> 1 & 3) == 3;
+    if (c->call == STILL_RECORD)
+        return 1100 + 5 * first;
+    if (c->call == STILL_STREAM)
+        return 4 * first + (layers ? 5 * second / 2 : second + 6);
+    return 2 * first + (four ? second : 5 * second / 2);
+}
+
+/* The scratch that always suffices, by the header. */
+static size_t header_scratch(const test_case *c) {
+    return c->call == ACCESS_UNIT ? 4 * c->first.len : 0;
+}
+
+/* How many bytes of the scratch were written: with two fills, those up to the last one that is the same in both. */
+static size_t written_front(const test_case *c, const run *r) {
+    size_t n = r->scratch_len;
+    while (n > 0 && whole.scratch[n - 1] != r->scratch[n - 1])
+        n--;
+    if (n && memcmp(whole.scratch, r->scratch, n))
+        fail(c, "the scratch differs between the placements");
+    return n;
+}
+
+/* With the header's lengths, at the end with one fill and at the front with another: no 20, and the same. */
+static void check_whole(const test_case *c, uint8_t fill) {
+    run r = {.side = AT_THE_END, .fill = fill, .scratch_len = header_scratch(c), .out_len = header_out(c)};
+    perform(c, &r);
+    if (r.answer.refusal == 20)
+        fail(c, "20 with the header's lengths");
+    whole.answer = r.answer;
+    if (r.out_len)
+        memcpy(whole.out, r.out, r.out_len);
+    if (r.scratch_len)
+        memcpy(whole.scratch, r.scratch, r.scratch_len);
+    r.side = AT_THE_FRONT;
+    r.fill = (uint8_t)~fill;
+    perform(c, &r);
+    if (r.answer.refusal != whole.answer.refusal || r.answer.len != whole.answer.len || (r.answer.len && memcmp(r.out, whole.out, r.answer.len)))
+        fail(c, "the answer differs between the placements");
+    whole.list_len = written_front(c, &r);
+}
+
+/* What the scratch must hold: the unit list where it fits, and behind it, or everywhere, the fill. */
+static void check_scratch(const test_case *c, const run *r) {
+    size_t n = r->scratch_len < whole.list_len ? 0 : whole.list_len;
+    if (n && memcmp(r->scratch, whole.scratch, n))
+        fail(c, "the scratch does not hold the unit list");
+    for (size_t i = n; i < r->scratch_len; i++)
+        if (r->scratch[i] != r->fill)
+            fail(c, "a byte of the scratch behind the unit list was changed");
+}
+
+/* With other lengths, at one side: the same answer, or 20 where a length is too short. */
+static void check_lengths(const test_case *c, enum side side, uint8_t fill, size_t scratch_len, size_t out_len) {
+    run r = {.side = side, .fill = fill, .scratch_len = scratch_len, .out_len = out_len};
+    bool short_out = !whole.answer.refusal && out_len < whole.answer.len;
+    uint32_t refusal = scratch_len < whole.list_len || short_out ? 20 : whole.answer.refusal;
+    perform(c, &r);
+    if (r.answer.refusal != refusal || r.answer.len != (refusal ? 0 : whole.answer.len))
+        fail(c, "another answer with memory of another length");
+    if (r.answer.len && memcmp(r.out, whole.out, r.answer.len))
+        fail(c, "other bytes with memory of another length");
+    check_scratch(c, &r);
+}
+
+/* A length to lend for a result of n bytes: exactly that, one byte less, more, none or any. */
+static size_t any_length(size_t n, size_t most) {
+    switch (below(6)) {
+    case 0:
+    case 1: return n;
+    case 2: return n ? n - 1 : 0;
+    case 3: return n < most ? n + 1 + below(most - n) : n;
+    case 4: return 0;
+    default: return below(n + 1);
+    }
+}
+
+/* A call that writes. */
+static void check_written(const test_case *c, counts *n) {
+    uint8_t fill = (uint8_t)any_number();
+    check_whole(c, fill);
+    size_t out_len = any_length(whole.answer.len, header_out(c));
+    size_t scratch_len = one_in(2) ? header_scratch(c) : any_length(whole.list_len, header_scratch(c));
+    check_lengths(c, AT_THE_END, (uint8_t)(fill + 85), scratch_len, out_len);
+    check_lengths(c, AT_THE_FRONT, (uint8_t)(fill + 170), scratch_len, out_len);
+    n->answers[c->call][whole.answer.refusal]++;
+}
+
+/* A unit lies inside, behind the place that was asked for, and is not empty; in a stream behind 00 00 01 and not ending in 00, in an item behind
+ * its length. */
+static void check_unit(const test_case *c, const vvcc_unit *u, size_t from) {
+    const uint8_t *s = c->first.at;
+    size_t ahead = c->call == NEXT_UNIT ? 3 : c->length_size, len = c->first.len;
+    if (u->found != 1 || u->len == 0 || u->len > len || u->start > len - u->len || u->start < ahead || u->start - ahead < from)
+        fail(c, "a unit that is empty or does not lie inside");
+    if (u->behind < u->start + u->len || u->behind > len)
+        fail(c, "a place behind a unit that is not behind it, or outside");
+    if (c->call == NEXT_UNIT ? s[u->start + u->len - 1] == 0 || memcmp(s + u->start - 3, "\0\0\1", 3)
+                             : u->start != from + ahead || u->behind != u->start + u->len)
+        fail(c, "a unit that does not lie where it should");
+}
+
+/* One step at both placements. */
+static vvcc_unit check_step(const test_case *c, size_t from, uint8_t around) {
+    vvcc_unit u = step(c, AT_THE_END, around, from), v = step(c, AT_THE_FRONT, (uint8_t)~around, from);
+    if (u.refusal != v.refusal || u.found != v.found || u.start != v.start || u.len != v.len || u.behind != v.behind)
+        fail(c, "a step differs between the placements");
+    if (u.found)
+        check_unit(c, &u, from);
+    return u;
+}
+
+/* A walk from the front to its end, each unit behind the one before, and one step from any place. */
+static void check_walk(const test_case *c, counts *n) {
+    uint8_t around = (uint8_t)any_number();
+    size_t from = 0;
+    vvcc_unit u = check_step(c, from, around);
+    while (u.found) {
+        from = u.behind;
+        u = check_step(c, from, around);
+    }
+    if (c->call == NEXT_ITEM_UNIT && !u.refusal && from != c->first.len)
+        fail(c, "a walk that ends before the item does");
+    check_step(c, c->from, around);
+    n->answers[c->call][u.refusal]++;
+}
+
+/* One case, counted. */
+void check_case(const test_case *c, counts *n) {
+    if (c->call < NEXT_UNIT)
+        check_written(c, n);
+    else
+        check_walk(c, n);
+}

@@ -1,0 +1,96 @@
+/* That a read and a write outside are noticed; inputs above 2^30 bytes. */
+#include "guarded.h"
+
+#include <stdio.h>
+#include <stdlib.h>
+#include <string.h>
+#include <sys/resource.h>
+#include <sys/wait.h>
+#include <unistd.h>
+
+static const uint8_t worked[] = {0x60, 11, 0x00, 0x79, 0x00, 0x0D, 0x02, 0x33, 0x80, 0x00, 0x02, 0x22, 0x4C, 3, 0x00, 0x81, 0x80};
+
+/* Lends a stream a byte longer than it is: a scan for 00 00 01 has to look at that byte. */
+static void read_outside(enum side side) {
+    uint8_t *s = place_slice(FIRST, side, 9, 7);
+    memset(s, 0, 9);
+    s[1] = 1;
+    vvcc_next_unit(side == AT_THE_END ? s : s - 1, 10, 0);
+}
+
+/* Lends an output a byte longer than it is, for a record of 40 bytes. */
+static void write_outside(enum side side) {
+    uint8_t *out = place_slice(OUT, side, 39, 7);
+    vvcc_still_record(worked, sizeof worked, 1, 8, 16, 8, side == AT_THE_END ? out : out - 1, 40);
+}
+
+/* Whether a process of its own that does this is ended by a signal. */
+static bool is_ended(void (*wrong)(enum side), enum side side) {
+    struct rlimit none = {0, 0};
+    int status = 0;
+    fflush(NULL);
+    pid_t child = fork();
+    if (child == 0) {
+        setrlimit(RLIMIT_CORE, &none);
+        wrong(side);
+        _exit(0);
+    }
+    return child > 0 && waitpid(child, &status, 0) == child && WIFSIGNALED(status);
+}
+
+/* Each wrong length must end its process. */
+size_t check_faults(void) {
+    void (*const wrong[])(enum side) = {read_outside, write_outside};
+    size_t n = 0;
+    for (size_t i = 0; i < 2; i++)
+        for (int side = AT_THE_END; side <= AT_THE_FRONT; side++, n++)
+            if (!is_ended(wrong[i], (enum side)side)) {
+                fprintf(stderr, "guarded: a %s outside was not noticed\n", i ? "write" : "read");
+                exit(1);
+            }
+    return n;
+}
+
+/* An answer that must be a refusal, the output untouched. */
+static size_t must_refuse(uint32_t number, vvcc_written w, const uint8_t *out) {
+    bool kept = true;
+    for (size_t i = 0; i < 64; i++)
+        kept = kept && out[i] == 0x55;
+    if (w.refusal != number || w.len || !kept) {
+        fprintf(stderr, "guarded: a long input: %lu and not %lu\n", (unsigned long)w.refusal, (unsigned long)number);
+        exit(1);
+    }
+    return 1;
+}
+
+/* Walks refuse a long input, and take the longest that they may. */
+static size_t check_long_walks(const uint8_t *s, size_t most) {
+    vvcc_unit answers[] = {vvcc_next_unit(s, most + 1, 0), vvcc_next_item_unit(s, most + 1, 4, 0), vvcc_next_unit(s + 1, most, most - 9),
+                           vvcc_next_item_unit(s + 1, most, 4, most - 9)};
+    static const uint32_t refusals[] = {23, 23, 0, 5};
+    for (size_t i = 0; i < 4; i++)
+        if (answers[i].refusal != refusals[i] || answers[i].found) {
+            fprintf(stderr, "guarded: a long walk: %lu\n", (unsigned long)answers[i].refusal);
+            exit(1);
+        }
+    return 4;
+}
+
+/* Inputs of 2^30 + 1 bytes are refused, and so is a still whose item would have more. */
+size_t check_long_inputs(void) {
+    size_t most = (size_t)1 << 30, n = 0;
+    uint8_t *s = long_slice(most + 1), *out = place_slice(OUT, AT_THE_END, 64, 7), *scratch = place_slice(SCRATCH, AT_THE_END, 64, 7);
+    uint8_t small[sizeof worked];
+    memcpy(small, worked, sizeof worked);
+    small[0] = 0;
+    memset(out, 0x55, 64);
+    n += must_refuse(23, vvcc_still_record(s, most + 1, 1, 8, 16, 8, out, 64), out);
+    n += must_refuse(23, vvcc_still_stream(s, most + 1, worked, 2, 0, 0, out, 64), out);
+    n += must_refuse(23, vvcc_still_stream(worked, 2, s, most + 1, 0, 0, out, 64), out);
+    n += must_refuse(23, vvcc_access_unit(s, most + 1, worked, 2, 0, 0, scratch, 64, out, 64), out);
+    n += must_refuse(23, vvcc_access_unit(worked, 2, s, most + 1, 0, 0, scratch, 64, out, 64), out);
+    n += must_refuse(23, vvcc_still_stream(worked, sizeof worked, s + 1, most, 0, 0, out, 64), out);
+    n += must_refuse(20, vvcc_still_stream(worked, sizeof worked, s + 7, most - 6, 0, 0, out, 64), out);
+    n += must_refuse(6, vvcc_still_stream(small, sizeof small, s + 1, most, 0, 0, out, 64), out);
+    return n + check_long_walks(s, most);
+}

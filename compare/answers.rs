@@ -1,7 +1,7 @@
 //! The expected answer line of a case: the original's answer, and document 01's (`reading`) where the original has none.
 
 use crate::case::{hex_onto, Case};
-use crate::reading::{self, Refusal};
+use crate::reading::{self, Place, Refusal};
 use original::boxes::Reader;
 use original::error::HeifError;
 use original::hvcc::{split_annex_b, split_length_prefixed};
@@ -31,7 +31,7 @@ fn number(e: &HeifError) -> Refusal {
             panic!("{m}")
         };
     };
-    let table: [(&str, Refusal); 21] = [
+    let table: [(&str, Refusal); 20] = [
         ("truncated ", 1),
         ("num_bytes_constraint_info 0", 2),
         ("LengthSizeMinusOne 2", 3),
@@ -52,7 +52,6 @@ fn number(e: &HeifError) -> Refusal {
         ("carries no PTL and there is no VPS", 18),
         ("carries no NAL units", 19),
         ("item carries no", 19),
-        ("unsupported field width", 4),
     ];
     // 'VVC parameter set truncated' and 'truncated FIELD: need ..' are told apart by the words in front.
     let found = if m.starts_with("VVC parameter set truncated") {
@@ -207,18 +206,14 @@ fn with_list(c: &Case, at: usize) -> Result<(VvcConfig, [usize; 3]), Refusal> {
 }
 
 /// A field of `boxes`: its number and the place behind it.
-fn field(c: &Case, width: u64) -> Result<String, Refusal> {
-    if !(1..=4).contains(&width) {
-        return Err(4);
-    }
+fn field(c: &Case) -> Result<String, Refusal> {
     let at = c.number(0, 8) as usize;
     let mut r = Reader::new(&c.first);
     r.skip(at, "place").map_err(|e| number(&e))?;
-    let v = match (c.op, width) {
-        (3, _) => r.u8("field").map(u64::from),
-        (4, _) => r.u16("field").map(u64::from),
-        (5, _) => r.u32("field").map(u64::from),
-        _ => r.uint(width as usize, "field"),
+    let v = match c.op {
+        3 => r.u8("field").map(u64::from),
+        4 => r.u16("field").map(u64::from),
+        _ => r.u32("field").map(u64::from),
     };
     Ok(format!(" {} {}", v.map_err(|e| number(&e))?, r.position()))
 }
@@ -275,6 +270,67 @@ fn cropped(c: &Case) -> String {
     format!(" {w} {h}")
 }
 
+/// Where unit k lies: 1 or 2 for the first or the second input, start and length; 0 past the last.
+fn place(units: &[Place], k: u64) -> String {
+    let given = units.get(k as usize);
+    given.map_or(" 0".into(), |(which, start, len)| {
+        format!(" {which} {start} {len}")
+    })
+}
+
+/// Unit k of a list, of all or of a type: where it lies. The bytes there are those that the original gives.
+fn list_place(h: &VvcConfig, s: &[u8], t: Option<u8>, k: u64) -> String {
+    let wanted = |p: &(u8, Place)| t.map_or(true, |t| p.0 == t);
+    let all: Vec<Place> = reading::list_places(s)
+        .into_iter()
+        .filter(wanted)
+        .map(|p| p.1)
+        .collect();
+    let bytes: Vec<&[u8]> = all.iter().map(|p| &s[p.1..p.1 + p.2]).collect();
+    let theirs = t.map_or_else(|| h.nal_units().collect(), |t| h.nal_units_of_type(t));
+    assert_eq!(
+        bytes, theirs,
+        "the units of the list are not the original's"
+    );
+    place(&all, k)
+}
+
+/// The count and the units of an access unit: a number, the bytes of unit k, or where they lie.
+fn access_unit(c: &Case) -> Result<String, Refusal> {
+    let (h, _) = with_list(c, 11)?;
+    let tols = (c.byte(0) != 0).then(|| c.number(1, 2) as u16);
+    let stream = vvcc::access_unit_annex_b(&h, &c.second, tols).map_err(|e| number(&e))?;
+    let places = reading::access_unit(&h, &c.first, &c.second, tols);
+    let inputs = [&c.first, &c.second];
+    let units: Vec<&[u8]> = places
+        .iter()
+        .map(|p| &inputs[p.0 as usize - 1][p.1..p.1 + p.2])
+        .collect();
+    let joined: Vec<u8> = units
+        .iter()
+        .flat_map(|u| [&[0, 0, 0, 1], &u[..]].concat())
+        .collect();
+    assert_eq!(
+        stream, joined,
+        "the units of the access unit are not those of the original's stream"
+    );
+    let k = c.number(3, 8);
+    Ok(match c.op {
+        37 => format!(" {}", units.len()),
+        38 => part(&units, k),
+        _ => place(&places, k),
+    })
+}
+
+/// The PTL of a case's head with as many entries as its counts say.
+fn counted_ptl(c: &Case) -> VvcPtlRecord {
+    let (h, counts) = head_of(c, 0);
+    let mut p = h.native_ptl.expect("a head of a case has a PTL");
+    p.general_constraint_info.resize(counts[0], 0);
+    p.sublayer_level_idc.resize(counts[1], None);
+    p
+}
+
 fn part(units: &[&[u8]], k: u64) -> String {
     let mut s = String::new();
     put_bytes(&mut s, units.get(k as usize).copied().unwrap_or(&[]));
@@ -301,16 +357,20 @@ fn plain(c: &Case) -> Result<String, Refusal> {
     };
     Ok(match c.op {
         1 => return Err(u32::from(t)),
-        2 => field(c, c.number(8, 8))?,
-        3 => field(c, 1)?,
-        4 => field(c, 2)?,
-        5 => field(c, 4)?,
+        2 => {
+            let (h, _) = head_of(c, 0);
+            if h.bit_depth_minus8 > 247 {
+                return Err(22);
+            }
+            format!(" {}", h.bit_depth())
+        }
+        3..=5 => field(c)?,
         6 => header_part(vvcc::nal_unit_type(s)),
         7 => header_part(vvcc::nal_layer_id(s)),
         8 => header_part(vvcc::nal_temporal_id_plus1(s)),
         9 => flag(reading::check_unit(s)),
         10 => part(&[&vvcc::nal_header(t, c.byte(1), c.byte(2))], 0),
-        11 => format!(" {}", reading::unit_kind(t)),
+        11 => reading::unit_kind(t),
         12 => flag(vvcc::is_vcl(t)),
         13 => flag(vvcc::is_record_nal_type(t)),
         14 => format!(" {}", units(reading::list(s)?).nal_count()),
@@ -325,6 +385,13 @@ fn plain(c: &Case) -> Result<String, Refusal> {
             let all = h.nal_units_of_type(t);
             part(&all, k)
         }
+        40 => list_place(&units(reading::list(s)?), s, None, k),
+        41 => list_place(&units(reading::list(s)?), s, Some(t), k),
+        46 => {
+            let h = units(reading::list(s).unwrap_or_default());
+            part(&[h.sps().unwrap_or_default()], 0)
+        }
+        47 => list_place(&units(reading::list(s)?), s, Some(15), 0),
         21 => vvcc::read_opi_ols_idx(s).map_or(" 0".into(), |v| format!(" 1 {v}")),
         22 => cropped(c),
         23 => format!(
@@ -336,6 +403,13 @@ fn plain(c: &Case) -> Result<String, Refusal> {
         26 => part(&split_annex_b(s), k),
         27 => next_unit(s, k as usize),
         39 => next_item_unit(s, t, k as usize)?,
+        42 => {
+            let units = split_length_prefixed(s, t).map_err(|e| number(&e))?;
+            place(&reading::places(1, s, &units), k)
+        }
+        43 => place(&reading::places(1, s, &split_annex_b(s)), k),
+        48 => format!(" {}", counted_ptl(c).num_sublayers()),
+        49 => format!(" {}", counted_ptl(c).num_bytes_constraint_info()),
         34 => {
             let (h, _) = with_list(c, 0)?;
             if h.ptl_present_flag && h.bit_depth_minus8 > 247 {
@@ -344,36 +418,8 @@ fn plain(c: &Case) -> Result<String, Refusal> {
             let (chroma, depth) = h.sample_format().map_err(|e| number(&e))?;
             format!(" {chroma} {depth}")
         }
-        37 | 38 => {
-            let (h, _) = match with_list(c, 11) {
-                Err(_) if c.op == 38 => return Ok(" =".into()),
-                given => given?,
-            };
-            let tols = (t != 0).then(|| c.number(1, 2) as u16);
-            let made = vvcc::access_unit_annex_b(&h, &c.second, tols).map_err(|e| number(&e));
-            let Ok(stream) = made else {
-                return if c.op == 37 {
-                    Err(made.unwrap_err())
-                } else {
-                    Ok(" =".into())
-                };
-            };
-            let units = reading::access_unit(&h, &c.second, tols);
-            let joined: Vec<u8> = units
-                .iter()
-                .flat_map(|u| [&[0, 0, 0, 1], &u[..]].concat())
-                .collect();
-            assert_eq!(
-                stream, joined,
-                "the units of the access unit are not those of the original's stream"
-            );
-            let all: Vec<&[u8]> = units.iter().map(Vec::as_slice).collect();
-            if c.op == 37 {
-                format!(" {}", all.len())
-            } else {
-                part(&all, c.number(3, 8))
-            }
-        }
+        37 | 44 => access_unit(c)?,
+        38 => access_unit(c).unwrap_or(" =".into()),
         _ => unreachable!("{}", c.op),
     })
 }
@@ -439,7 +485,7 @@ fn writing(c: &Case) -> Result<(String, Vec<u8>), Refusal> {
 fn zeros(op: u8) -> String {
     let mut s = String::new();
     match op {
-        19 => put_sps(&mut s, None),
+        19 | 45 => put_sps(&mut s, None),
         20 => put_ptl(&mut s, None),
         32 | 35 => put_head(&mut s, None),
         _ => {}
@@ -468,12 +514,12 @@ pub fn answer(c: &Case) -> Answer {
             Err(e) => refused(e, out),
             Ok(fields) => told(fields, out),
         },
-        19 | 20 => {
+        19 | 20 | 45 => {
             let mut fields = String::new();
-            let r = if c.op == 19 {
-                SpsHead::parse_nal(&c.first).map(|h| put_sps(&mut fields, Some(&h)))
-            } else {
-                vvcc::vps_first_ptl(&c.first).map(|p| put_ptl(&mut fields, Some(&p)))
+            let r = match c.op {
+                19 => SpsHead::parse_nal(&c.first).map(|h| put_sps(&mut fields, Some(&h))),
+                45 => SpsHead::parse_rbsp(&c.first).map(|h| put_sps(&mut fields, Some(&h))),
+                _ => vvcc::vps_first_ptl(&c.first).map(|p| put_ptl(&mut fields, Some(&p))),
             };
             match r {
                 Ok(()) => told(fields, out),

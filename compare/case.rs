@@ -15,9 +15,9 @@ pub struct Case {
 const FRONT: usize = 18;
 
 /// The names of the calls by their numbers, from 1 on.
-pub const NAMES: [&str; 39] = [
+pub const NAMES: [&str; 49] = [
     "number",
-    "uint_at",
+    "VvcConfig::bit_depth",
     "u8_at",
     "u16_at",
     "u32_at",
@@ -55,6 +55,16 @@ pub const NAMES: [&str; 39] = [
     "access_unit_count",
     "access_unit_nal",
     "next_item_unit",
+    "nal_unit_at",
+    "nal_unit_of_type_at",
+    "split_length_prefixed_at",
+    "split_annex_b_at",
+    "access_unit_nal_at",
+    "SpsHead::parse_rbsp",
+    "VvcConfig::sps",
+    "VvcConfig::sps_at",
+    "VvcPtlRecord::num_sublayers",
+    "VvcPtlRecord::num_bytes_constraint_info",
 ];
 
 /// The digits of bytes, in lower case.

@@ -4,7 +4,6 @@ use crate::answers::{answer, head_of, line};
 use crate::case::{hex_onto, Case};
 use crate::longest;
 use crate::reading::{list, list_bytes, LARGEST};
-use original::boxes::Reader;
 use original::vvcc::{self, CompactVvcConfig, VvcConfig, VvcNalArray};
 use std::io::{BufRead, BufReader, Write};
 use std::process::{Command, Stdio};
@@ -80,22 +79,6 @@ fn entries() -> Vec<(&'static str, Case, String)> {
             "no such input: `arrays` is a vector".into(),
         ),
     );
-    let mut r = Reader::new(&[]);
-    let zero = r
-        .uint(0, "field")
-        .map(|v| v.to_string())
-        .unwrap_or_else(|e| e.to_string());
-    add("`uint_at`, width 0", (Case::new(2, vec![], vec![]), zero));
-    let mut r = Reader::new(&[1, 2, 3, 4, 5]);
-    let five = r
-        .uint(5, "field")
-        .map(|v| v.to_string())
-        .unwrap_or_else(|e| e.to_string());
-    let wide = [vec![0; 15], vec![5]].concat();
-    add(
-        "`uint_at`, width 5",
-        (Case::new(2, wide, vec![1, 2, 3, 4, 5]), five),
-    );
     for (what, changed) in [
         ("full writer, operating point 512", vec![(2, 2)]),
         ("full writer, 8 sublayers", vec![(4, 8)]),
@@ -150,9 +133,16 @@ fn entries() -> Vec<(&'static str, Case, String)> {
     }
     let c = Case::new(34, head(true, &[(7, 248)]), vec![1]);
     let (h, _) = head_of(&c, 0);
+    let panics = || "panics: the sum overflows".into();
     let format = std::panic::catch_unwind(|| h.sample_format().map_err(|e| e.to_string()));
-    let said = format.map_or("panics: the sum overflows".into(), |f| format!("{f:?}"));
+    let said = format.map_or_else(|_| panics(), |f| format!("{f:?}"));
     add("`sample_format`, depth minus 8 of 248", (c, said));
+    let depth = std::panic::catch_unwind(|| h.bit_depth());
+    let said = depth.map_or_else(|_| panics(), |d| d.to_string());
+    add(
+        "`bit_depth`, depth minus 8 of 248",
+        (Case::new(2, head(true, &[(7, 248)]), vec![]), said),
+    );
     let said = format!(
         "{:?}",
         CompactVvcConfig::new(false, 1, vec![]).strip_item_data(&[])

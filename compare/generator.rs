@@ -80,9 +80,6 @@ fn strings(alphabet: &[u8], longest: usize, f: &mut dyn FnMut(&[u8])) {
 pub fn short_strings(longest: usize, emit: Emit) {
     let all: Vec<u8> = (0..=255).collect();
     let plain: Vec<(u8, Vec<u8>)> = vec![
-        (2, [eight(0), eight(1)].concat()),
-        (2, [eight(0), eight(2)].concat()),
-        (2, [eight(1), eight(1)].concat()),
         (3, eight(0)),
         (3, eight(1)),
         (4, eight(0)),
@@ -114,6 +111,13 @@ pub fn short_strings(longest: usize, emit: Emit) {
         (39, size_and_k(1, 0)),
         (39, size_and_k(1, 1)),
         (39, size_and_k(2, 0)),
+        (40, vec![]),
+        (41, vec![]),
+        (42, size_and_k(1, 0)),
+        (43, vec![]),
+        (45, vec![]),
+        (46, vec![]),
+        (47, vec![]),
     ];
     let mut i = 0;
     for (op, numbers) in plain {
@@ -139,7 +143,7 @@ pub fn zero_strings(longest: usize, emit: Emit) {
     strings(&[0, 1, 2, 3], longest, &mut |s| {
         let n = original::hvcc::split_annex_b(s).len() as u64;
         let mut calls = vec![(18, vec![]), (25, vec![]), (9, vec![])];
-        calls.extend((0..=n).map(|k| (26, size_and_k(0, k))));
+        calls.extend((0..=n).flat_map(|k| [26, 43].map(|op| (op, size_and_k(0, k)))));
         let places = if n > 0 { s.len() as u64 } else { 1 };
         calls.extend((0..places).map(|p| (27, size_and_k(0, p))));
         for (op, numbers) in calls {
@@ -149,7 +153,12 @@ pub fn zero_strings(longest: usize, emit: Emit) {
     });
 }
 
-/// Calls on numbers alone: every refusal, every type, headers at their limits.
+/// A head of zeros with bytes at a place.
+fn head_with(at: usize, bytes: &[u8]) -> Vec<u8> {
+    [&vec![0; at], bytes].concat()
+}
+
+/// Calls on numbers alone: every refusal, every type, every depth, headers and counts at their limits.
 pub fn numbers(emit: Emit) {
     for n in 1..=24 {
         emit(Case::new(1, vec![n], vec![]));
@@ -158,11 +167,16 @@ pub fn numbers(emit: Emit) {
         for op in 11..=13 {
             emit(Case::new(op, vec![t], vec![]));
         }
+        emit(Case::new(2, head_with(7, &[t]), vec![]));
         for layer in [0, 1, 63, 64, 255] {
             for temporal in [0, 1, 7, 8, 255] {
                 emit(Case::new(10, vec![t, layer, temporal], vec![]));
             }
         }
+    }
+    for n in [0, 1, 2, 5, 6, 7, 8, 62, 63, 64, 254, 255, 256, 65535u16] {
+        emit(Case::new(48, head_with(21, &n.to_be_bytes()), vec![]));
+        emit(Case::new(49, head_with(19, &n.to_be_bytes()), vec![]));
     }
     let s: Vec<u8> = (0..12).map(|i| 0x11 * (i + 1)).collect();
     let places = [
@@ -181,9 +195,6 @@ pub fn numbers(emit: Emit) {
         u64::MAX,
     ];
     for at in places {
-        for width in [0, 1, 2, 3, 4, 5, 8, 9, 1 << 32, u64::MAX] {
-            emit(Case::new(2, [eight(at), eight(width)].concat(), s.clone()));
-        }
         for op in 3..=5 {
             emit(Case::new(op, eight(at), s.clone()));
         }
@@ -192,14 +203,19 @@ pub fn numbers(emit: Emit) {
             size_and_k(0, at),
             vec![0, 0, 1, 9, 0, 0, 1, 8],
         ));
-        emit(Case::new(
-            15,
-            size_and_k(0, at),
-            list_bytes(&[VvcNalArray::new(true, 3, vec![vec![5]; 9])]),
-        ));
-        emit(Case::new(24, size_and_k(1, at), [1, 9].repeat(9)));
-        emit(Case::new(39, size_and_k(1, at), [1, 9].repeat(9)));
-        emit(Case::new(26, size_and_k(0, at), [0, 0, 1, 9].repeat(9)));
+        for op in [15, 17, 40, 41] {
+            emit(Case::new(
+                op,
+                size_and_k(3, at),
+                list_bytes(&[VvcNalArray::new(true, 3, vec![vec![5]; 9])]),
+            ));
+        }
+        for op in [24, 39, 42] {
+            emit(Case::new(op, size_and_k(1, at), [1, 9].repeat(9)));
+        }
+        for op in [26, 43] {
+            emit(Case::new(op, size_and_k(0, at), [0, 0, 1, 9].repeat(9)));
+        }
     }
 }
 
@@ -269,6 +285,7 @@ pub fn large(emit: Emit) {
             }
             put(14, vec![], list.clone(), vec![]);
             put(15, size_and_k(0, n as u64 - 1), list.clone(), vec![]);
+            put(40, size_and_k(0, n as u64 - 1), list.clone(), vec![]);
             put(29, vec![0, 4], list.clone(), vec![]);
             put(
                 35,
@@ -296,12 +313,14 @@ pub fn large(emit: Emit) {
         }
         put(30, vec![1, 0], vec![0x55; n], vec![]);
         put(18, vec![], [0, 0, 3].repeat(n / 3), vec![]);
-        put(
-            26,
-            size_and_k(0, 1),
-            [vec![0, 0, 1, 7, 0, 0, 0, 1], vec![0x55; n]].concat(),
-            vec![],
-        );
+        for op in [26, 43] {
+            put(
+                op,
+                size_and_k(0, 1),
+                [vec![0, 0, 1, 7, 0, 0, 0, 1], vec![0x55; n]].concat(),
+                vec![],
+            );
+        }
     }
     let record = |units: usize, len: usize| -> Vec<u8> {
         let mut s = vec![0xfe, 1, 0x90];
@@ -330,6 +349,10 @@ pub fn fronts(r: &mut Rng, count: usize, emit: Emit) {
         whole.push((20, vec![], shapes::vps(r)));
         whole.push((21, vec![], shapes::opi(r)));
         whole.push((23, vec![size], shapes::item(r, size)));
+        whole.push((40, size_and_k(0, index(r)), shapes::list(r)));
+        whole.push((42, size_and_k(size, index(r)), shapes::item(r, size)));
+        whole.push((43, size_and_k(0, index(r)), shapes::stream(r)));
+        whole.push((45, vec![], payload(&shapes::sps(r))));
         whole.push((25, vec![], shapes::stream(r)));
         whole.push((28, vec![], shapes::compact(r)));
         whole.push((31, vec![0, size], shapes::still_item(r, size)));
@@ -337,6 +360,7 @@ pub fn fronts(r: &mut Rng, count: usize, emit: Emit) {
     }
     whole.push((19, vec![], shapes::longest_sps()));
     whole.push((20, vec![], shapes::longest_vps()));
+    whole.push((45, vec![], payload(&shapes::longest_sps())));
     for (op, numbers, s) in whole {
         for n in 0..=s.len().min(1500) {
             emit(with_room(
@@ -459,6 +483,11 @@ fn window(r: &mut Rng) -> Vec<u8> {
     out
 }
 
+/// The RBSP of a parameter set.
+pub fn payload(unit: &[u8]) -> Vec<u8> {
+    original::vvcc::extract_rbsp(&unit[2..])
+}
+
 fn parameter_set(r: &mut Rng, op: u8) -> Vec<u8> {
     let kind = if r.one_in(12) {
         r.pick(&[19, 20, 21])
@@ -475,24 +504,20 @@ fn parameter_set(r: &mut Rng, op: u8) -> Vec<u8> {
 
 /// Any call on an input of its shape.
 pub fn any(r: &mut Rng) -> Case {
-    const CALLS: [u8; 50] = [
+    const CALLS: [u8; 61] = [
         2, 6, 7, 8, 9, 14, 15, 16, 17, 18, 19, 19, 19, 20, 20, 21, 22, 23, 24, 25, 26, 27, 28, 28,
         28, 29, 29, 30, 31, 31, 32, 32, 32, 32, 33, 33, 33, 34, 34, 35, 35, 35, 36, 36, 36, 36, 37,
-        38, 39, 39,
+        38, 39, 39, 40, 41, 42, 43, 44, 44, 45, 46, 47, 48, 49,
     ];
     let op = r.pick(&CALLS);
     let mut second = Vec::new();
     let (numbers, first) = match op {
-        2 => {
-            let n = r.below(12);
-            let numbers = [eight(r.below(14) as u64), eight(r.below(6) as u64)].concat();
-            (numbers, r.bytes(n))
-        }
+        2 | 48 | 49 => (head(r), vec![]),
         6..=9 => {
             let u = shapes::unit(r);
             (vec![], shapes::maybe_damaged(r, u, 3))
         }
-        14..=17 => {
+        14..=17 | 40 | 41 | 46 | 47 => {
             let t = if r.one_in(2) {
                 r.pick(&[15, 16, 0, 12])
             } else {
@@ -505,8 +530,12 @@ pub fn any(r: &mut Rng) -> Case {
             (vec![], r.bytes(n))
         }
         19..=21 => (vec![], parameter_set(r, op)),
+        45 => {
+            let s = payload(&shapes::sps(r));
+            (vec![], shapes::maybe_damaged(r, s, 4))
+        }
         22 => (window(r), vec![]),
-        23 | 24 => {
+        23 | 24 | 42 => {
             let size = size(r);
             (size_and_k(size, index(r)), shapes::item(r, size))
         }
@@ -517,7 +546,7 @@ pub fn any(r: &mut Rng) -> Case {
             let k = if r.one_in(3) { 0 } else { unit };
             (size_and_k(size, k), s)
         }
-        25..=27 => {
+        25..=27 | 43 => {
             let s = shapes::stream(r);
             let k = if op == 27 && !s.is_empty() {
                 r.below(s.len() + 2) as u64

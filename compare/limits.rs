@@ -51,6 +51,7 @@ fn sizes(calls: &mut Calls) {
         for k in [0, 1, 3, 4, 5] {
             calls.push((39, size_and_k(size, k), vec![0, 0, 0, 1, 9], vec![]));
         }
+        calls.push((42, size_and_k(size, 0), vec![0, 0, 0, 1, 9], vec![]));
         calls.push((30, vec![0, size], vec![9], vec![]));
         calls.push((31, vec![0, size], vec![0, 0, 0, 3, 0, 0x41, 9], vec![]));
         calls.push((31, vec![1, size], vec![0, 0, 0, 3, 0, 0x41, 9], vec![]));
@@ -76,6 +77,7 @@ fn refused_sps(calls: &mut Calls) {
     ];
     for unit in refused {
         calls.push((19, vec![], unit.to_vec(), vec![]));
+        calls.push((45, vec![], unit[2..].to_vec(), vec![]));
         calls.push((34, vec![1], one(true, 15, &[unit.to_vec()]), vec![]));
         let numbers = vec![0, 4, 1, 8, 0, 0, 0, 16, 0, 0, 0, 8];
         calls.push((
@@ -99,8 +101,11 @@ fn expansion(calls: &mut Calls) {
     let other_vps = vec![0, 0x71, 0x10, 0, 0, 0x82, 0x53, 0, 0];
     for units in [[&p, &bare], [&bare, &p], [&other, &p], [&q, &p]] {
         let units = units.map(Clone::clone);
-        calls.push((34, vec![1], one(true, 15, &units), vec![]));
-        calls.push((34, vec![1], one(true, 16, &units), vec![]));
+        for t in [15, 16] {
+            calls.push((34, vec![1], one(true, t, &units), vec![]));
+            calls.push((46, vec![], one(true, t, &units), vec![]));
+            calls.push((47, vec![], one(true, t, &units), vec![]));
+        }
     }
     let groups: Vec<Vec<Vec<u8>>> = vec![
         vec![p.clone(), vec![], q.clone(), vec![5]],
@@ -163,6 +168,9 @@ fn heads(calls: &mut Calls) {
                 h[22] = 6;
                 h[at] = v;
                 h.extend((0..90).map(|i| i * 5));
+                for op in [2, 48, 49] {
+                    calls.push((op, h.clone(), vec![], vec![]));
+                }
                 calls.push((33, h.clone(), one(true, 16, &[vec![7]]), vec![]));
                 calls.push((34, h, one(true, 15, &[p.clone()]), vec![]));
             }
@@ -241,7 +249,16 @@ fn access_units(calls: &mut Calls) {
                 one(true, 12, &[vec![0, 0x61, 0xa0]]),
                 one(true, 15, &[p.clone(), vec![]]),
             ] {
-                for (op, k) in [(36, 0), (37, 0), (38, 0), (38, 1), (38, 3)] {
+                for (op, k) in [
+                    (36, 0),
+                    (37, 0),
+                    (38, 0),
+                    (38, 1),
+                    (38, 3),
+                    (44, 0),
+                    (44, 1),
+                    (44, 3),
+                ] {
                     let mut numbers = vec![given, 0, target, 0, 0, 0, 0, 0, 0, 0, k];
                     numbers.extend([1, ptl, 0, ols]);
                     calls.push((op, numbers, list.clone(), item.clone()));
@@ -270,6 +287,7 @@ fn streams(calls: &mut Calls) {
         calls.push((9, vec![], s[3..].to_vec(), vec![]));
         for k in 0..3 {
             calls.push((26, size_and_k(0, k), s.to_vec(), vec![]));
+            calls.push((43, size_and_k(0, k), s.to_vec(), vec![]));
             calls.push((27, size_and_k(0, 2 * k), s.to_vec(), vec![]));
         }
     }
@@ -285,7 +303,10 @@ fn ends(calls: &mut Calls) {
     // arrays too short, of type 31 and of 32; a full writer's array that does not fit, and another behind it
     let arrays: [&[u8]; 4] = [&[0], &[1, 0], &[2, 1, 31], &[2, 1, 32]];
     for array in arrays {
-        calls.push((14, vec![], [&[1, 0, 0, 0], array].concat(), vec![]));
+        let list = [&[1, 0, 0, 0], array].concat();
+        for op in [14, 40, 41, 47] {
+            calls.push((op, vec![], list.clone(), vec![]));
+        }
     }
     let two = [12, 16].map(|t| VvcNalArray::new(true, t, vec![]));
     calls.push((

@@ -3,6 +3,7 @@
 
 use crate::answers;
 use crate::case::Case;
+use crate::generator::payload;
 use crate::limits::{pps, sps};
 use crate::reading::LARGEST;
 
@@ -62,11 +63,14 @@ fn fronts(op: u8) -> Vec<Vec<u8>> {
         6..=9 | 19 => sps(),
         20 => vec![0, 0x71, 0, 0],
         21 => vec![0, 0x61, 0xc0],
-        14..=17 | 29 | 33..=38 => [&[1, 0, 0, 0, 9, 1, 16, 0, 0, 0, 3][..], &pps()].concat(),
-        23 | 24 | 31 | 39 => vec![0, 0, 0, 2, 0, 0x41],
-        25..=27 => vec![0, 0, 1, 0x41],
+        14..=17 | 29 | 33..=38 | 40 | 41 | 44 | 46 | 47 => {
+            [&[1, 0, 0, 0, 9, 1, 16, 0, 0, 0, 3][..], &pps()].concat()
+        }
+        23 | 24 | 31 | 39 | 42 => vec![0, 0, 0, 2, 0, 0x41],
+        25..=27 | 43 => vec![0, 0, 1, 0x41],
         28 => [&[0x60, 11][..], &sps(), &[3], &pps()].concat(),
         32 => vec![0xff, 1],
+        45 => payload(&sps()),
         _ => vec![1],
     };
     vec![vec![], sound]
@@ -75,26 +79,30 @@ fn fronts(op: u8) -> Vec<Vec<u8>> {
 /// The numbers of a call that would be accepted on a short input.
 fn numbers(op: u8) -> Vec<u8> {
     match op {
-        2 => [[0; 8], [0, 0, 0, 0, 0, 0, 0, 4]].concat(),
-        23 | 24 | 39 => vec![4],
+        23 | 24 | 39 | 42 => vec![4],
         29..=31 => vec![0, 4],
         33 | 34 => vec![4],
         35 => vec![0, 4, 1, 8],
-        36..=38 => [vec![0; 11], vec![4]].concat(),
+        36..=38 | 44 => [vec![0; 11], vec![4]].concat(),
         _ => vec![],
     }
 }
 
+/// The calls that take an input.
+fn calls() -> impl Iterator<Item = u8> {
+    (3..=9).chain(14..=21).chain(23..=47)
+}
+
 /// Every call that takes an input, with one that is too long; where it takes two, with either and both.
 fn too_long(emit: &mut dyn FnMut(Case)) {
-    for op in (2..=9).chain(14..=21).chain(23..=39) {
+    for op in calls() {
         for front in fronts(op) {
             let c = Case {
                 fill: 0xa5,
                 room: 3,
                 ..Case::new(op, numbers(op), long(&front, LARGEST + 1))
             };
-            if (36..=38).contains(&op) {
+            if matches!(op, 36..=38 | 44) {
                 emit(Case {
                     second: vec![0, 0, 0, 1, 9],
                     ..c.clone()
@@ -116,7 +124,7 @@ fn too_long(emit: &mut dyn FnMut(Case)) {
 
 /// The same calls with an input of exactly 2^30 bytes, which is not too long. What it is otherwise, the original says.
 fn largest(emit: &mut dyn FnMut(Case)) {
-    for op in (2..=9).chain(14..=21).chain(23..=39) {
+    for op in calls() {
         for front in fronts(op) {
             emit(Case {
                 fill: 0xa5,

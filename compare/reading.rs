@@ -1,5 +1,5 @@
 //! What the original does not have, read off document 01: the unit list, the unit check, the kinds of units, the full writer's
-//! limits, the units of an access unit one by one.
+//! limits, where units lie, the units of an access unit one by one.
 
 use original::hvcc::split_length_prefixed;
 use original::vvcc::{self, VvcConfig, VvcNalArray};
@@ -13,7 +13,7 @@ pub const LARGEST: usize = 1 << 30;
 /// What a call answers where an input is too long, before anything else: 23, or an empty part where a part is all that it hands back.
 pub fn too_long(op: u8) -> Result<String, Refusal> {
     match op {
-        15 | 17 | 24 | 26 | 38 => Ok(" =".into()),
+        15 | 17 | 24 | 26 | 38 | 46 => Ok(" =".into()),
         _ => Err(23),
     }
 }
@@ -53,6 +53,30 @@ pub fn list(s: &[u8]) -> Result<Vec<VvcNalArray>, Refusal> {
     Ok(arrays)
 }
 
+/// Where a unit lies: in the first or the second lent input, its start and its length.
+pub type Place = (u8, usize, usize);
+
+/// Where the units of a sound list lie, each with its array's type.
+pub fn list_places(s: &[u8]) -> Vec<(u8, Place)> {
+    let four = |at: usize| u32::from_be_bytes(s[at..at + 4].try_into().unwrap()) as usize;
+    let (mut out, mut at) = (Vec::new(), 1);
+    while at < s.len() {
+        let (end, kind) = (at + 4 + four(at), s[at + 5]);
+        at += 6;
+        while at < end {
+            out.push((kind, (1, at + 4, four(at))));
+            at += 4 + four(at);
+        }
+    }
+    out
+}
+
+/// Where parts of a lent input lie, which is the first or the second.
+pub fn places(which: u8, s: &[u8], parts: &[&[u8]]) -> Vec<Place> {
+    let start = |u: &[u8]| u.as_ptr() as usize - s.as_ptr() as usize;
+    parts.iter().map(|u| (which, start(u), u.len())).collect()
+}
+
 /// A unit list of arrays.
 pub fn list_bytes(arrays: &[VvcNalArray]) -> Vec<u8> {
     let mut out = vec![1];
@@ -73,19 +97,13 @@ pub fn check_unit(u: &[u8]) -> bool {
     !u.is_empty() && !u.windows(3).any(|w| w == [0, 0, 1]) && u[u.len() - 1] != 0
 }
 
-/// The kinds of units, numbered as `replay` does.
-pub fn unit_kind(t: u8) -> u64 {
+/// The kinds of units, numbered as `replay` does: picture data and record kinds with their type, AUD, others.
+pub fn unit_kind(t: u8) -> String {
     match t {
-        0..=11 => 0,
-        12 => 1,
-        13 => 2,
-        14 => 3,
-        15 => 4,
-        16 => 5,
-        17 => 6,
-        23 => 7,
-        20 => 8,
-        _ => 9,
+        0..=11 => format!(" 0 {t}"),
+        12..=17 | 23 => format!(" 1 {t}"),
+        20 => " 2".into(),
+        _ => " 3".into(),
     }
 }
 
@@ -118,9 +136,9 @@ pub fn full_writer(h: &VvcConfig, counts: [usize; 3]) -> Result<(), Refusal> {
     Ok(())
 }
 
-/// The units of an access unit that is accepted: leading AUD and OPI units of the item, the list's, the rest of the item's; an OPI
+/// Where the units of an access unit that is accepted lie: leading AUD and OPI units of the item, the list's, the rest of the item's; an OPI
 /// of the item is dropped where a target exists and its operating point reads and differs.
-pub fn access_unit(h: &VvcConfig, item: &[u8], tols: Option<u16>) -> Vec<Vec<u8>> {
+pub fn access_unit(h: &VvcConfig, list: &[u8], item: &[u8], tols: Option<u16>) -> Vec<Place> {
     let target = match tols {
         Some(t) => Some(u32::from(t)),
         None if h.ptl_present_flag => Some(u32::from(h.ols_idx)),
@@ -132,16 +150,19 @@ pub fn access_unit(h: &VvcConfig, item: &[u8], tols: Option<u16>) -> Vec<Vec<u8>
         .iter()
         .take_while(|u| matches!(kind(u), Some(12) | Some(20)))
         .count();
-    let kept = |u: &&&[u8]| {
+    let kept = |u: &&[u8]| {
         kind(u) != Some(12)
             || match (target, vvcc::read_opi_ols_idx(u)) {
                 (Some(t), Some(o)) => t == o,
                 _ => true,
             }
     };
-    let mut out: Vec<Vec<u8>> = Vec::new();
-    out.extend(units[..leading].iter().filter(kept).map(|u| u.to_vec()));
-    out.extend(h.arrays.iter().flat_map(|a| a.nal_units.iter().cloned()));
-    out.extend(units[leading..].iter().filter(kept).map(|u| u.to_vec()));
+    let of_item = |units: &[&[u8]]| {
+        let units: Vec<&[u8]> = units.iter().copied().filter(kept).collect();
+        places(2, item, &units)
+    };
+    let mut out = of_item(&units[..leading]);
+    out.extend(list_places(list).into_iter().map(|p| p.1));
+    out.extend(of_item(&units[leading..]));
     out
 }

@@ -51,9 +51,10 @@ struct List {
     reached: Vec<bool>,
 }
 
-/// The room of a case against its result: none, too short, exact, longer.
-fn room(c: &Case, result: Option<usize>) -> usize {
-    match result {
+/// The room of a case against its result: none, too short, exact, longer; and no result nor unit.
+fn room(c: &Case, a: &answers::Answer) -> usize {
+    match a.result {
+        None if a.fields == " 0" => 4,
         None => 0,
         Some(n) if c.room < n => 1,
         Some(n) if c.room == n => 2,
@@ -76,7 +77,7 @@ impl List {
         let new = now.iter().zip(&self.reached).any(|(n, r)| *n > 0 && !r);
         let kind = self
             .kinds
-            .entry((c.op, a.refusal, room(&c, a.result)))
+            .entry((c.op, a.refusal, room(&c, &a)))
             .or_default();
         if (new && c.size() < 4000) || (*kind < of_a_kind && c.size() < SHORT) {
             *kind += 1;
@@ -100,7 +101,11 @@ pub fn write(folder: &str, seed: u64) -> bool {
     list.program_lines();
     generator::worked(&mut |c| list.take(&c, &answers::answer(&c)));
     limits::limits(&mut |c| list.take(&c, &answers::answer(&c)));
-    for (op, unit) in [(19, shapes::longest_sps()), (20, shapes::longest_vps())] {
+    for (op, unit) in [
+        (19, shapes::longest_sps()),
+        (20, shapes::longest_vps()),
+        (45, generator::payload(&shapes::longest_sps())),
+    ] {
         let c = Case::new(op, vec![], [unit, vec![0xff; 60]].concat());
         list.take(&c, &answers::answer(&c));
     }
@@ -166,7 +171,7 @@ impl List {
             (&long.line(), "case too long\n"),
             (&together.line(), "case too long\n"),
             (&beyond, "case too long\n"),
-            (&none(40).line(), "40 no such call =abab\n"),
+            (&none(50).line(), "50 no such call =abab\n"),
             (&none(0).line(), "0 no such call =abab\n"),
             (&odd, "6 0 1 0 =\n"),
         ] {

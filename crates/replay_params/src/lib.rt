@@ -4,6 +4,7 @@ use params::ParamsAnswer;
 use replay_text::shown;
 use replay_text::text;
 use sps::SpsHead;
+use sps::SpsRead;
 
 // Whether a parameter set was read.
 fn put_answer(out: &mut [u8], at: usize, r: ParamsAnswer) -> usize {
@@ -13,9 +14,8 @@ fn put_answer(out: &mut [u8], at: usize, r: ParamsAnswer) -> usize {
     }
 }
 
-// `SpsHead::parse_nal`: the answer, and the head whatever it is.
-fn sps(s: &[u8], out: &mut [u8], at: usize) -> usize {
-    let r = SpsHead::parse_nal(s);
+// `SpsHead::parse_nal`, `SpsHead::parse_rbsp`: the answer, and the head whatever it is.
+fn put_sps(out: &mut [u8], at: usize, r: SpsRead) -> usize {
     let answer = r.answer;
     let head = r.head;
     let next = put_answer(out, at, answer);
@@ -62,9 +62,10 @@ pub fn answer(
 ) -> usize {
     match op {
         18 => shown::written(out, at, rbsp::extract_rbsp(s, lent)),
-        19 => sps(s, out, at),
+        19 => put_sps(out, at, SpsHead::parse_nal(s)),
         20 => vps(s, out, at),
         21 => opi(s, out, at),
-        _ => cropped(numbers, fill, out, at),
+        22 => cropped(numbers, fill, out, at),
+        _ => put_sps(out, at, SpsHead::parse_rbsp(s)),
     }
 }

@@ -1,4 +1,4 @@
-// For the crates further down: the calls of `access_unit`.
+// For the crates further down: the calls of `access_unit`, `access_unit_annex_b` and `access_unit_nal`.
 use access_unit::Target;
 use full::VvcConfig;
 use replay_text::fields;
@@ -45,6 +45,23 @@ fn unit<'a>(
     )
 }
 
+// `access_unit_nal_at`
+fn unit_at(
+    head: VvcConfig,
+    list: &[u8],
+    item: &[u8],
+    tols: Target,
+    k: usize,
+    text: &mut [u8],
+    at: usize,
+) -> usize {
+    shown::place(
+        text,
+        at,
+        access_unit_nal::access_unit_nal_at(head, list, item, tols, k),
+    )
+}
+
 // The calls by their numbers: target, k and head are among the numbers of the case.
 pub fn answer<'a>(
     op: u8,
@@ -66,6 +83,7 @@ pub fn answer<'a>(
             access_unit_annex_b::access_unit_annex_b(head, list, item, tols, lent),
         ),
         37 => count(head, list, item, tols, text, at),
-        _ => unit(head, list, item, tols, k, text, at),
+        38 => unit(head, list, item, tols, k, text, at),
+        _ => unit_at(head, list, item, tols, k, text, at),
     }
 }

@@ -1,6 +1,9 @@
-// For the crates further down: the calls of `full_read`, `full_write` and `sample_format`.
+// For the crates further down: the calls of `ptl`, `full`, `full_read`, `full_write` and `sample_format`.
 use boxes::place;
+use full::BitDepth;
+use full::VvcConfig;
 use full_read::FullAnswer;
+use ptl::VvcPtlRecord;
 use replay_text::shown;
 use sample_format::SampleFormat;
 
@@ -31,6 +34,22 @@ fn format(out: &mut [u8], at: usize, r: SampleFormat) -> usize {
     }
 }
 
+// `VvcConfig::bit_depth`
+fn depth(out: &mut [u8], at: usize, r: BitDepth) -> usize {
+    match r {
+        BitDepth::Bits(n) => shown::number(out, at, place::wide(n)),
+        BitDepth::Refused(e) => shown::refused(out, at, e),
+    }
+}
+
+// `VvcPtlRecord::num_sublayers` and `VvcPtlRecord::num_bytes_constraint_info`
+fn ptl_number(op: u8, p: VvcPtlRecord, out: &mut [u8], at: usize) -> usize {
+    if op == 48 {
+        return shown::number(out, at, place::wide(VvcPtlRecord::num_sublayers(p)));
+    }
+    shown::number(out, at, VvcPtlRecord::num_bytes_constraint_info(p))
+}
+
 // The calls by their numbers.
 pub fn answer(
     op: u8,
@@ -43,8 +62,12 @@ pub fn answer(
 ) -> usize {
     let head = replay_heads::full_head(numbers, 0, fill);
     match op {
+        2 => depth(out, at, VvcConfig::bit_depth(head)),
         32 => parse(s, lent, out, at),
         33 => shown::written(out, at, full_write::serialize(head, s, lent)),
-        _ => format(out, at, sample_format::sample_format(head, s)),
+        34 => format(out, at, sample_format::sample_format(head, s)),
+        46 => shown::part(out, at, VvcConfig::sps(s)),
+        47 => shown::place(out, at, VvcConfig::sps_at(s)),
+        _ => ptl_number(op, head.native_ptl, out, at),
     }
 }

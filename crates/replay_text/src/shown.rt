@@ -2,6 +2,7 @@
 use crate::text;
 use boxes::Field;
 use boxes::Span;
+use boxes::UnitPlace;
 use error::Counted;
 use error::Refusal;
 use error::Written;
@@ -65,9 +66,24 @@ pub fn part(out: &mut [u8], at: usize, bytes: &[u8]) -> usize {
     text::put_bytes(out, next, bytes)
 }
 
+// The number of an input, and where a unit lies in it.
+fn lying(out: &mut [u8], at: usize, which: usize, a: Span) -> usize {
+    let next = pair(out, at, which, a.start);
+    text::put_number(out, next, a.len as u64)
+}
+
 // Where a unit lies, and the place behind it.
 pub fn span(out: &mut [u8], at: usize, a: Span, behind: usize) -> usize {
-    let next = pair(out, at, 1, a.start);
-    let last = text::put_number(out, next, a.len as u64);
-    text::put_number(out, last, behind as u64)
+    let next = lying(out, at, 1, a);
+    text::put_number(out, next, behind as u64)
+}
+
+// Where unit k lies: 1 or 2 for the first or the second input, start and length; 0 past the last.
+pub fn place(out: &mut [u8], at: usize, r: UnitPlace) -> usize {
+    match r {
+        UnitPlace::First(a) => lying(out, at, 1, a),
+        UnitPlace::Second(a) => lying(out, at, 2, a),
+        UnitPlace::Past => number(out, at, 0),
+        UnitPlace::Refused(e) => refused(out, at, e),
+    }
 }

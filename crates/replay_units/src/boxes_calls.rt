@@ -49,12 +49,11 @@ fn number(numbers: &[u8], text: &mut [u8], at: usize) -> usize {
     shown::refused(text, at, high_refusal(n))
 }
 
-// `uint_at`, `u8_at`, `u16_at`, `u32_at`
+// The calls by their numbers.
 pub fn answer(op: u8, numbers: &[u8], s: &[u8], text: &mut [u8], at: usize) -> usize {
     let from = fields::eight(numbers, 0);
     match op {
         1 => number(numbers, text, at),
-        2 => shown::field(text, at, boxes::uint_at(s, from, fields::eight(numbers, 8))),
         3 => shown::field(text, at, boxes::u8_at(s, from)),
         4 => shown::field(text, at, boxes::u16_at(s, from)),
         _ => shown::field(text, at, boxes::u32_at(s, from)),

@@ -24,19 +24,13 @@ fn put_check(out: &mut [u8], at: usize, r: UnitCheck) -> usize {
     }
 }
 
-// `unit_kind`: the kinds numbered from 0 in their order in `nal`.
-fn kind_number(kind: UnitKind) -> usize {
+// `unit_kind`: the kinds numbered from 0 in their order in `nal`, and the type where a kind has one.
+fn put_kind(out: &mut [u8], at: usize, kind: UnitKind) -> usize {
     match kind {
-        UnitKind::PictureData => 0,
-        UnitKind::Opi => 1,
-        UnitKind::Dci => 2,
-        UnitKind::Vps => 3,
-        UnitKind::Sps => 4,
-        UnitKind::Pps => 5,
-        UnitKind::PrefixAps => 6,
-        UnitKind::PrefixSei => 7,
-        UnitKind::Aud => 8,
-        UnitKind::Other => 9,
+        UnitKind::PictureData(t) => shown::pair(out, at, 0, place::wide(t)),
+        UnitKind::Record(t) => shown::pair(out, at, 1, place::wide(t)),
+        UnitKind::Aud => shown::number(out, at, 2),
+        UnitKind::Other => shown::number(out, at, 3),
     }
 }
 
@@ -59,7 +53,7 @@ pub fn answer(op: u8, numbers: &[u8], s: &[u8], out: &mut [u8], at: usize) -> us
         8 => put_field(out, at, nal::nal_temporal_id_plus1(s)),
         9 => put_check(out, at, nal::check_unit(s)),
         10 => put_header(numbers, out, at),
-        11 => shown::number(out, at, kind_number(nal::unit_kind(t))),
+        11 => put_kind(out, at, nal::unit_kind(t)),
         12 => shown::flag(out, at, nal::is_vcl(t)),
         _ => shown::flag(out, at, nal::is_record_nal_type(t)),
     }

@@ -23,6 +23,8 @@ pub fn answer(op: u8, numbers: &[u8], s: &[u8], text: &mut [u8], at: usize) -> u
         25 => shown::counted(text, at, split::split_annex_b_count(s)),
         26 => shown::part(text, at, split::split_annex_b(s, k)),
         27 => next(split::next_unit(s, k), text, at),
-        _ => next(split::next_item_unit(s, size, k), text, at),
+        39 => next(split::next_item_unit(s, size, k), text, at),
+        42 => shown::place(text, at, split::split_length_prefixed_at(s, size, k)),
+        _ => shown::place(text, at, split::split_annex_b_at(s, k)),
     }
 }

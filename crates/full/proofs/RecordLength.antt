@@ -1,12 +1,12 @@
 -- How long a record is that was written from a list: a lent input may be so long.
-use Prim.Native.Nat.{ℕ, zero, suc, _+_, _-_, _*_, _^_, _≤_}
+use Prim.Native.Nat.{ℕ, suc, _+_, _-_, _*_, _^_, _≤_}
 use native.Mathlib.Omega.{arith}
 use native.Mathlib.Decide.{decLe}
 use mathlib.Core.Path.{_≡_, refl, _∙_}
 use mathlib.Core.Bool.{Bool, true, false}
 use mathlib.Core.List.{List, [], _∷_, _++_}
-use lib.Dec.{ltb, leb}
-use lib.ListN.{length, getD, length-append}
+use lib.Dec.{leb}
+use lib.ListN.{length, length-append}
 use borrow.Author.Tests.{leb-true}
 use Rattle.error.specs.Logic.{if_then_else_}
 use Rattle.boxes.specs.Bytes.{toBe, toChunk}
@@ -16,31 +16,13 @@ use Rattle.unit_list.specs.UnitList.{Array, unitsOf, encodeUnits, encodeArray, 
 use Rattle.unit_list.proofs.Encode.{length-toChunk}
 use Rattle.record_arrays.specs.Read.{holdsOne}
 use Rattle.record_arrays.specs.Write.{arrayBytes, arraysBytes, unitsFit, arrayFits, arraysFit}
-use Rattle.ptl.specs.declared.VvcPtlRecord.{VvcPtlRecord}
-use Rattle.ptl_record.specs.Write.{hasLevel, flagByte, levelBytes, levelPart}
-use Rattle.ptl_record.proofs.Writing.{info-long, fitting, length-front, length-ptl}
+use Rattle.ptl_record.proofs.Writing.{info-long, part-few, fitting, length-front, length-ptl}
 use Rattle.full.specs.Write.{ptlPart, headBytes, ptlPartFits, headFits, fullBytes, recordFits}
 use Rattle.full.specs.RoundTrip.{Typed}
 use Rattle.full.specs.declared.VvcConfig.{VvcConfig}
 use Rattle.full.proofs.HeadRoundTrip.{small, length-part}
 
 -- ### the head
-
-levels-few : (p : VvcPtlRecord) (m : ℕ) → length (levelBytes p m) ≤ m
-unfolding levelBytes
-levels-few p zero = omega arith
-levels-few p (suc m) = go (levels-few p m) (hasLevel p m)
-  where
-    go : length (levelBytes p m) ≤ m → (b : Bool) → length (if b then getD (p .«sublayer_level_idc») m 0 ∷ levelBytes p m else levelBytes p m) ≤ suc m
-    go h true = omega arith
-    go h false = omega arith
-
-level-part : (p : VvcPtlRecord) (sublayers : ℕ) → sublayers ≤ 7 → length (levelPart p sublayers) ≤ 7
-level-part p sublayers h = go (ltb 1 sublayers)
-  where
-    go : (b : Bool) → length (if b then flagByte p (sublayers - 1) ∷ levelBytes p (sublayers - 1) else []) ≤ 7
-    go true = omega (arith, levels-few p (sublayers - 1))
-    go false = omega arith
 
 -- the longest head has 63 constraint bytes, six levels and 255 sub-profiles
 head-short : (h : VvcConfig) → Typed h → headFits h ≡ true → length (headBytes h) ≤ 1104
@@ -57,7 +39,7 @@ head-short h t e =
         let p = h .«native_ptl» in
         let g = fitting p (s .ptl) in
         let l = length-ptl p (h .«num_sublayers») (rw (t .subs) (g .subs)) in
-        omega (arith, length-part h, length-front p, info-long p (t .info) (g .info), level-part p (h .«num_sublayers») (s .sublayers))
+        omega (arith, length-part h, length-front p, info-long p (t .info) (g .info), part-few p (h .«num_sublayers») (s .sublayers))
 
 -- ### the arrays
 

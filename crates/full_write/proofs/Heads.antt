@@ -48,10 +48,6 @@ module _ (h : VvcConfig) where
   abbrev Z : List ℕ
   Z = toBe 2 (h .«avg_frame_rate»)
 
-  pub length-part : length (ptlPart h) ≡ 9 + length P
-  unfolding ptlPart
-  length-part = simp (length-append, length-toBe) (omega arith)
-
   -- the parts under the flag, stored one behind the other
   pub part-stored : (d : List ℕ) (at behind : ℕ) → behind ≡ at + 3 + length P
       → sets (sets (set (sets d at W) (at + 2) (h .«bit_depth_minus8» * 32 + 31)) (at + 3) P) behind ((X ++ Y) ++ Z) ≡ sets d at (ptlPart h)

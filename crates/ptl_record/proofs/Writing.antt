@@ -1,20 +1,19 @@
 -- Laws of the bytes of a PTL record: their parts one by one, and their lengths.
-use Prim.Native.Nat.{ℕ, suc, _+_, _*_, _%_, _≤_, _<_}
+use Prim.Native.Nat.{ℕ, zero, suc, _+_, _-_, _*_, _%_, _≤_, _<_}
 use mathlib.Core.Path.{_≡_, refl}
 use mathlib.Core.Bool.{Bool, true, false, _&&_}
 use mathlib.Core.List.{List, [], _∷_, _++_}
 use native.Mathlib.Omega.{arith}
 use native.Mathlib.Decide.{decLe}
-use lib.Dec.{leb}
+use lib.Dec.{leb, ltb}
 use lib.ListN.{length, getD, set, take, length-append}
 use lib.Seq.{sets, length-take-le}
 use borrow.Author.Tests.{leb-true, eq-eqb, ne-eqb}
 use Rattle.error.specs.Logic.{if_then_else_}
-use Rattle.boxes.specs.Bytes.{toBe}
 use Rattle.boxes.proofs.Numbers.{length-toBe}
 use Rattle.boxes.proofs.Sets.{sets-append}
 use Rattle.ptl.specs.declared.VvcPtlRecord.{VvcPtlRecord}
-use Rattle.ptl_record.specs.Write.{bit, constraintInfo, withFlags, hasLevel, levelBytes, levelPart, subProfiles, ptlBytes, ptlFits}
+use Rattle.ptl_record.specs.Write.{bit, constraintInfo, withFlags, hasLevel, flagByte, levelBytes, levelPart, subProfiles, ptlBytes, ptlFits}
 use Rattle.ptl_record.specs.Places.{oneLevel, frontBytes}
 
 -- one run behind another, its place given
@@ -63,6 +62,24 @@ levels-split p j = go (hasLevel p j)
     go : (b : Bool) → (if b then getD (p .«sublayer_level_idc») j 0 ∷ levelBytes p j else levelBytes p j) ≡ oneLevel b (getD (p .«sublayer_level_idc») j 0) ++ levelBytes p j
     go true = refl
     go false = refl
+
+-- no more bytes than levels
+levels-few : (p : VvcPtlRecord) (m : ℕ) → length (levelBytes p m) ≤ m
+unfolding levelBytes
+levels-few p zero = omega arith
+levels-few p (suc m) = go (levels-few p m) (hasLevel p m)
+  where
+    go : length (levelBytes p m) ≤ m → (b : Bool) → length (if b then getD (p .«sublayer_level_idc») m 0 ∷ levelBytes p m else levelBytes p m) ≤ suc m
+    go h true = omega arith
+    go h false = omega arith
+
+-- the flag byte and the levels of up to seven sublayers
+pub part-few : (p : VvcPtlRecord) (sublayers : ℕ) → sublayers ≤ 7 → length (levelPart p sublayers) ≤ 7
+part-few p sublayers h = go (ltb 1 sublayers)
+  where
+    go : (b : Bool) → length (if b then flagByte p (sublayers - 1) ∷ levelBytes p (sublayers - 1) else []) ≤ 7
+    go true = omega (arith, levels-few p (sublayers - 1))
+    go false = omega arith
 
 -- ---- a record that fits
 

@@ -1,31 +1,25 @@
 -- Laws of the bytes of a PTL record as they are stored: one part behind the other, and in the parts one element behind the other.
-use Prim.Native.Nat.{ℕ, zero, suc, _+_, _-_, _*_, _/_, _≤_, _<_}
+use Prim.Native.Nat.{ℕ, suc, _+_, _-_, _*_, _/_, _≤_, _<_}
 use mathlib.Core.Path.{_≡_, refl, sym, ap, _∙_}
-use mathlib.Core.Bool.{Bool, true, false}
 use mathlib.Core.List.{List, [], _∷_, _++_, append-assoc, append-nil}
 use native.Mathlib.Numerals.{add-one}
 use native.Mathlib.Omega.{arith}
 use native.Mathlib.Decide.{decLe}
-use lib.Dec.{ltb}
 use lib.ListN.{length, getD, set, take, length-append}
 use lib.Seq.{sets, take-suc, length-take-le, take-set-lt}
 use borrow.Author.Tests.{eq-eqb, ne-eqb}
-use Rattle.error.specs.Logic.{if_then_else_}
 use Rattle.boxes.specs.Bytes.{toBe}
 use Rattle.boxes.proofs.Sets.{sets-append}
 use Rattle.ptl.specs.declared.VvcPtlRecord.{VvcPtlRecord}
 use Rattle.ptl_record.specs.Write.{bit, constraintInfo, withFlags, hasLevel, flagByte, levelBytes, levelPart, subProfiles, ptlBytes}
 use Rattle.ptl_record.specs.Places.{oneLevel, frontBytes}
 use Rattle.ptl_record.proofs.Writing.{sets-then, flagged, with-first, length-subs, levels-split}
-use Rattle.ptl_record.proofs.Standing.{bit-le, length-one}
+use Rattle.ptl_record.proofs.Standing.{length-one}
 use Rattle.ptl_record_write.specs.Places.{firstByte}
 
 -- ---- the constraint bytes
 
 module _ (p : VvcPtlRecord) where
-  pub info-none : p .«num_bytes_constraint_info» ≡ 0 → constraintInfo p ≡ 0 ∷ []
-  info-none e = rw (eq-eqb _ 0 e)
-
   pub info-some : (p .«num_bytes_constraint_info» ≡ 0 → ⊥) → constraintInfo p ≡ take (p .«num_bytes_constraint_info») (p .«general_constraint_info»)
   info-some n = rw (ne-eqb _ 0 n)
 
@@ -89,19 +83,6 @@ module _ (p : VvcPtlRecord) (j : ℕ) where
 
   pub levels-counted : length (levelBytes p (j + 1)) ≡ length (levelBytes p j) + bit (hasLevel p j)
   levels-counted = rw (add-one j) (omega (arith, levels-longer, length-one p (hasLevel p j) (getD (p .«sublayer_level_idc») j 0)))
-
-module _ (p : VvcPtlRecord) where
-  levels-few : (m : ℕ) → length (levelBytes p m) ≤ m
-  unfolding levelBytes
-  levels-few zero = omega arith
-  levels-few (suc m) = omega (arith, levels-longer p m, length-one p (hasLevel p m) (getD (p .«sublayer_level_idc») m 0), bit-le (hasLevel p m), levels-few m)
-
-  pub part-few : (sublayers : ℕ) → sublayers ≤ 7 → length (levelPart p sublayers) ≤ 7
-  part-few sublayers h = go (ltb 1 sublayers)
-    where
-      go : (b : Bool) → length (if b then flagByte p (sublayers - 1) ∷ levelBytes p (sublayers - 1) else []) ≤ 7
-      go true = omega (arith, levels-few (sublayers - 1))
-      go false = omega arith
 
 -- ---- the whole record
 

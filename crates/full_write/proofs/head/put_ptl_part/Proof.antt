@@ -2,7 +2,8 @@
 use native.Mathlib.Omega.{arith}
 use borrow.Author.Needs.{needs}
 use Rattle.full.proofs.HeadRoundTrip.{small}
-use Rattle.full_write.proofs.Heads.{length-part, part-stored}
+use Rattle.full.proofs.HeadRoundTrip.{length-part}
+use Rattle.full_write.proofs.Heads.{part-stored}
 use Rattle.full_write.proofs.head.put_ptl_part.Statement.{statement}
 use Rattle.full_write.proofs.head.put_ptl_part.Tie as tie
 

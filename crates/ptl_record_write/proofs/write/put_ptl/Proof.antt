@@ -1,6 +1,7 @@
 -- The parts of the record, stored one behind the other.
 use Rattle.ptl_record.proofs.Writing.{fitting, length-ptl}
-use Rattle.ptl_record_write.proofs.Stores.{part-few, ptl-stored}
+use Rattle.ptl_record.proofs.Writing.{part-few}
+use Rattle.ptl_record_write.proofs.Stores.{ptl-stored}
 use Rattle.ptl_record.specs.Write.{levelPart, ptlBytes}
 use Rattle.ptl_record.specs.Places.{frontBytes}
 use Prim.Native.Nat.{_+_, _*_, _≤_}

@@ -300,6 +300,12 @@ fn ends(calls: &mut Calls) {
             calls.push((op, vec![], vec![0x25, 0xfb, 0x9d][..n].to_vec(), vec![]));
         }
     }
+    // lists without a version byte and of another version, for every call that takes one
+    for op in [14, 16, 29, 33, 34, 35, 36, 37, 40, 41, 44, 46, 47] {
+        for list in [vec![], vec![2]] {
+            calls.push((op, vec![0, 4], list, vec![]));
+        }
+    }
     // arrays too short, of type 31 and of 32; a full writer's array that does not fit, and another behind it
     let arrays: [&[u8]; 4] = [&[0], &[1, 0], &[2, 1, 31], &[2, 1, 32]];
     for array in arrays {
@@ -315,8 +321,17 @@ fn ends(calls: &mut Calls) {
         list_bytes(&two),
         vec![],
     ));
-    // items of one unit that is a still, and that is too short or has another layer, type or temporal id
-    let units: [&[u8]; 5] = [&[0], &[0, 0x41], &[1, 0x41], &[0, 0x49], &[0, 0x42]];
+    // items of one unit that is a still, and that is too short or has another layer, temporal id or type, of each kind
+    let units: [&[u8]; 8] = [
+        &[0],
+        &[0, 0x41],
+        &[1, 0x41],
+        &[0, 0x42],
+        &[0, 0x49],
+        &[0, 0x79],
+        &[0, 0xa1],
+        &[0, 0xf9],
+    ];
     for unit in units {
         let item = [&[unit.len() as u8], unit].concat();
         calls.push((31, vec![0, 1], item, vec![]));

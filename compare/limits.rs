@@ -167,7 +167,7 @@ fn heads(calls: &mut Calls) {
                 h[20] = 1;
                 h[22] = 6;
                 h[at] = v;
-                h.extend((0..90).map(|i| i * 5));
+                h.extend((0..90u8).map(|i| i.wrapping_mul(5)));
                 for op in [2, 48, 49] {
                     calls.push((op, h.clone(), vec![], vec![]));
                 }

@@ -1,7 +1,7 @@
 -- Laws of the target, of the units that it drops, and of those that may lead, by cases as the code tests them.
 use Prim.Native.Nat.{ℕ, _+_, _^_, _≤_}
 use mathlib.Core.Path.{_≡_, refl, sym, ap, _∙_}
-use mathlib.Core.Bool.{true, false}
+use mathlib.Core.Bool.{Bool, true, false, _||_}
 use mathlib.Core.List.{List}
 use mathlib.Core.Option.{Option, none, some}
 use native.Mathlib.Omega.{arith}
@@ -12,7 +12,7 @@ use Rattle.error.specs.declared.Refusal.{Refusal}
 use Rattle.boxes.specs.Parts.{held}
 use Rattle.boxes.specs.declared.Span.{Span}
 use Rattle.boxes.proofs.Lent.{lent-within}
-use Rattle.nal.specs.Kinds.{kindOf, isRecordOf}
+use Rattle.nal.specs.Kinds.{kindOf, isAud, isRecordOf}
 use Rattle.nal.specs.declared.UnitKind.{UnitKind}
 use Rattle.unit_list.proofs.Accepted.{held-long}
 use Rattle.opi.specs.Opi.{opiOlsIdx}
@@ -44,6 +44,13 @@ unit-within item u a e inside lent = let l = ap length e ∙ held-long item a in
 pub leads : (u : List ℕ) (k : UnitKind) → k ≡ kindOf u → mayLead u ≡ leadingKind k
 unfolding mayLead
 leads u k e = rw e
+
+pub leads-opi : (u : List ℕ) (k : UnitKind) → k ≡ kindOf u → isRecordOf 12 k ≡ true → mayLead u ≡ true
+leads-opi u k e o = leads u k e ∙ rw o (either (isAud k))
+  where
+    either : (b : Bool) → (b || true) ≡ true
+    either true = refl
+    either false = refl
 
 -- whether a unit is kept
 pub keeps-other : (target : Option ℕ) (u : List ℕ) (k : UnitKind) → k ≡ kindOf u → isRecordOf 12 k ≡ false → keeps target u ≡ true

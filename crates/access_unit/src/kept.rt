@@ -15,7 +15,7 @@ ghost use mathlib.Core.Option.{some};
 ghost use Prim.Native.Nat.{_+_, _≤_, _^_};
 ghost use lib.ListN.{length};
 ghost use Rattle.boxes.specs.Parts.{held};
-ghost use Rattle.nal.specs.Kinds.{kindOf};
+ghost use Rattle.nal.specs.Kinds.{isRecordOf};
 ghost use Rattle.access_unit.specs.AccessUnit.{targetOf, agrees, isOpi, keeps, leadingKind};
 ghost use Rattle.access_unit.specs.Answers.{tolsOf};
 
@@ -45,7 +45,7 @@ fn agrees_with(target: Target, idx: u32) -> bool
 }
 
 // Whether an OPI unit of the item is kept: it is dropped only if a target exists and its operating point reads and differs.
-fn opi_kept(unit: &[u8], target: Target) -> bool
+pub fn opi_kept(unit: &[u8], target: Target) -> bool
     requires { ⌜ (isOpi (now unit) ≡ true) × (length (now unit) ≤ 2 ^ 30) ⌝ }
     ensures { λ r. ⌜ r ≡ keeps (tolsOf target) (now (unit .entry)) ⌝ }
 {
@@ -56,18 +56,14 @@ fn opi_kept(unit: &[u8], target: Target) -> bool
     }
 }
 
-// Whether a unit of the item is kept, by its kind: all are but OPI units of another operating point.
-pub fn unit_kept(unit: &[u8], kind: UnitKind, target: Target) -> bool
-    requires { ⌜ (kind ≡ kindOf (now unit)) × (length (now unit) ≤ 2 ^ 30) ⌝ }
-    ensures { λ r. ⌜ r ≡ keeps (tolsOf target) (now (unit .entry)) ⌝ }
+// Whether a kind is that of OPI units.
+pub fn is_opi(kind: UnitKind) -> bool
+    ensures { λ r. ⌜ r ≡ isRecordOf 12 kind ⌝ }
 {
-    let UnitKind::Record(t) = kind else {
-        return true;
-    };
-    if t != NAL_OPI {
-        return true;
+    match kind {
+        UnitKind::Record(t) => t == NAL_OPI,
+        _ => false,
     }
-    opi_kept(unit, target)
 }
 
 // Whether a unit of a kind may lead in front of all others: AUD and OPI.
@@ -82,12 +78,15 @@ pub fn may_lead(kind: UnitKind) -> bool
     }
 }
 
-// Whether the unit at a span of the item is kept.
+// Whether the unit at a span of the item is kept: all are but OPI units of another operating point.
 pub fn kept_at(item: &[u8], a: Span, target: Target) -> bool
     requires { ⌜ (a .start + a .len ≤ length (now item)) × (length (now item) ≤ 2 ^ 30) ⌝ }
     ensures { λ r. ⌜ r ≡ keeps (tolsOf target) (held (now (item .entry)) a) ⌝ }
 {
     let unit = place::part(item, a);
     let kind = header::kind_of(unit);
-    unit_kept(unit, kind, target)
+    if is_opi(kind) {
+        return opi_kept(unit, target);
+    }
+    true
 }

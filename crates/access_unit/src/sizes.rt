@@ -78,10 +78,13 @@ fn add_kept(item: &[u8], a: Span, target: Target, sum: UnitSum) -> UnitSum
 {
     let unit = place::part(item, a);
     let kind = header::kind_of(unit);
-    if kept::unit_kept(unit, kind, target) {
-        return add(sum, a.len, kept::may_lead(kind));
+    if kept::is_opi(kind) {
+        if kept::opi_kept(unit, target) {
+            return add(sum, a.len, true);
+        }
+        return sum;
     }
-    sum
+    add(sum, a.len, kept::may_lead(kind))
 }
 
 // The kept units of an item. Refusals: in byte order 1 and 5.

@@ -4,11 +4,11 @@ use mathlib.Core.Path.{_≡_, sym, ap, _∙_}
 use mathlib.Core.List.{List}
 use mathlib.Core.Option.{Option}
 use lib.ListN.{length}
-use Rattle.error.specs.Outcome.{Outcome, accept, refuse, andThen}
+use Rattle.parse.specs.Outcome.{Outcome, accept, refuse, andThen}
 use Rattle.boxes.specs.Walk.{countFound, found}
 use Rattle.full.specs.declared.VvcConfig.{VvcConfig}
 use Rattle.access_unit.specs.AccessUnit.{targetOf, accessUnit, assemble}
-use Rattle.access_unit.specs.Inside.{Gathered, gather, inOrder, sources, gatheredBytes}
+use Rattle.access_unit.specs.inner.Gathered.{Gathered, gather, inOrder, sources, gatheredBytes}
 use Rattle.access_unit.specs.declared.sizes.Sizes.{Sizes}
 use Rattle.access_unit.proofs.Gathering.{Known}
 use Rattle.access_unit.proofs.Order.{order-length, access-unit-sources, assemble-gathered, stream-size}

@@ -9,23 +9,24 @@ use native.Mathlib.Decide.{decLe}
 use lib.Dec.{eqb}
 use lib.ListN.{length, drop, length-take}
 use borrow.Author.Tests.{eq-eqb, ne-eqb, le-leb, lt-leb}
-use Rattle.error.specs.Logic.{if_then_else_}
-use Rattle.error.specs.Outcome.{Outcome, accept, refuse, andThen}
+use Rattle.parse.specs.Logic.{if_then_else_}
+use Rattle.parse.specs.Outcome.{Outcome, accept, refuse, andThen}
 use Rattle.boxes.specs.Parts.{held}
 use Rattle.boxes.specs.declared.Span.{Span}
 use Rattle.unit_list.specs.UnitList.{Array, decode, unitsOf}
 use Rattle.unit_list.specs.Answers.{listUnits}
 use Rattle.unit_list.proofs.Accepted.{accepted}
 use Rattle.unit_list.proofs.Accepted as U
-use Rattle.split.specs.Answers.{leftOf}
-use Rattle.split.specs.Item.{outside, splitItem}
+use Rattle.split.specs.Item.{splitItem}
 use Rattle.split.proofs.Items.{split-sound, split-lent, split-apart, items-outside, items-left}
 use Rattle.split.proofs.Spans.{apart-sum}
 use Rattle.split.proofs.Spans as H
 use Rattle.access_unit.specs.AccessUnit.{keeps, leading, kept}
-use Rattle.access_unit.specs.Inside.{keptLeft, lengths, itemSum, listSum, Gathered, someGathered, gather, sizesOf, bothSums, sizesWith}
+use Rattle.access_unit.specs.inner.Gathered.{keptLeft, lengths, itemSum, listSum, Gathered, someGathered, gather, sizesOf, bothSums, sizesWith}
 use Rattle.access_unit.specs.declared.sizes.UnitSum.{UnitSum}
 use Rattle.access_unit.specs.declared.sizes.Sizes.{Sizes}
+use Rattle.split.specs.inner.Walk.{itemUnitsFrom}
+use Rattle.boxes.specs.Bytes.{outside}
 
 -- ### how small the sums are
 
@@ -80,7 +81,7 @@ module _ (size : ℕ) (target : Option ℕ) (item : List ℕ) (v : UnitSum) (len
   pub sizes-left : 0 < size → size ≤ 4 → (o : Outcome UnitSum) → o ≡ andThen (keptLeft size target item 0) (λ ks. accept (itemSum item ks))
       → andThen o (bothSums v) ≡ sizesWith size target item v
   unfolding keptLeft
-  sizes-left some four o e = rw (e, split-lent size item lent ∙ items-left size item some four) (go (leftOf size item 0))
+  sizes-left some four o e = rw (e, split-lent size item lent ∙ items-left size item some four) (go (itemUnitsFrom size item 0))
     where
       go : (x : Outcome (List Span))
           → andThen (andThen (andThen x (λ xs. accept (kept item target xs))) (λ ks. accept (itemSum item ks))) (bothSums v)
@@ -90,7 +91,7 @@ module _ (size : ℕ) (target : Option ℕ) (item : List ℕ) (v : UnitSum) (len
 
   pub item-sum-few : 0 < size → size ≤ 4 → (w : UnitSum) → accept w ≡ andThen (keptLeft size target item 0) (λ ks. accept (itemSum item ks)) → w .count + w .lengths ≤ 2 ^ 30
   unfolding keptLeft
-  item-sum-few some four w e = go (leftOf size item 0) (split-lent size item lent ∙ items-left size item some four) e
+  item-sum-few some four w e = go (itemUnitsFrom size item 0) (split-lent size item lent ∙ items-left size item some four) e
     where
       go : (o : Outcome (List Span)) → splitItem size item ≡ o
           → accept w ≡ andThen (andThen o (λ xs. accept (kept item target xs))) (λ ks. accept (itemSum item ks)) → w .count + w .lengths ≤ 2 ^ 30

@@ -7,17 +7,17 @@ use mathlib.Core.Option.{Option}
 use native.Mathlib.Omega.{arith}
 use lib.ListN.{length, take, drop}
 use lib.Seq.{take-append-seam, drop-append-seam}
-use Rattle.error.specs.Logic.{if_then_else_}
-use Rattle.error.specs.Outcome.{Outcome, accept, refuse, andThen}
+use Rattle.parse.specs.Logic.{if_then_else_}
+use Rattle.parse.specs.Outcome.{Outcome, accept, refuse, andThen}
 use Rattle.boxes.specs.Parts.{held}
-use Rattle.boxes.specs.Walk.{more}
 use Rattle.boxes.specs.declared.Span.{Span}
 use Rattle.boxes.proofs.Walk.{total}
 use Rattle.nal.specs.Kinds.{kindOf, isAud}
 use Rattle.opi.specs.Opi.{opiOlsIdx}
-use Rattle.split.specs.Answers.{leftOf}
 use Rattle.access_unit.specs.AccessUnit.{agrees, isOpi, keeps, mayLead, leading, following, kept}
-use Rattle.access_unit.specs.Inside.{keptLeft}
+use Rattle.access_unit.specs.inner.Gathered.{keptLeft}
+use Rattle.boxes.specs.inner.Walk.{more}
+use Rattle.split.specs.inner.Walk.{itemUnitsFrom}
 
 -- a unit that is dropped is an OPI, which may lead
 either : (b c d : Bool) → (if b then c else true) ≡ false → (d || b) ≡ true
@@ -75,11 +75,11 @@ module _ (item : List ℕ) where
 -- ### the walk
 
 module _ (size : ℕ) (target : Option ℕ) (item : List ℕ) where
-  module _ (p : ℕ) (a : Span) (q : ℕ) (rest : leftOf size item p ≡ more a (leftOf size item q)) where
+  module _ (p : ℕ) (a : Span) (q : ℕ) (rest : itemUnitsFrom size item p ≡ more a (itemUnitsFrom size item q)) where
     over : (b : Bool) → keeps target (held item a) ≡ b
         → keptLeft size target item p ≡ (if b then more a (keptLeft size target item q) else keptLeft size target item q)
     unfolding keptLeft kept
-    over b e = rw rest (go b e (leftOf size item q))
+    over b e = rw rest (go b e (itemUnitsFrom size item q))
       where
         go : (b : Bool) → keeps target (held item a) ≡ b → (o : Outcome (List Span))
             → andThen (more a o) (λ xs. accept (kept item target xs))
@@ -96,18 +96,18 @@ module _ (size : ℕ) (target : Option ℕ) (item : List ℕ) where
     over-dropped e = over false e
 
   -- where nothing is left, or a refusal, so it is of the kept units
-  pub over-end : (p : ℕ) → leftOf size item p ≡ accept [] → keptLeft size target item p ≡ accept []
+  pub over-end : (p : ℕ) → itemUnitsFrom size item p ≡ accept [] → keptLeft size target item p ≡ accept []
   unfolding keptLeft kept
   over-end p e = rw e
 
-  pub over-refused : (p n : ℕ) → leftOf size item p ≡ refuse n → keptLeft size target item p ≡ refuse n
+  pub over-refused : (p n : ℕ) → itemUnitsFrom size item p ≡ refuse n → keptLeft size target item p ≡ refuse n
   unfolding keptLeft kept
   over-refused p n e = rw e
 
   -- no unit is left, so no kept one is
-  pub over-nothing : (p : ℕ) → total (leftOf size item p) ≡ 0 → total (keptLeft size target item p) ≡ 0
+  pub over-nothing : (p : ℕ) → total (itemUnitsFrom size item p) ≡ 0 → total (keptLeft size target item p) ≡ 0
   unfolding keptLeft kept
-  over-nothing p e = go (leftOf size item p) e
+  over-nothing p e = go (itemUnitsFrom size item p) e
     where
       go : (o : Outcome (List Span)) → total o ≡ 0 → total (andThen o (λ xs. accept (kept item target xs))) ≡ 0
       go (accept []) e = refl

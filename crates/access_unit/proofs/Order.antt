@@ -9,8 +9,8 @@ use native.Mathlib.Decide.{decLe}
 use lib.Dec.{eqb}
 use lib.ListN.{length, length-append, length-map}
 use borrow.Author.Tests.{eq-eqb, ne-eqb, le-leb, lt-leb}
-use Rattle.error.specs.Logic.{if_then_else_}
-use Rattle.error.specs.Outcome.{Outcome, accept, refuse, andThen}
+use Rattle.parse.specs.Logic.{if_then_else_}
+use Rattle.parse.specs.Outcome.{Outcome, accept, refuse, andThen}
 use Rattle.boxes.specs.Parts.{held}
 use Rattle.boxes.specs.declared.Span.{Span}
 use Rattle.unit_list.specs.Answers.{listUnits}
@@ -18,7 +18,7 @@ use Rattle.split.specs.Item.{splitItem}
 use Rattle.split.specs.Stream.{annexB}
 use Rattle.full.specs.declared.VvcConfig.{VvcConfig}
 use Rattle.access_unit.specs.AccessUnit.{targetOf, leading, following, kept, Source, ofList, ofItem, arranged, notEmpty, accessUnit, heldIn, startCode, assemble}
-use Rattle.access_unit.specs.Inside.{lengths, Gathered, someGathered, gather, inOrder, sources, bytesAt, gatheredBytes}
+use Rattle.access_unit.specs.inner.Gathered.{lengths, Gathered, someGathered, gather, inOrder, sources, bytesAt, gatheredBytes}
 use Rattle.access_unit.proofs.KeptUnits.{leads-and-follows, kept-leading, kept-following}
 use Rattle.access_unit.proofs.Sums.{lengths-append}
 use Rattle.access_unit.proofs.Streams.{stream-length, stream-append}

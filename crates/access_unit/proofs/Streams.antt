@@ -1,4 +1,4 @@
--- Laws of the stream: its length, and streams one behind the other.
+-- Laws of the stream: its length, and streams one after the other.
 use Prim.Native.Nat.{ℕ, _+_, _*_}
 use mathlib.Core.Path.{_≡_, refl}
 use mathlib.Core.List.{List, [], _∷_, _++_, append-assoc}
@@ -6,7 +6,7 @@ use native.Mathlib.Omega.{arith}
 use lib.ListN.{length, length-append}
 use Rattle.split.specs.Stream.{annexB}
 use Rattle.access_unit.specs.AccessUnit.{startCode}
-use Rattle.access_unit.specs.Inside.{lengths}
+use Rattle.access_unit.specs.inner.Gathered.{lengths}
 
 -- the stream's length is 4 times the units plus their lengths
 pub stream-length : (us : List (List ℕ)) → length (annexB startCode us) ≡ 4 * length us + lengths us

@@ -9,18 +9,18 @@ use native.Mathlib.Decide.{decLe}
 use lib.Dec.{eqb}
 use lib.ListN.{length, length-append}
 use borrow.Author.Tests.{eq-eqb, ne-eqb}
-use Rattle.error.specs.Logic.{if_then_else_}
-use Rattle.error.specs.Outcome.{Outcome, accept, refuse, andThen}
+use Rattle.parse.specs.Logic.{if_then_else_}
+use Rattle.parse.specs.Outcome.{Outcome, accept, refuse, andThen}
 use Rattle.boxes.specs.Parts.{held}
-use Rattle.boxes.specs.Walk.{more}
 use Rattle.boxes.specs.declared.Span.{Span}
 use Rattle.boxes.proofs.Walk.{after, after-nil, done-more, done-end, done-refused}
 use Rattle.unit_list.proofs.Accepted.{held-long}
 use Rattle.split.proofs.Items.{Turn}
 use Rattle.access_unit.specs.AccessUnit.{keeps, mayLead, leading}
-use Rattle.access_unit.specs.Inside.{keptLeft, lengths, adding, addingKept, itemSum, listSum}
+use Rattle.access_unit.specs.inner.Gathered.{keptLeft, lengths, adding, addingKept, itemSum, listSum}
 use Rattle.access_unit.proofs.KeptUnits.{over-kept, over-dropped}
 use Rattle.access_unit.specs.declared.sizes.UnitSum.{UnitSum}
+use Rattle.boxes.specs.inner.Walk.{more}
 
 -- ### one unit more
 
@@ -156,16 +156,16 @@ module _ (size : ℕ) (target : Option ℕ) (item : List ℕ) (whole : Outcome (
   summing-kept sum i = go (keeps target (held item a)) refl
     where
       inside : a .start + a .len ≤ length item
-      inside = omega (arith, t .here .behind, t .here .inside)
+      inside = omega (arith, t .here .after, t .here .inside)
 
       go : (b : Bool) → keeps target (held item a) ≡ b
           → Summing (itemSum item) whole (keptLeft size target item next) (if b then adding (mayLead (held item a)) (a .len) sum else sum) next
       go true e =
           summing-more (itemSum item) whole (keptLeft size target item p) sum p i (mayLead (held item a)) a (λ done. item-sum-more item done a inside)
-          (keptLeft size target item next) (over-kept size target item p a next (t .rest) e) next (omega (arith, t .here .ahead, t .here .behind))
+          (keptLeft size target item next) (over-kept size target item p a next (t .rest) e) next (omega (arith, t .here .ahead, t .here .after))
       go false e =
           summing-on (itemSum item) whole (keptLeft size target item p) sum p i (keptLeft size target item next)
-          (over-dropped size target item p a next (t .rest) e) next (omega (arith, t .here .ahead, t .here .behind))
+          (over-dropped size target item p a next (t .rest) e) next (omega (arith, t .here .ahead, t .here .after))
 
 pub item-sum-none : (item : List ℕ) → noUnits ≡ itemSum item []
 unfolding leading lengths
@@ -181,8 +181,8 @@ module _ (leads : Bool) (len : ℕ) (v : UnitSum) where
   pub add-leads : leads ≡ true → v .lead ≡ v .count → record { count = v .count + 1; lead = v .count + 1; lengths = v .lengths + len } ≡ adding leads len v
   add-leads e f = rw (e, eq-eqb (v .lead) (v .count) f)
 
-  pub add-behind : leads ≡ true → (v .lead ≡ v .count → ⊥) → record { count = v .count + 1; lead = v .lead; lengths = v .lengths + len } ≡ adding leads len v
-  add-behind e f = rw (e, ne-eqb (v .lead) (v .count) f)
+  pub add-after : leads ≡ true → (v .lead ≡ v .count → ⊥) → record { count = v .count + 1; lead = v .lead; lengths = v .lengths + len } ≡ adding leads len v
+  add-after e f = rw (e, ne-eqb (v .lead) (v .count) f)
 
   pub add-last : leads ≡ false → record { count = v .count + 1; lead = v .lead; lengths = v .lengths + len } ≡ adding leads len v
   add-last e = rw e

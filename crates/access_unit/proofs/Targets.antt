@@ -6,12 +6,12 @@ use mathlib.Core.List.{List}
 use mathlib.Core.Option.{Option, none, some}
 use native.Mathlib.Omega.{arith}
 use lib.ListN.{length}
-use Rattle.error.specs.Outcome.{accept, refuse}
+use Rattle.parse.specs.Outcome.{accept, refuse}
 use Rattle.error.specs.Refusals.{numberOf}
 use Rattle.error.specs.declared.Refusal.{Refusal}
 use Rattle.boxes.specs.Parts.{held}
 use Rattle.boxes.specs.declared.Span.{Span}
-use Rattle.boxes.proofs.Lent.{lent-within}
+use Rattle.parse.proofs.Lent.{lent-within}
 use Rattle.nal.specs.Kinds.{kindOf, isAud, isRecordOf}
 use Rattle.nal.specs.declared.UnitKind.{UnitKind}
 use Rattle.unit_list.proofs.Accepted.{held-long}

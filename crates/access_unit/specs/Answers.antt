@@ -4,7 +4,7 @@ use mathlib.Core.List.{List}
 use mathlib.Core.Option.{Option, none, some}
 use denote.Ref.{RefT}
 use lib.ListN.{getD}
-use Rattle.error.specs.Outcome.{Outcome, accept, refuse}
+use Rattle.parse.specs.Outcome.{Outcome, accept, refuse}
 use Rattle.boxes.specs.Parts.{PartOf, nowhere}
 use Rattle.access_unit.specs.AccessUnit.{Source, ofList, ofItem}
 use Rattle.access_unit.specs.declared.Target.{Target}
@@ -20,7 +20,7 @@ abbrev pub sourceAt : Outcome (List Source) → ℕ → Source
 sourceAt (accept us) k = getD us k (ofList nowhere)
 sourceAt (refuse e) k = ofList nowhere
 
--- "handed back as that part of the list or of the item"
+-- "returned as that part of the list or of the item"
 abbrev pub PartOfEither : RefT (List ℕ) → RefT (List ℕ) → RefT (List ℕ) → Source → Type 0
 PartOfEither r list item (ofList a) = PartOf r list a
 PartOfEither r list item (ofItem a) = PartOf r item a

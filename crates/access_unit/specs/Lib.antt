@@ -1,3 +1,3 @@
 pub mod AccessUnit
 pub mod Answers
-pub mod Inside
+pub mod inner

@@ -1,4 +1,4 @@
-// For this crate and those further down: which units of an item are kept.
+// Internal: which units of an item are kept.
 use super::Target;
 use boxes::Span;
 use boxes::place;

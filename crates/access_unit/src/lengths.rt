@@ -1,14 +1,14 @@
-// For the crates further down: how long the stream of an access unit is, measured before any of it is written.
+// Internal: how long the stream of an access unit is, measured before any of it is written.
 use super::Target;
 use super::kept;
 use super::sizes;
-use super::sizes::Measured;
+use super::sizes::SizesAnswer;
 use error::Counted;
 use full::VvcConfig;
 ghost use mathlib.Core.Path.{_≡_};
 ghost use Prim.Native.Nat.{_+_, _*_, _≤_, _^_};
 ghost use lib.ListN.{length};
-ghost use Rattle.error.specs.Answers.{countOf};
+ghost use Rattle.parse.specs.Answers.{countOf};
 ghost use Rattle.boxes.specs.Walk.{countFound};
 ghost use Rattle.access_unit.specs.AccessUnit.{startCode, assemble};
 ghost use Rattle.access_unit.specs.Answers.{tolsOf};
@@ -31,11 +31,11 @@ pub fn access_unit_len(head: VvcConfig, list: &[u8], item: &[u8], tols: Target) 
     let target = kept::target_of(head, tols);
     let measured = sizes::measure(list, item, head.length_size, target);
     match measured {
-        Measured::Sized(sizes) => {
+        SizesAnswer::Sized(sizes) => {
             let count = sizes.listed + sizes.kept;
             let len = stream_len(count, sizes.lengths);
             Counted::Count(len)
         }
-        Measured::Refused(e) => Counted::Refused(e),
+        SizesAnswer::Refused(e) => Counted::Refused(e),
     }
 }

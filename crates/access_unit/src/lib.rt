@@ -5,9 +5,9 @@ pub mod sizes;
 
 use error::Counted;
 use full::VvcConfig;
-use sizes::Measured;
+use sizes::SizesAnswer;
 ghost use mathlib.Core.Path.{_≡_};
-ghost use Rattle.error.specs.Answers.{countOf};
+ghost use Rattle.parse.specs.Answers.{countOf};
 ghost use Rattle.boxes.specs.Walk.{countFound};
 ghost use Rattle.access_unit.specs.AccessUnit.{accessUnit};
 ghost use Rattle.access_unit.specs.Answers.{tolsOf};
@@ -25,10 +25,10 @@ pub fn access_unit_count(head: VvcConfig, list: &[u8], item: &[u8], tols: Target
     let target = kept::target_of(head, tols);
     let measured = sizes::measure(list, item, head.length_size, target);
     match measured {
-        Measured::Sized(sizes) => {
+        SizesAnswer::Sized(sizes) => {
             let count = sizes.listed + sizes.kept;
             Counted::Count(count)
         }
-        Measured::Refused(e) => Counted::Refused(e),
+        SizesAnswer::Refused(e) => Counted::Refused(e),
     }
 }

@@ -1,4 +1,4 @@
-// For this crate and those further down: how many units an access unit has from list and item, and how many bytes they hold.
+// Internal: how many units an access unit has from list and item, and how many bytes they hold.
 use super::Target;
 use super::kept;
 use boxes::Span;
@@ -15,12 +15,12 @@ use unit_list::walk;
 ghost use mathlib.Core.Path.{_≡_};
 ghost use Prim.Native.Nat.{_+_, _≤_, _<_, _^_};
 ghost use lib.ListN.{length};
-ghost use Rattle.error.specs.Outcome.{accept, andThen};
-ghost use Rattle.unit_list.specs.Walk.{Fits};
-ghost use Rattle.unit_list.specs.Find.{unitsLeft};
+ghost use Rattle.parse.specs.Outcome.{accept, andThen};
+ghost use Rattle.unit_list.specs.inner.Walk.{Fits};
+ghost use Rattle.unit_list.specs.inner.Find.{unitsLeft};
 ghost use Rattle.unit_list.specs.Answers.{listUnits};
 ghost use Rattle.access_unit.specs.Answers.{tolsOf};
-ghost use Rattle.access_unit.specs.Inside.{Walks, keptLeft, addingKept, adding, summedOf, itemSum, listSum, gather, sizesOf, sizesWith, measuredOf};
+ghost use Rattle.access_unit.specs.inner.Gathered.{Walks, keptLeft, addingKept, adding, summedOf, itemSum, listSum, gather, sizesOf, sizesWith, sizesAnswerOf};
 
 // Units one after another: how many, how many of them may lead in front of all others, and the bytes that they hold.
 pub struct UnitSum {
@@ -44,7 +44,7 @@ pub struct Sizes {
 }
 
 // An access unit that was measured, or the refusal.
-pub enum Measured {
+pub enum SizesAnswer {
     Sized(Sizes),
     Refused(Refusal),
 }
@@ -110,7 +110,7 @@ fn item_sum(item: &[u8], size: usize, target: Target) -> Summed
     }
 }
 
-// The units of a list behind a cursor. Refusal: 21.
+// The units of a list after a cursor. Refusal: 21.
 fn units_sum(list: &[u8], c: ListCursor) -> Summed
     requires { ⌜ Fits (now list) c ⌝ }
     ensures { λ r. ⌜ summedOf r ≡ andThen (unitsLeft (now (list .entry)) c) (λ us. accept (listSum (now (list .entry)) us)) ⌝ }
@@ -144,42 +144,42 @@ fn list_sum(list: &[u8]) -> Summed
 }
 
 // An access unit of a list's units, which are measured, and those of an item. Refusals: 4, then in byte order 1 and 5, 19.
-fn measure_item(item: &[u8], length_size: u8, target: Target, listed: UnitSum) -> Measured
+fn measure_item(item: &[u8], length_size: u8, target: Target, listed: UnitSum) -> SizesAnswer
     requires { ⌜ (length (now item) ≤ 2 ^ 30) × (listed .count + listed .lengths ≤ 2 ^ 30) ⌝ }
-    ensures { λ r. ⌜ measuredOf r ≡ sizesWith «length_size» (tolsOf target) (now (item .entry)) listed ⌝ }
+    ensures { λ r. ⌜ sizesAnswerOf r ≡ sizesWith «length_size» (tolsOf target) (now (item .entry)) listed ⌝ }
 {
     if items::outside(length_size) {
-        return Measured::Refused(Refusal::PrefixSize);
+        return SizesAnswer::Refused(Refusal::PrefixSize);
     }
     let summed = item_sum(item, place::wide(length_size), target);
     match summed {
         Summed::Sum(kept) => {
             let count = listed.count + kept.count;
             if count == 0 {
-                return Measured::Refused(Refusal::NothingToWrite);
+                return SizesAnswer::Refused(Refusal::NothingToWrite);
             }
             let lengths = listed.lengths + kept.lengths;
-            Measured::Sized(Sizes {
+            SizesAnswer::Sized(Sizes {
                 listed: listed.count,
                 kept: kept.count,
                 lead: kept.lead,
                 lengths: lengths,
             })
         }
-        Summed::Refused(e) => Measured::Refused(e),
+        Summed::Refused(e) => SizesAnswer::Refused(e),
     }
 }
 
 // An access unit. Refusals: 23, 21, 4, then in byte order 1 and 5, 19.
-pub fn measure(list: &[u8], item: &[u8], length_size: u8, target: Target) -> Measured
-    ensures { λ r. ⌜ measuredOf r ≡ andThen (gather «length_size» (tolsOf target) (now (list .entry)) (now (item .entry))) (λ g. accept (sizesOf (now (list .entry)) (now (item .entry)) g)) ⌝ }
+pub fn measure(list: &[u8], item: &[u8], length_size: u8, target: Target) -> SizesAnswer
+    ensures { λ r. ⌜ sizesAnswerOf r ≡ andThen (gather «length_size» (tolsOf target) (now (list .entry)) (now (item .entry))) (λ g. accept (sizesOf (now (list .entry)) (now (item .entry)) g)) ⌝ }
 {
     if LARGEST_INPUT < item.len() {
-        return Measured::Refused(Refusal::InputTooLong);
+        return SizesAnswer::Refused(Refusal::InputTooLong);
     }
     let summed = list_sum(list);
     match summed {
         Summed::Sum(listed) => measure_item(item, length_size, target, listed),
-        Summed::Refused(e) => Measured::Refused(e),
+        Summed::Refused(e) => SizesAnswer::Refused(e),
     }
 }

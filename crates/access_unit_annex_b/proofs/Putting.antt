@@ -6,15 +6,15 @@ use mathlib.Core.Option.{Option}
 use native.Mathlib.Omega.{arith}
 use lib.ListN.{length, take, drop, length-append}
 use lib.Seq.{sets, take-all, length-sets}
-use Rattle.error.specs.Outcome.{Outcome, accept, refuse}
+use Rattle.parse.specs.Outcome.{Outcome, accept, refuse}
 use Rattle.boxes.specs.Walk.{found}
 use Rattle.boxes.proofs.Sets.{sets-append}
 use Rattle.unit_list.specs.Answers.{listUnits}
 use Rattle.unit_list.specs.declared.ListCursor.{ListCursor}
 use Rattle.access_unit.specs.AccessUnit.{leading, following}
-use Rattle.unit_list.specs.Find.{unitsLeft}
-use Rattle.access_unit.specs.Inside.{Walks, keptLeft, Gathered, gather, bytesAt, gatheredBytes}
-use Rattle.access_unit_annex_b.specs.Inside.{foundBytes, PutsAll, firstOf, PutsFirst, FirstPut, PutsStream}
+use Rattle.unit_list.specs.inner.Find.{unitsLeft}
+use Rattle.access_unit.specs.inner.Gathered.{Walks, keptLeft, Gathered, gather, bytesAt, gatheredBytes}
+use Rattle.access_unit_annex_b.specs.inner.Stream.{foundStream, PutsAll, firstUnits, PutsFirst, FirstPut, PutsStream}
 use Rattle.access_unit.specs.declared.sizes.Sizes.{Sizes}
 use Rattle.access_unit_annex_b.specs.declared.stream.Places.{Places}
 use Rattle.access_unit.proofs.KeptUnits.{leads-and-follows, leading-take, following-drop}
@@ -78,11 +78,11 @@ module _ (size : ℕ) (target : Option ℕ) (list item : List ℕ) (v : Sizes) (
       record { walks = walks 0 (omega arith); units = p .parts .kept; found = all-kept; enough = omega arith; room = rw first-is (omega arith) }
 
   module _ (r : Places) (led : List ℕ) (f : FirstPut s target item 0 (v .lead) out 0 r led) where
-    led-found : foundBytes item (firstOf (v .lead) (keptLeft s target item 0)) ≡ bytesAt item (leading item (p .parts .kept))
+    led-found : foundStream item (firstUnits (v .lead) (keptLeft s target item 0)) ≡ bytesAt item (leading item (p .parts .kept))
     led-found = rw (all-kept, first-is)
 
     led-out : r .out ≡ length (bytesAt item (leading item (p .parts .kept)))
-    led-out = let e = f .behind in let g = ap length led-found in omega arith
+    led-out = let e = f .ends in let g = ap length led-found in omega arith
 
     led-stored : led ≡ sets out 0 (bytesAt item (leading item (p .parts .kept)))
     led-stored = f .stored ∙ ap (sets out 0) led-found
@@ -101,10 +101,10 @@ module _ (size : ℕ) (target : Option ℕ) (list item : List ℕ) (v : Sizes) (
           let h = parts-long in
           record { units = p .parts .units; found = listed; room = omega arith }
 
-      module _ (b : ℕ) (both : List ℕ) (h : (b ≡ r .out + length (foundBytes list (unitsLeft list c))) × (both ≡ sets led (r .out) (foundBytes list (unitsLeft list c)))) where
+      module _ (b : ℕ) (both : List ℕ) (h : (b ≡ r .out + length (foundStream list (unitsLeft list c))) × (both ≡ sets led (r .out) (foundStream list (unitsLeft list c)))) where
         both-out : b ≡ length (bytesAt item (leading item (p .parts .kept))) + length (bytesAt list (p .parts .units))
         both-out =
-            let e : foundBytes list (unitsLeft list c) ≡ bytesAt list (p .parts .units) = rw listed in
+            let e : foundStream list (unitsLeft list c) ≡ bytesAt list (p .parts .units) = rw listed in
             let l = ap length e in
             let a = led-out in
             omega (arith, h .0)
@@ -144,7 +144,7 @@ module _ (size : ℕ) (target : Option ℕ) (list item : List ℕ) (v : Sizes) (
             let B = bytesAt list (p .parts .units) in
             let C = bytesAt item (following item (p .parts .kept)) in
             let o : b ≡ length A + length B = both-out in
-            let x : foundBytes item (firstOf (v .kept - v .lead) (keptLeft s target item (r .item))) ≡ C = rw (left, rest-all) in
+            let x : foundStream item (firstUnits (v .kept - v .lead) (keptLeft s target item (r .item))) ≡ C = rw (left, rest-all) in
             w .stored
             ∙ rw x (go A B C b o both-stored led-stored)
             ∙ ap (sets out 0) (sym (stream-parts list item (p .parts)))

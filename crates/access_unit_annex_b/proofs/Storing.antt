@@ -5,44 +5,44 @@ use mathlib.Core.List.{List, [], _∷_, _++_, map, append-assoc}
 use native.Mathlib.Omega.{arith}
 use lib.ListN.{length, take, drop, length-append}
 use lib.Seq.{sets, length-sets}
-use Rattle.error.specs.Outcome.{Outcome, accept, refuse}
+use Rattle.parse.specs.Outcome.{Outcome, accept, refuse}
 use Rattle.boxes.specs.Bytes.{toBe}
 use Rattle.boxes.specs.Parts.{held}
-use Rattle.boxes.specs.Walk.{more}
 use Rattle.boxes.specs.declared.Span.{Span}
 use Rattle.boxes.proofs.Sets.{sets-append}
 use Rattle.boxes.proofs.Walk.{total}
 use Rattle.unit_list.proofs.Accepted.{held-long}
 use Rattle.split.specs.Stream.{annexB}
 use Rattle.access_unit.specs.AccessUnit.{startCode}
-use Rattle.access_unit.specs.Inside.{bytesAt}
-use Rattle.access_unit_annex_b.specs.Inside.{foundBytes, PutsAll, firstOf, restOf}
+use Rattle.access_unit.specs.inner.Gathered.{bytesAt}
+use Rattle.access_unit_annex_b.specs.inner.Stream.{foundStream, PutsAll, firstUnits, restUnits}
+use Rattle.boxes.specs.inner.Walk.{more}
 
 pub stream-one : (u : List ℕ) (us : List (List ℕ)) → annexB startCode (u ∷ us) ≡ (startCode ++ u) ++ annexB startCode us
 unfolding annexB
 stream-one u us = sym (append-assoc startCode u (annexB startCode us))
 
--- a start code and a unit, stored one behind the other
+-- a start code and a unit, stored one after the other
 pub unit-stored : (d e f u : List ℕ) (p : ℕ) → e ≡ sets d p (toBe 4 1) → f ≡ sets e (p + 4) u → f ≡ sets d p (startCode ++ u)
 unfolding toBe
 unit-stored d e f u p x y = y ∙ ap (λ (l : List ℕ). sets l (p + 4) u) x ∙ sets-append d p startCode u
 
--- ### storing the units at spans of s, of which us are left: E is the place behind all, B what the output then holds
+-- ### storing the units at spans of s, of which us are left: E is the place after all, B what the output then holds
 
 pub record Storing (s : List ℕ) (n E : ℕ) (B : List ℕ) (us : List Span) (out : List ℕ) (end : ℕ) : Type 0 where
   pub same : length out ≡ n
   pub room : E ≤ n
-  pub behind : end + length (bytesAt s us) ≡ E
+  pub ends : end + length (bytesAt s us) ≡ E
   pub stored : sets out end (bytesAt s us) ≡ B
 
 pub storing-start : (s : List ℕ) (us : List Span) (out : List ℕ) (to : ℕ) → to + length (bytesAt s us) ≤ length out
     → Storing s (length out) (to + length (bytesAt s us)) (sets out to (bytesAt s us)) us out to
-storing-start s us out to h = record { same = refl; room = h; behind = refl; stored = refl }
+storing-start s us out to h = record { same = refl; room = h; ends = refl; stored = refl }
 
 module _ (s : List ℕ) (n E : ℕ) (B : List ℕ) where
   pub storing-end : (out : List ℕ) (end : ℕ) → Storing s n E B [] out end → (end ≡ E) × (out ≡ B)
   unfolding annexB
-  storing-end out end i = (let b = i .behind in omega arith, i .stored)
+  storing-end out end i = (let b = i .ends in omega arith, i .stored)
 
   module _ (a : Span) (us : List Span) (out : List ℕ) (end : ℕ) (i : Storing s n E B (a ∷ us) out end) (inside : a .start + a .len ≤ length s) where
     long : length (bytesAt s (a ∷ us)) ≡ 4 + a .len + length (bytesAt s us)
@@ -54,19 +54,19 @@ module _ (s : List ℕ) (n E : ℕ) (B : List ℕ) where
         omega arith
 
     pub storing-room : end + 4 + a .len ≤ length out
-    storing-room = let l = long in let b = i .behind in let r = i .room in let z = i .same in omega arith
+    storing-room = let l = long in let b = i .ends in let r = i .room in let z = i .same in omega arith
 
-    pub storing-more : (after : List ℕ) (behind : ℕ) → behind ≡ end + 4 + a .len → after ≡ sets out end (startCode ++ held s a) → Storing s n E B us after behind
-    storing-more after behind e f =
+    pub storing-more : (after : List ℕ) (ends : ℕ) → ends ≡ end + 4 + a .len → after ≡ sets out end (startCode ++ held s a) → Storing s n E B us after ends
+    storing-more after ends e f =
         let l = long in
-        let b = i .behind in
+        let b = i .ends in
         let k = held-long s a inside in
         let g = length-append startCode (held s a) in
-        let p : behind ≡ end + length (startCode ++ held s a) = omega arith in
+        let p : ends ≡ end + length (startCode ++ held s a) = omega arith in
         record {
           same = ap length f ∙ length-sets out end (startCode ++ held s a) ∙ i .same;
           room = i .room;
-          behind = omega arith;
+          ends = omega arith;
           stored =
               rw (p, f) (sets-append out end (startCode ++ held s a) (bytesAt s us))
               ∙ ap (sets out end) (sym (stream-one (held s a) (map (held s) us)))
@@ -92,7 +92,7 @@ pub record Remaining (s : List ℕ) (n E : ℕ) (B : List ℕ) (o : Outcome (Lis
   pub storing : Storing s n E B rest out end
 
 pub remaining-start : (s : List ℕ) (o : Outcome (List Span)) (out : List ℕ) (to : ℕ) → PutsAll s o out to
-    → Remaining s (length out) (to + length (foundBytes s o)) (sets out to (foundBytes s o)) o out to
+    → Remaining s (length out) (to + length (foundStream s o)) (sets out to (foundStream s o)) o out to
 remaining-start s o out to p = rw (p .found) (record { rest = p .units; found = refl; storing = storing-start s (p .units) out to (p .room) })
 
 module _ (s : List ℕ) (n E : ℕ) (B : List ℕ) (o : Outcome (List Span)) (out : List ℕ) (end : ℕ) (i : Remaining s n E B o out end) where
@@ -109,9 +109,9 @@ module _ (s : List ℕ) (n E : ℕ) (B : List ℕ) (o : Outcome (List Span)) (ou
     pub remaining-room : end + 4 + a .len ≤ length out
     remaining-room = storing-room s n E B a (ahead .tail) out end split inside
 
-    pub remaining-more : (after : List ℕ) (behind : ℕ) → behind ≡ end + 4 + a .len → after ≡ sets out end (startCode ++ held s a) → Remaining s n E B left after behind
-    remaining-more after behind f g =
-        record { rest = ahead .tail; found = ahead .left; storing = storing-more s n E B a (ahead .tail) out end split inside after behind f g }
+    pub remaining-more : (after : List ℕ) (ends : ℕ) → ends ≡ end + 4 + a .len → after ≡ sets out end (startCode ++ held s a) → Remaining s n E B left after ends
+    remaining-more after ends f g =
+        record { rest = ahead .tail; found = ahead .left; storing = storing-more s n E B a (ahead .tail) out end split inside after ends f g }
 
 -- ### the units left in a walk that stores the first of them: so many are left, and what then comes is known
 
@@ -124,7 +124,7 @@ pub record FirstLeft (s : List ℕ) (n E : ℕ) (B : List ℕ) (then : Outcome (
 
 pub first-start : (s : List ℕ) (o : Outcome (List Span)) (us : List Span) → o ≡ accept us → (k : ℕ) → k ≤ length us → (out : List ℕ) (to : ℕ)
     → to + length (bytesAt s (take k us)) ≤ length out
-    → FirstLeft s (length out) (to + length (foundBytes s (firstOf k o))) (sets out to (foundBytes s (firstOf k o))) (restOf k o) o k out to
+    → FirstLeft s (length out) (to + length (foundStream s (firstUnits k o))) (sets out to (foundStream s (firstUnits k o))) (restUnits k o) o k out to
 first-start s o us e k h out to r = rw e (record { rest = us; found = refl; enough = h; next = refl; storing = storing-start s (take k us) out to r })
 
 module _ (s : List ℕ) (n E : ℕ) (B : List ℕ) (then : Outcome (List Span)) (o : Outcome (List Span)) where
@@ -140,9 +140,9 @@ module _ (s : List ℕ) (n E : ℕ) (B : List ℕ) (then : Outcome (List Span)) 
         storing-room s n E B a (take l (f .tail)) out end (rw (f .is) at (i .storing)) inside
 
     pub first-more : (left : ℕ) (out : List ℕ) (end : ℕ) → FirstLeft s n E B then o left out end → 0 < left
-        → (after : List ℕ) (behind : ℕ) → behind ≡ end + 4 + a .len → after ≡ sets out end (startCode ++ held s a) → FirstLeft s n E B then o' (left - 1) after behind
-    first-more zero out end i h after behind p q = absurd (omega arith)
-    first-more (suc l) out end i h after behind p q =
+        → (after : List ℕ) (ends : ℕ) → ends ≡ end + 4 + a .len → after ≡ sets out end (startCode ++ held s a) → FirstLeft s n E B then o' (left - 1) after ends
+    first-more zero out end i h after ends p q = absurd (omega arith)
+    first-more (suc l) out end i h after ends p q =
         let f = front a o' (i .rest) (sym e ∙ i .found) in
         let k = ap length (f .is) in
         let z : suc l - 1 ≡ l = omega arith in
@@ -151,7 +151,7 @@ module _ (s : List ℕ) (n E : ℕ) (B : List ℕ) (then : Outcome (List Span)) 
           found = f .left;
           enough = omega (arith, k, i .enough);
           next = rw (f .is) at (i .next);
-          storing = storing-more s n E B a (take l (f .tail)) out end (rw (f .is) at (i .storing)) inside after behind p q;
+          storing = storing-more s n E B a (take l (f .tail)) out end (rw (f .is) at (i .storing)) inside after ends p q;
         })
 
   -- a unit that is not stored

@@ -5,17 +5,17 @@ use access_unit::Target;
 use access_unit::kept;
 use access_unit::lengths;
 use access_unit::sizes;
-use access_unit::sizes::Measured;
+use access_unit::sizes::SizesAnswer;
 use error::Refusal;
 use error::Written;
 use full::VvcConfig;
 ghost use mathlib.Core.Path.{_≡_};
-ghost use Rattle.error.specs.Outcome.{lentOutput, counted};
-ghost use Rattle.error.specs.Answers.{writtenOf};
+ghost use Rattle.parse.specs.Outcome.{lentOutput, counted};
+ghost use Rattle.parse.specs.Answers.{writtenOf};
 ghost use Rattle.access_unit.specs.AccessUnit.{assemble};
 ghost use Rattle.access_unit.specs.Answers.{tolsOf};
 
-// The access unit as a stream, each unit behind a start code. Refusals: 23, 21, 4, then in byte order 1 and 5, 19, 20.
+// The access unit as a stream, each unit after a start code. Refusals: 23, 21, 4, then in byte order 1 and 5, 19, 20.
 pub fn access_unit_annex_b(
     head: VvcConfig,
     list: &[u8],
@@ -28,7 +28,7 @@ pub fn access_unit_annex_b(
     let target = kept::target_of(head, tols);
     let measured = sizes::measure(list, item, head.length_size, target);
     match measured {
-        Measured::Sized(sizes) => {
+        SizesAnswer::Sized(sizes) => {
             let count = sizes.listed + sizes.kept;
             let len = lengths::stream_len(count, sizes.lengths);
             if out.len() < len {
@@ -37,6 +37,6 @@ pub fn access_unit_annex_b(
             stream::put_stream(list, item, head.length_size, target, sizes, out);
             Written::Bytes(len)
         }
-        Measured::Refused(e) => Written::Refused(e),
+        SizesAnswer::Refused(e) => Written::Refused(e),
     }
 }

@@ -1,4 +1,4 @@
-// For the crates further down: the units of an access unit stored as an Annex B stream.
+// Internal: the units of an access unit stored as an Annex B stream.
 use access_unit::Target;
 use access_unit::kept;
 use access_unit::lengths::START_CODE_LEN;
@@ -17,20 +17,20 @@ ghost use Prim.Native.Nat.{_+_, _≤_};
 ghost use lib.ListN.{length};
 ghost use lib.Seq.{sets};
 ghost use Rattle.boxes.specs.Parts.{held};
-ghost use Rattle.unit_list.specs.Walk.{Fits};
-ghost use Rattle.unit_list.specs.Find.{unitsLeft};
+ghost use Rattle.unit_list.specs.inner.Walk.{Fits};
+ghost use Rattle.unit_list.specs.inner.Find.{unitsLeft};
 ghost use Rattle.access_unit.specs.AccessUnit.{startCode};
 ghost use Rattle.access_unit.specs.Answers.{tolsOf};
-ghost use Rattle.access_unit_annex_b.specs.Inside.{foundBytes, PutsFirst, FirstPut, PutsAll, PutsStream};
-ghost use Rattle.access_unit.specs.Inside.{gather, gatheredBytes};
+ghost use Rattle.access_unit_annex_b.specs.inner.Stream.{foundStream, PutsFirst, FirstPut, PutsAll, PutsStream};
+ghost use Rattle.access_unit.specs.inner.Gathered.{gather, gatheredBytes};
 
-// Behind the units that were stored: the place of the item to read on from, and the place of the output.
+// After the units that were stored: the place of the item to read on from, and the place of the output.
 pub struct Places {
     pub item: usize,
     pub out: usize,
 }
 
-// Stores the bytes at a span of `src` behind a start code; gives the place behind them.
+// Stores the bytes at a span of `src` after a start code; gives the place after them.
 fn put_unit(src: &[u8], a: Span, out: &mut [u8], at: usize) -> usize
     requires { ⌜ (a .start + a .len ≤ length (now src)) × (at + length startCode + a .len ≤ length (now out)) ⌝ }
     ensures { λ r. ⌜ (r ≡ at + length startCode + a .len) × (now (out .exit) ≡ sets (now (out .entry)) at (startCode ++ held (now (src .entry)) a)) ⌝ }
@@ -72,10 +72,10 @@ fn put_kept(
     Places { item: at, out: end }
 }
 
-// Stores the units of a list behind a cursor; gives the place behind them.
+// Stores the units of a list after a cursor; gives the place after them.
 fn put_units(list: &[u8], c: ListCursor, out: &mut [u8], to: usize) -> usize
     requires { ⌜ Fits (now list) c × PutsAll (now list) (unitsLeft (now list) c) (now out) to ⌝ }
-    ensures { λ r. ⌜ (r ≡ to + length (foundBytes (now (list .entry)) (unitsLeft (now (list .entry)) c))) × (now (out .exit) ≡ sets (now (out .entry)) to (foundBytes (now (list .entry)) (unitsLeft (now (list .entry)) c))) ⌝ }
+    ensures { λ r. ⌜ (r ≡ to + length (foundStream (now (list .entry)) (unitsLeft (now (list .entry)) c))) × (now (out .exit) ≡ sets (now (out .entry)) to (foundStream (now (list .entry)) (unitsLeft (now (list .entry)) c))) ⌝ }
 {
     let mut here = c;
     let mut end = to;
@@ -105,7 +105,7 @@ pub fn put_stream(
     };
     let size = place::wide(length_size);
     let led = put_kept(item, size, target, 0, sizes.lead, out, 0);
-    let behind = put_units(list, c, out, led.out);
+    let ends = put_units(list, c, out, led.out);
     let rest = sizes.kept - sizes.lead;
-    put_kept(item, size, target, led.item, rest, out, behind);
+    put_kept(item, size, target, led.item, rest, out, ends);
 }

@@ -7,21 +7,22 @@ use mathlib.Core.Option.{Option}
 use native.Mathlib.Omega.{arith}
 use types.Run.{OneOf}
 use denote.Enum.Declared.{tagOf}
-use Rattle.boxes.specs.Walk.{more}
 use Rattle.boxes.specs.declared.Span.{Span}
 use Rattle.boxes.proofs.Walk.{total}
-use Rattle.split.specs.Answers.{UnitAhead, Onward, nextOf, itemStep}
+use Rattle.split.specs.Answers.{nextOf, itemStep}
 use Rattle.split.specs.declared.NextUnit.{NextUnit}
 use Rattle.split.specs.declared.NextUnit.the-variants as N
 use Rattle.split.proofs.NextUnit.{the-type}
 use Rattle.split.proofs.Items.{found-end, found-refusal}
 use Rattle.access_unit.specs.AccessUnit.{kept}
-use Rattle.access_unit.specs.Inside.{keptLeft}
-use Rattle.access_unit_nal.specs.Inside.{keptStepped}
+use Rattle.access_unit.specs.inner.Gathered.{keptLeft}
+use Rattle.access_unit_nal.specs.inner.Kept.{keptStepped}
+use Rattle.boxes.specs.inner.Walk.{more}
+use Rattle.split.specs.inner.Walk.{UnitAhead, Onward}
 
--- what a step found lies behind every earlier place too
+-- what a step found lies after every earlier place too
 pub onward-earlier : (item : List ℕ) (p q : ℕ) → p ≤ q → (r : NextUnit) → Onward item q r → Onward item p r
-onward-earlier item p q h (N.Unit a next) f = record { some = f .some; ahead = omega arith; behind = f .behind; inside = f .inside }
+onward-earlier item p q h (N.Unit a next) f = record { some = f .some; ahead = omega arith; after = f .after; inside = f .inside }
 onward-earlier item p q h N.End f = tt
 onward-earlier item p q h (N.Refused e) f = tt
 
@@ -34,7 +35,7 @@ module _ (size : ℕ) (target : Option ℕ) (item : List ℕ) where
   over-none p N.End k e = rw (found-end size item p N.End e refl)
   over-none p (N.Refused x) k e = rw (found-refusal size item p (N.Refused x) e x refl)
 
-  -- a turn of the walk: the kept unit found from place p on, in front of those behind it
+  -- a turn of the walk: the kept unit found from place p on, in front of those after it
   pub record KeptTurn (p : ℕ) (a : Span) (next : ℕ) : Type 0 where
     pub here : UnitAhead item p a next
     pub rest : keptLeft size target item p ≡ more a (keptLeft size target item next)

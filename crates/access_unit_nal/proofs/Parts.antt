@@ -1,4 +1,4 @@
--- The part that is handed back for unit k: of the list or of the item, as its place says.
+-- The part that is returned for unit k: of the list or of the item, as its place says.
 use Prim.Native.Nat.{ℕ}
 use mathlib.Core.Path.{_≡_, refl, sym, ap, _∙_, subst}
 use mathlib.Core.List.{List, [], _∷_}
@@ -7,9 +7,9 @@ use native.Mathlib.Omega.{arith}
 use denote.Ref.{RefT}
 use types.Run.{OneOf}
 use denote.Enum.Declared.{tagOf}
-use Rattle.error.specs.Outcome.{Outcome, accept, refuse}
+use Rattle.parse.specs.Outcome.{Outcome, accept, refuse}
 use Rattle.boxes.specs.Parts.{PartOf, nowhere}
-use Rattle.boxes.specs.Places.{Place, inFirst, inSecond, placeOf, placeFound, PlaceFits, lying, firstOf}
+use Rattle.boxes.specs.Places.{Place, inFirst, inSecond, placeOf, placeFound, PlaceFits}
 use Rattle.boxes.specs.declared.Span.{Span}
 use Rattle.boxes.specs.declared.UnitPlace.{UnitPlace}
 use Rattle.boxes.specs.declared.UnitPlace.the-variants as U
@@ -18,6 +18,7 @@ use Rattle.boxes.proofs.Places.{place-lies}
 use Rattle.access_unit.specs.AccessUnit.{Source, ofList, ofItem}
 use Rattle.access_unit.specs.Answers.{sourceAt, PartOfEither}
 use Rattle.access_unit_nal.specs.Answers.{sourcePlace}
+use Rattle.boxes.specs.inner.Places.{lying, spanInFirst}
 
 -- where no unit lies in the item, its place is one in the list
 pub not-second : (s t : List ℕ) (r : UnitPlace) → OneOf (0 ∷ 2 ∷ 3 ∷ []) (tagOf the-type r) → PlaceFits s t r → PlaceFits s [] r
@@ -44,10 +45,10 @@ module _ (r list item : RefT (List ℕ)) where
     given : At (lying (placeOf u)) → PartOfEither r list item (sourceAt o k)
     given h = either (sourceAt o k) (subst At (ap lying said ∙ source-lies o k) h)
 
-    pub part-listed : OneOf (0 ∷ 2 ∷ 3 ∷ []) (tagOf the-type u) → PartOf r list (firstOf (lying (placeOf u))) → PartOfEither r list item (sourceAt o k)
+    pub part-listed : OneOf (0 ∷ 2 ∷ 3 ∷ []) (tagOf the-type u) → PartOf r list (spanInFirst (lying (placeOf u))) → PartOfEither r list item (sourceAt o k)
     part-listed t h = given (go u t h)
       where
-        go : (u : UnitPlace) → OneOf (0 ∷ 2 ∷ 3 ∷ []) (tagOf the-type u) → PartOf r list (firstOf (lying (placeOf u))) → At (lying (placeOf u))
+        go : (u : UnitPlace) → OneOf (0 ∷ 2 ∷ 3 ∷ []) (tagOf the-type u) → PartOf r list (spanInFirst (lying (placeOf u))) → At (lying (placeOf u))
         go (U.First a) k h = h
         go (U.Second a) k h = absurd (⊎-elim (λ h. omega arith) (⊎-elim (λ h. omega arith) (λ h. omega arith)) k)
         go U.Past k h = h

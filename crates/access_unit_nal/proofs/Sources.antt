@@ -1,4 +1,4 @@
--- Unit k of an access unit that was measured: among those that lead, in the list, behind it, or past the last.
+-- Unit k of an access unit that was measured: among those that lead, in the list, after it, or past the last.
 use Prim.Native.Nat.{ℕ, zero, suc, _+_, _-_, _≤_, _<_}
 use mathlib.Core.Path.{_≡_, refl, sym, ap, _∙_}
 use mathlib.Core.List.{List, [], _∷_, _++_, map}
@@ -7,12 +7,12 @@ use mathlib.Core.Logic.{⊎-elim}
 use native.Mathlib.Omega.{arith}
 use lib.ListN.{length, getD, length-append, length-map, List·getD-append}
 use lib.Seq.{getD-append-add}
-use Rattle.error.specs.Outcome.{Outcome, accept, refuse}
+use Rattle.parse.specs.Outcome.{Outcome, accept, refuse}
 use Rattle.boxes.specs.Parts.{nowhere}
 use Rattle.boxes.specs.declared.Span.{Span}
 use Rattle.access_unit.specs.AccessUnit.{leading, following, kept, Source, ofList, ofItem}
-use Rattle.access_unit.specs.Inside.{Gathered, gather, inOrder, sources, Walks, keptLeft}
-use Rattle.access_unit_nal.specs.Inside.{HasKept, KeptNumber}
+use Rattle.access_unit.specs.inner.Gathered.{Gathered, gather, inOrder, sources, Walks, keptLeft}
+use Rattle.access_unit_nal.specs.inner.Kept.{HasKept, KeptNumber}
 use Rattle.access_unit.proofs.KeptUnits.{leads-and-follows}
 use Rattle.access_unit.proofs.Sums.{leading-le}
 use Rattle.boxes.specs.Walk.{found}
@@ -33,7 +33,7 @@ module _ (item : List ℕ) (g : Gathered) (k : ℕ) where
   kept-length : length (leading item (g .kept)) + length (following item (g .kept)) ≡ length (g .kept)
   kept-length = sym (length-append (leading item (g .kept)) (following item (g .kept))) ∙ ap length (leads-and-follows item (g .kept))
 
-  -- among those that lead, in the list, behind it, and past the last
+  -- among those that lead, in the list, after it, and past the last
   pub source-leading : k < length (leading item (g .kept)) → ofItem (getD (g .kept) k nowhere) ≡ getD (inOrder item g) k (ofList nowhere)
   unfolding inOrder
   source-leading h =
@@ -45,7 +45,7 @@ module _ (item : List ℕ) (g : Gathered) (k : ℕ) where
       ∙ getD-mapped ofItem (leading item (g .kept)) k (ofList nowhere) h
       ∙ ap ofItem (sym e))
 
-  module _ (behind : length (leading item (g .kept)) ≤ k) where
+  module _ (after : length (leading item (g .kept)) ≤ k) where
     past-leading : getD (inOrder item g) k (ofList nowhere)
         ≡ getD (map ofList (g .units) ++ map ofItem (following item (g .kept))) (k - length (leading item (g .kept))) (ofList nowhere)
     unfolding inOrder
@@ -131,7 +131,7 @@ module _ (size : ℕ) (target : Option ℕ) (list item : List ℕ) (k : ℕ) whe
         let l = lead-kept in
         in-order (omega arith) (ofItem a) (ap ofItem (e ∙ ap (λ (o : Outcome (List Span)). found o k) found-all) ∙ source-leading item (n .parts) k (omega arith))
 
-    module _ (behind : v .lead ≤ k) where
+    module _ (after : v .lead ≤ k) where
       pub at-listed : k - v .lead < v .listed → placeFound inFirst (listUnits list) (k - v .lead) ≡ unitPlace
       at-listed h =
           let x = lead-of in

@@ -1,4 +1,4 @@
-// One unit of the access unit of a still: where it lies in record or item, and that part handed back.
+// One unit of the access unit of a still: where it lies in record or item, and that part returned.
 pub mod source;
 
 use access_unit::Target;

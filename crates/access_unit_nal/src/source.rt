@@ -1,10 +1,10 @@
-// For this crate's calls: where unit k of an access unit lies.
+// Internal: where unit k of an access unit lies.
 // As in `split`, a label leaves a walk over units.
 use access_unit::Target;
 use access_unit::kept;
 use access_unit::sizes;
-use access_unit::sizes::Measured;
 use access_unit::sizes::Sizes;
+use access_unit::sizes::SizesAnswer;
 use boxes::Span;
 use boxes::UnitPlace;
 use boxes::place;
@@ -15,11 +15,11 @@ ghost use Prim.Native.Nat.{_+_, _≤_};
 ghost use lib.ListN.{length};
 ghost use Rattle.boxes.specs.Walk.{found};
 ghost use Rattle.boxes.specs.Places.{placeOf, placeFound, PlaceFits};
-ghost use Rattle.split.specs.Answers.{Onward};
 ghost use Rattle.access_unit.specs.Answers.{tolsOf};
-ghost use Rattle.access_unit.specs.Inside.{Walks, keptLeft, sources};
+ghost use Rattle.access_unit.specs.inner.Gathered.{Walks, keptLeft, sources};
 ghost use Rattle.access_unit_nal.specs.Answers.{sourcePlace};
-ghost use Rattle.access_unit_nal.specs.Inside.{Numbered, keptStepped, HasKept};
+ghost use Rattle.access_unit_nal.specs.inner.Kept.{Numbered, keptStepped, HasKept};
+ghost use Rattle.split.specs.inner.Walk.{Onward};
 
 // A unit by its number: among the kept ones of the item, among the list's, or past the last.
 pub enum UnitNumber {
@@ -35,9 +35,9 @@ fn number_of(sizes: Sizes, k: usize) -> UnitNumber
     if k < sizes.lead {
         return UnitNumber::Kept(k);
     }
-    let behind = k - sizes.lead;
-    if behind < sizes.listed {
-        return UnitNumber::Listed(behind);
+    let after = k - sizes.lead;
+    if after < sizes.listed {
+        return UnitNumber::Listed(after);
     }
     let number = k - sizes.listed;
     if number < sizes.kept {
@@ -91,7 +91,7 @@ pub fn source_at(list: &[u8], item: &[u8], length_size: u8, target: Target, k: u
 {
     let measured = sizes::measure(list, item, length_size, target);
     match measured {
-        Measured::Sized(sizes) => match number_of(sizes, k) {
+        SizesAnswer::Sized(sizes) => match number_of(sizes, k) {
             UnitNumber::Kept(n) => {
                 let unit = kept_unit(item, place::wide(length_size), target, n);
                 UnitPlace::Second(unit)
@@ -99,6 +99,6 @@ pub fn source_at(list: &[u8], item: &[u8], length_size: u8, target: Target, k: u
             UnitNumber::Listed(n) => unit_list::nal_unit_at(list, n),
             UnitNumber::Past => UnitPlace::Past,
         },
-        Measured::Refused(e) => UnitPlace::Refused(e),
+        SizesAnswer::Refused(e) => UnitPlace::Refused(e),
     }
 }

@@ -1,7 +1,7 @@
 -- The worked bytes of this crate, computed by the definitions.
 use mathlib.Core.Path.{_≡_, refl}
 use mathlib.Core.List.{[], _∷_}
-use Rattle.error.specs.Parse.{value, refused}
+use Rattle.parse.specs.Parse.{value, refused}
 use Rattle.bit_reader.specs.Bits.{bitsAt, u, zerosBeforeOne, ue}
 
 pub ue-largest : ue (0x00 ∷ 0x00 ∷ 0x00 ∷ 0x01 ∷ 0xFF ∷ 0xFF ∷ 0xFF ∷ 0xFE ∷ []) 0 ≡ value 4294967294 63

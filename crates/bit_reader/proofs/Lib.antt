@@ -1,10 +1,8 @@
-pub mod Choice
 pub mod Numbers
-pub mod Binds
 pub mod Chain
-pub mod Local
 pub mod Examples
 pub mod Readers
 pub mod ReaderCalls
 pub mod ReadsOfBits
 pub mod Walking
+pub mod Looks

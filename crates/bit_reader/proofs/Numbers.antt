@@ -9,8 +9,8 @@ use lib.Dec.{leb, lit<}
 use lib.Pow.{pow-mono, pow-pos}
 use lib.ListN.{length}
 use borrow.Author.Tests.{leb-true, eq-eqb, ne-eqb}
-use Rattle.error.specs.Logic.{if_then_else_}
-use Rattle.error.specs.Parse.{Parsed, value, refused, bind, give}
+use Rattle.parse.specs.Logic.{if_then_else_}
+use Rattle.parse.specs.Parse.{Parsed, value, refused, bind, give}
 use Rattle.bit_reader.specs.Bits.{bitAt, bitsAt, u, isSet, skip, align, zerosBeforeOne, ue}
 
 -- ---- u(n)
@@ -98,7 +98,7 @@ pub zeros-none : (s : List ℕ) (z f p : ℕ) → f ≡ 0 → zerosBeforeOne z f
 unfolding zerosBeforeOne
 zeros-none s z f p e = rw e
 
--- fewer zeros than the fuel; the position is behind them and the 1
+-- fewer zeros than the fuel; the position is after them and the 1
 pub record Counted (s : List ℕ) (z f p y q : ℕ) : Type 0 where
   pub few : y < z + f
   pub next : q + z ≡ p + y + 1

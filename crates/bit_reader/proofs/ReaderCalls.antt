@@ -30,7 +30,7 @@ use denote.Triple.Spec.{tripleOf}
 use denote.Triple.Walked.{says}
 use denote.Triple.Clauses.{ensured, lasts}
 use Rattle.bit_reader.specs.Bits.{u, ue}
-use Rattle.bit_reader.specs.Reader.{skipping, Stepped, AlignedFrom}
+use Rattle.bit_reader.specs.inner.Reader.{skipping, Stepped, AlignedFrom}
 use Rattle.bit_reader.specs.declared.BitPosition.{BitPosition}
 use Rattle.bit_reader.specs.declared.reader.BitReader.{BitReader}
 use Rattle.bit_reader.specs.declared.reader.ReaderStep.{ReaderStep}

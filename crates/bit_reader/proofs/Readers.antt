@@ -31,9 +31,9 @@ use denote.Struct.Values.{Values}
 use denote.Triple.Statement.{Contract}
 use denote.Triple.Spec.{tripleOf}
 use denote.Triple.Clauses.{ensured, lasts}
-use Rattle.error.specs.Parse.{Parsed, Parser}
-use Rattle.bit_reader.specs.Answers.{parsed}
-use Rattle.bit_reader.specs.Reader.{placeBehind, Stepped}
+use Rattle.parse.specs.Parse.{Parsed, Parser}
+use Rattle.bit_reader.specs.inner.Answers.{parsed}
+use Rattle.bit_reader.specs.inner.Reader.{readerPlaceAfter, Stepped}
 use Rattle.bit_reader.specs.declared.BitsRead.{BitsRead}
 use Rattle.bit_reader.specs.declared.BitPosition.{BitPosition}
 use Rattle.bit_reader.specs.declared.reader.BitReader.{BitReader}
@@ -46,7 +46,7 @@ use Rattle.bit_reader.proofs.reader.BitReader as Reader
 use Rattle.bit_reader.proofs.reader.BitReader.Laws as Reader′
 use Rattle.bit_reader.proofs.reader.ReaderStep as Step
 use Rattle.bit_reader.proofs.reader.ReaderStep.Laws as Step′
-use Rattle.bit_reader.proofs.reader.behind as behind
+use Rattle.bit_reader.proofs.reader.after as after
 
 -- ---- machine values
 
@@ -97,12 +97,12 @@ movedTo d p = record { src = d .src; pos = p }
 abbrev pub stepTo : BitReader → BitsRead → BitPosition → ReaderStep
 stepTo d a p = record { answer = a; reader = movedTo d p }
 
--- ---- the contract of a step, from those of the read and of `behind`
+-- ---- the contract of a step, from those of the read and of `after`
 abbrev pub LeftAt : BitsRead → BitPosition → BitPosition → Type 0
-LeftAt a at p = p .0 ≡ placeBehind (parsed a) (at .0)
+LeftAt a at p = p .0 ≡ readerPlaceAfter (parsed a) (at .0)
 
 pub stepped : (X : Parser ℕ) (d : BitReader) (a : BitsRead) (p : BitPosition) → parsed a ≡ X (now (d .src)) (d .pos .0) → LeftAt a (d .pos) p → Stepped X d (stepTo d a p)
-stepped X d a p read left = record { answer = read; bytes = refl; place = left ∙ ap (λ (x : Parsed ℕ). placeBehind x (d .pos .0)) read }
+stepped X d a p read left = record { answer = read; bytes = refl; place = left ∙ ap (λ (x : Parsed ℕ). readerPlaceAfter x (d .pos .0)) read }
 
 -- ---- what is owned at a lifetime
 abbrev pub OwnReader : NamedLft → BitReader → Fml
@@ -168,19 +168,19 @@ module _ {M : Type 1} (𝓤 : URA M) (H : Heap 𝓤) (A : Atoms 𝓤) (W : Given
       use1 W (‵ (OwnReader ℓ (t .reader)) ⊛ ‵ (rest (Step.the-type ℓ .parts) (Step′.the-laws ℓ) 1 (t .answer, (t .reader, tt)))) (own-out 𝓤 H A W (Step.the-type ℓ .parts) (Step′.the-laws ℓ) 1 (t .answer, (t .reader, tt))) $ split ! $
       move ! (1 ∷ []) $ drop ! $ done !)
 
--- ---- the call of `behind`, whose parameters are plain
+-- ---- the call of `after`, whose parameters are plain
 module _ {M : Type 1} (𝓤 : URA M) (H : Heap 𝓤) (A : Atoms 𝓤) (mem : Memory → SProp 𝓤) (run : Routine → Fun 𝓤) where
-  abbrev pub Behind : Contract 𝓤
-  Behind = tripleOf 𝓤 H A behind.signature (behind.spec 𝓤 H A mem run)
+  abbrev pub After : Contract 𝓤
+  After = tripleOf 𝓤 H A after.signature (after.spec 𝓤 H A mem run)
 
   module _ (a : BitsRead) (at : BitPosition) where
-    abbrev pub to-behind : Behind .Ghost
-    to-behind = ((tt, tt, tt, (a, (at, tt)), (answerVal a ∷ [], (Position′.lowered at ∷ [], tt))), tt)
+    abbrev pub to-after : After .Ghost
+    to-after = ((tt, tt, tt, (a, (at, tt)), (answerVal a ∷ [], (Position′.lowered at ∷ [], tt))), tt)
 
-    pub asks-behind : Given 𝓤 H A → AnswerIs a → PositionIs at → ent 𝓤 (emp 𝓤) (Behind .pre to-behind)
-    asks-behind W is is′ =
+    pub asks-after : Given 𝓤 H A → AnswerIs a → PositionIs at → ent 𝓤 (emp 𝓤) (After .pre to-after)
+    asks-after W is is′ =
         qed W [] ∵ nothing ! $ owned ! Position.the-row (Is Position.the-row) (LL.makes Position.the-type Position′.the-plain 𝓤 H A) at _ is′ $ fjoin ! $
         owned ! Answer.the-row (Is Answer.the-row) (EL.makes Answer.the-type Answer′.the-plain 𝓤 H A) a _ is $ fjoin ! $ nothing ! $ join ! $ frame ! $ done !
 
-    pub behind-says : (p : BitPosition) → ent 𝓤 (ensured 𝓤 H A behind.ended (behind.clauses 𝓤 H A mem run) tt (a, (at, tt)) tt p) (fact 𝓤 (LeftAt a at p))
-    behind-says p = exE 𝓤 _ (λ ws. snd∗ 𝓤 (sem 𝓤 H A (lasts behind.ended tt (a, (at, tt)) ws)) (fact 𝓤 (LeftAt a at p)))
+    pub after-says : (p : BitPosition) → ent 𝓤 (ensured 𝓤 H A after.ended (after.clauses 𝓤 H A mem run) tt (a, (at, tt)) tt p) (fact 𝓤 (LeftAt a at p))
+    after-says p = exE 𝓤 _ (λ ws. snd∗ 𝓤 (sem 𝓤 H A (lasts after.ended tt (a, (at, tt)) ws)) (fact 𝓤 (LeftAt a at p)))

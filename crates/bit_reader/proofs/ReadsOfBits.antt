@@ -1,4 +1,4 @@
--- A function of the bit reader that takes n bits: it takes the reader apart, calls another on slice, position and n, finds its next place by `behind`,
+-- A function of the bit reader that takes n bits: it takes the reader apart, calls another on slice, position and n, finds its next place by `after`,
 -- and puts the step together. The walk of its MIR is the same whatever it calls: X is what that reads, R what it asks of n and the bytes.
 -- What the reader owns is kept for the exit and, moved on, for the step.
 use mathlib.Core.Path.{_≡_, refl}
@@ -34,9 +34,9 @@ use denote.Triple.Spec.{Meets, tripleOf}
 use denote.Triple.Walked.{says, needs, Stays, stay-none, walkOf, goes-none, Walks, ends-at, walked, walk-meets}
 use denote.Exit.{yes}
 use denote.Triple.Clauses.{Clauses, ensured, lasts, closing}
-use Rattle.error.specs.Parse.{Parser}
-use Rattle.bit_reader.specs.Answers.{parsed}
-use Rattle.bit_reader.specs.Reader.{Stepped}
+use Rattle.parse.specs.Parse.{Parser}
+use Rattle.bit_reader.specs.inner.Answers.{parsed}
+use Rattle.bit_reader.specs.inner.Reader.{Stepped}
 use Rattle.bit_reader.specs.declared.BitsRead.{BitsRead}
 use Rattle.bit_reader.specs.declared.BitPosition.{BitPosition}
 use Rattle.bit_reader.specs.declared.reader.BitReader.{BitReader}
@@ -48,11 +48,11 @@ use Rattle.bit_reader.proofs.reader.BitReader as Reader
 use Rattle.bit_reader.proofs.reader.BitReader.Laws as Reader′
 use Rattle.bit_reader.proofs.reader.ReaderStep.Laws as Step′
 use Rattle.bit_reader.proofs.Walking.{gave, leave}
-use Rattle.bit_reader.proofs.Readers.{sliceOf, answerVal, stepVal, AnswerIs, PositionIs, answer-val, position-val, lifetime, Row, stepTo, LeftAt, stepped, OwnReader, OwnSlice, answer-typed, position-typed, lends, steps, step-typed, Behind, to-behind, asks-behind, behind-says}
+use Rattle.bit_reader.proofs.Readers.{sliceOf, answerVal, stepVal, AnswerIs, PositionIs, answer-val, position-val, lifetime, Row, stepTo, LeftAt, stepped, OwnReader, OwnSlice, answer-typed, position-typed, lends, steps, step-typed, After, to-after, asks-after, after-says}
 use Rattle.bit_reader.proofs.bits.read_bits as read
-use Rattle.bit_reader.proofs.reader.behind.Symbol.{name as #behind}
+use Rattle.bit_reader.proofs.reader.after.Symbol.{name as #after}
 use Rattle.bit_reader.proofs.reader.BitReader.u as f
-use Rattle.bit_reader.proofs.reader.behind as behind
+use Rattle.bit_reader.proofs.reader.after as after
 
 -- its MIR: the slice in _3, the position in _4, the answer in _5, the next position in _6, the reader there in _7
 abbrev pub function : Name → Fn
@@ -66,7 +66,7 @@ function callee = record {
   body = seq (assign (place 3 []) (rvOpd (copy (place 1 (field 0 ∷ [])))))
       (seq (assign (place 4 []) (rvOpd (copy (place 1 (field 1 ∷ [])))))
       (seq (call callee (copy (place 3 []) ∷ copy (place 4 []) ∷ copy (place 2 []) ∷ []) (place 5 []))
-      (seq (call #behind (copy (place 5 []) ∷ copy (place 4 []) ∷ []) (place 6 []))
+      (seq (call #after (copy (place 5 []) ∷ copy (place 4 []) ∷ []) (place 6 []))
       (seq (assign (place 7 []) (aggregate (copy (place 3 []) ∷ copy (place 6 []) ∷ [])))
       (seq (assign (place 0 []) (aggregate (copy (place 5 []) ∷ copy (place 7 []) ∷ []))) return)))));
 }
@@ -94,7 +94,7 @@ module _ (X : ℕ → Parser ℕ) (R : ℕ → List ℕ → Type 0) (#read : Nam
     abbrev pub Read : Contract 𝓤
     Read = tripleOf 𝓤 H A read.signature (closing 𝓤 H A read.ended (readClauses 𝓤))
 
-    module _ (𝓣 : Tables 𝓤 H) (known-read : Triple 𝓤 (𝓣 .C #read) Read) (known-behind : Triple 𝓤 (𝓣 .C #behind) (Behind 𝓤 H A mem run)) where
+    module _ (𝓣 : Tables 𝓤 H) (known-read : Triple 𝓤 (𝓣 .C #read) Read) (known-after : Triple 𝓤 (𝓣 .C #after) (After 𝓤 H A mem run)) where
       module _ (κ : Lft) (q : Share) (d : BitReader) (n : ℕ) (n-fits : n < 2 ^ 64) (pos-is : PositionIs (d .pos)) (ok : R n (d .src .now)) where
         abbrev ℓ : NamedLft
         ℓ = lifetime (κ, tt)
@@ -156,8 +156,8 @@ module _ (X : ℕ → Parser ℕ) (R : ℕ → List ℕ → Type 0) (#read : Nam
             -- [the answer; the token; what the reader owns; _7; …]
             land ! (from ! (stop !)) (init ! 7 refl (answer-typed 𝓤 H A W a _ is)) $
             -- next
-            use0 W (raw (Behind 𝓤 H A mem run .pre (to-behind 𝓤 H A mem run a (d .pos)))) (asks-behind 𝓤 H A mem run a (d .pos) W is pos-is) $
-            calls-at ! (fmOf 𝓤 H (W .laws) 𝓣) (Behind 𝓤 H A mem run) known-behind (to-behind 𝓤 H A mem run a (d .pos)) (and-then ! (load ! (from ! (stop !)) (look ! 8 refl)) (and-then ! (load ! (from ! (stop !)) (look ! 10 refl)) (no-more !))) (λ w. gave ! (‵ ftrue) Position.the-row Position′.lowered position-val _ _ (behind-says 𝓤 H A mem run a (d .pos)) (id⊢ 𝓤 _) (λ p left is′.
+            use0 W (raw (After 𝓤 H A mem run .pre (to-after 𝓤 H A mem run a (d .pos)))) (asks-after 𝓤 H A mem run a (d .pos) W is pos-is) $
+            calls-at ! (fmOf 𝓤 H (W .laws) 𝓣) (After 𝓤 H A mem run) known-after (to-after 𝓤 H A mem run a (d .pos)) (and-then ! (load ! (from ! (stop !)) (look ! 8 refl)) (and-then ! (load ! (from ! (stop !)) (look ! 10 refl)) (no-more !))) (λ w. gave ! (‵ ftrue) Position.the-row Position′.lowered position-val _ _ (after-says 𝓤 H A mem run a (d .pos)) (id⊢ 𝓤 _) (λ p left is′.
             -- [the position; true; the answer; the token; what the reader owns; _7; …]
             land ! (from ! (stop !)) (init ! 7 refl (position-typed 𝓤 H A W p _ is′)) $
             -- the reader at its next place, and the step

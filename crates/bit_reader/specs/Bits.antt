@@ -4,8 +4,8 @@ use mathlib.Core.List.{List}
 use Prim.Native.Nat.{ℕ, zero, suc, _+_, _-_, _*_, _/_, _%_, _^_}
 use lib.Dec.{leb, eqb}
 use lib.ListN.{length, getD}
-use Rattle.error.specs.Logic.{if_then_else_}
-use Rattle.error.specs.Parse.{value, refused, Parser, _>>=_, _>>_, give, refusing}
+use Rattle.parse.specs.Logic.{if_then_else_}
+use Rattle.parse.specs.Parse.{value, refused, Parser, _>>=_, _>>_, give, refusing}
 
 -- bit p of the bytes
 abbrev pub bitAt : List ℕ → ℕ → ℕ

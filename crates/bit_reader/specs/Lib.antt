@@ -1,3 +1,2 @@
 pub mod Bits
-pub mod Answers
-pub mod Reader
+pub mod inner

@@ -1,4 +1,4 @@
-// For the crates further down: bits at a position, where the bytes are few enough that their bits can be counted.
+// Internal: bits at a position, where the bytes are few enough that their bits can be counted.
 use super::BitPosition;
 use super::BitsRead;
 use super::ByteOffset;
@@ -8,11 +8,11 @@ ghost use mathlib.Core.List.{List};
 ghost use Prim.Native.Nat.{ℕ, _+_, _-_, _*_, _%_, _≤_, _<_, _^_};
 ghost use lib.Dec.{leb};
 ghost use lib.ListN.{length, getD};
-ghost use Rattle.error.specs.Parse.{value, bind};
+ghost use Rattle.parse.specs.Parse.{value, bind};
 ghost use Rattle.bit_reader.specs.Bits.{bitAt, u, skip, align, zerosBeforeOne, ue};
-ghost use Rattle.bit_reader.specs.Answers.{parsed, refusalOf};
+ghost use Rattle.bit_reader.specs.inner.Answers.{parsed, refusalOf};
 
-// The position `n` bits behind a position.
+// The position `n` bits after a position.
 pub fn on(at: BitPosition, n: usize) -> BitPosition
     requires { ⌜ at .0 + n < 2 ^ 64 ⌝ }
     ensures { λ r. ⌜ r .0 ≡ at .0 + n ⌝ }
@@ -70,7 +70,7 @@ pub fn skip_bits(s: &[u8], at: BitPosition, n: usize) -> BitsRead
     BitsRead::Value(0, on(at, n))
 }
 
-// The zeros before the next 1, at most 31, and the position behind the 1. Refusals: 11, 12.
+// The zeros before the next 1, at most 31, and the position after the 1. Refusals: 11, 12.
 fn zeros_before_one(s: &[u8], at: BitPosition) -> BitsRead
     requires { ⌜ length (now s) ≤ 2 ^ 30 ⌝ }
     ensures { λ r. ⌜ parsed r ≡ zerosBeforeOne 0 32 (now (s .entry)) (at .0) ⌝ }
@@ -97,10 +97,10 @@ pub fn exp_golomb(s: &[u8], at: BitPosition) -> BitsRead
     ensures { λ r. ⌜ parsed r ≡ ue (now (s .entry)) (at .0) ⌝ }
 {
     let zeros = zeros_before_one(s, at);
-    let BitsRead::Value(z, behind) = zeros else {
+    let BitsRead::Value(z, after) = zeros else {
         return zeros;
     };
-    let low = read_bits(s, behind, z as usize);
+    let low = read_bits(s, after, z as usize);
     let BitsRead::Value(v, next) = low else {
         return low;
     };
@@ -131,8 +131,8 @@ pub fn bytes_between(from: ByteOffset, to: ByteOffset) -> usize
     to.0 - from.0
 }
 
-// The byte `k` bytes behind an offset.
-pub fn byte_behind(s: &[u8], from: ByteOffset, k: usize) -> u8
+// The byte `k` bytes after an offset.
+pub fn byte_after(s: &[u8], from: ByteOffset, k: usize) -> u8
     requires { ⌜ from .0 + k < length (now s) ⌝ }
     ensures { λ r. ⌜ r ≡ getD (now (s .entry)) (from .0 + k) 0 ⌝ }
 {

@@ -1,7 +1,7 @@
-// For the crates further down: bits read from an RBSP.
-pub mod behind;
+// Internal: bits read from an RBSP.
 pub mod bits;
 pub mod reader;
+pub mod then;
 
 use error::Refusal;
 
@@ -14,7 +14,7 @@ pub const FIRST_BIT: BitPosition = BitPosition(0);
 // A count of bytes. It and a bit position are different counts, converted only at whole bytes.
 pub struct ByteOffset(pub usize);
 
-// A number of bits and the position behind them, or a refusal.
+// A number of bits and the position after them, or a refusal.
 pub enum BitsRead {
     Value(u32, BitPosition),
     Refused(Refusal),

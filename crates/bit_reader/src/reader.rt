@@ -1,4 +1,4 @@
-// For the crates further down: the bit reader, which borrows an RBSP and keeps its position. A read takes it apart and calls one of `bits`.
+// Internal: the bit reader, which borrows an RBSP and keeps its position. A read takes it apart and calls one of `bits`.
 use super::BitPosition;
 use super::BitsRead;
 use super::FIRST_BIT;
@@ -7,8 +7,8 @@ ghost use mathlib.Core.Path.{_≡_};
 ghost use Prim.Native.Nat.{_≤_, _^_};
 ghost use lib.ListN.{length};
 ghost use Rattle.bit_reader.specs.Bits.{u, ue};
-ghost use Rattle.bit_reader.specs.Answers.{parsed};
-ghost use Rattle.bit_reader.specs.Reader.{skipping, placeBehind, Stepped, AlignedFrom};
+ghost use Rattle.bit_reader.specs.inner.Answers.{parsed};
+ghost use Rattle.bit_reader.specs.inner.Reader.{skipping, readerPlaceAfter, Stepped, AlignedFrom};
 
 // An RBSP, and the position in it of the next bit.
 pub struct BitReader<'a> {
@@ -22,9 +22,9 @@ pub struct ReaderStep<'a> {
     pub reader: BitReader<'a>,
 }
 
-// Where a read leaves the reader: behind the value, or on a refusal where it was.
-pub fn behind(answer: BitsRead, at: BitPosition) -> BitPosition
-    ensures { λ q. ⌜ q .0 ≡ placeBehind (parsed answer) (at .0) ⌝ }
+// Where a read leaves the reader: after the value, or on a refusal where it was.
+pub fn after(answer: BitsRead, at: BitPosition) -> BitPosition
+    ensures { λ q. ⌜ q .0 ≡ readerPlaceAfter (parsed answer) (at .0) ⌝ }
 {
     match answer {
         BitsRead::Value(_, next) => next,
@@ -58,7 +58,7 @@ impl<'a> BitReader<'a> {
         let src = self.src;
         let pos = self.pos;
         let answer = bits::read_bits(src, pos, n);
-        let next = behind(answer, pos);
+        let next = after(answer, pos);
         ReaderStep {
             answer,
             reader: BitReader { src, pos: next },
@@ -73,7 +73,7 @@ impl<'a> BitReader<'a> {
         let src = self.src;
         let pos = self.pos;
         let answer = bits::exp_golomb(src, pos);
-        let next = behind(answer, pos);
+        let next = after(answer, pos);
         ReaderStep {
             answer,
             reader: BitReader { src, pos: next },
@@ -88,7 +88,7 @@ impl<'a> BitReader<'a> {
         let src = self.src;
         let pos = self.pos;
         let answer = bits::skip_bits(src, pos, n);
-        let next = behind(answer, pos);
+        let next = after(answer, pos);
         ReaderStep {
             answer,
             reader: BitReader { src, pos: next },

@@ -7,14 +7,14 @@ use native.Mathlib.Decide.{decLe}
 use lib.ListN.{length, length-append}
 use lib.Seq.{take-at, drop-at, drop-append-add}
 use borrow.Author.Tests.{le-leb, lt-leb}
-use Rattle.error.specs.Outcome.{accept, refuse}
-use Rattle.error.specs.Parse.{Parsed, value, refused}
+use Rattle.parse.specs.Outcome.{accept, refuse}
+use Rattle.parse.specs.Parse.{Parsed, value, refused}
 use Rattle.boxes.specs.declared.Span.{Span}
 use Rattle.boxes.specs.Bytes.{be, toBe, uint, bytes, chunk, toChunk}
 use Rattle.boxes.specs.Parts.{held}
 use Rattle.boxes.specs.Answers.{fieldAt}
 use Rattle.boxes.proofs.Numbers.{be-toBe-at, length-toBe}
-use Rattle.boxes.proofs.Many.{Advances}
+use Rattle.parse.proofs.Many.{Advances}
 
 pub uint-there : (w : ℕ) (s : List ℕ) (p : ℕ) → p + w ≤ length s → uint w s p ≡ value (be s p w) (p + w)
 unfolding uint
@@ -76,7 +76,7 @@ module _ (w : ℕ) (s : List ℕ) (p : ℕ) where
 pub chunk-advances : (w : ℕ) (s : List ℕ) → 1 ≤ w → Advances (chunk w) s
 chunk-advances w s h p a q e = let c = chunk-read w s p a q e in omega arith
 
--- a chunk that was written, behind other bytes and in front of others: its span, and what it holds
+-- a chunk that was written, after other bytes and in front of others: its span, and what it holds
 module _ (w : ℕ) (s u t : List ℕ) (fits : length u < 256 ^ w) where
   pub chunk-toChunk : chunk w (s ++ (toChunk w u ++ t)) (length s) ≡ value (record { start = length s + w; len = length u }) (length s + w + length u)
   unfolding toChunk

@@ -40,8 +40,8 @@ be-take s e p w h = be-same (take e s) s p p w (λ i k. getD-take e s (p + i) 0 
 pub be-append : (s t : List ℕ) (p w : ℕ) → p + w ≤ length s → be (s ++ t) p w ≡ be s p w
 be-append s t p w h = be-same (s ++ t) s p p w (λ i k. List·getD-append s t 0 (p + i) (omega arith))
 
-pub be-behind : (s t : List ℕ) (p w : ℕ) → be (s ++ t) (length s + p) w ≡ be t p w
-be-behind s t p w =
+pub be-after : (s t : List ℕ) (p w : ℕ) → be (s ++ t) (length s + p) w ≡ be t p w
+be-after s t p w =
     be-same (s ++ t) t (length s + p) p w
     (λ i k. let e : length s + p + i ≡ length s + (p + i) = omega arith in rw e (getD-append-add s t (p + i) 0))
 
@@ -50,7 +50,7 @@ be-drop s d p w =
     be-same (drop d s) s p (d + p) w
     (λ i k. let e : d + p + i ≡ d + (p + i) = omega arith in rw e (getD-drop d s (p + i) 0))
 
--- written, then read: at the front, and behind other bytes
+-- written, then read: at the front, and after other bytes
 pub be-toBe : (w n : ℕ) (t : List ℕ) → n < 256 ^ w → be (toBe w n ++ t) 0 w ≡ n
 unfolding be toBe
 be-toBe zero n t h = omega arith
@@ -63,7 +63,7 @@ be-toBe (suc w) n t h =
 pub be-toBe-at : (s : List ℕ) (w n : ℕ) (t : List ℕ) → n < 256 ^ w → be (s ++ (toBe w n ++ t)) (length s) w ≡ n
 be-toBe-at s w n t h =
     let e : length s ≡ length s + 0 = omega arith in
-    rw e (be-behind s (toBe w n ++ t) 0 w ∙ be-toBe w n t h)
+    rw e (be-after s (toBe w n ++ t) 0 w ∙ be-toBe w n t h)
 
 -- w bytes make a number below 256 ^ w
 pub be-below : (s : List ℕ) (p w : ℕ) → ((i : ℕ) → getD s i 0 < 256) → be s p w < 256 ^ w

@@ -5,7 +5,7 @@ use mathlib.Core.List.{List}
 use lib.ListN.{length}
 use lib.Seq.{sets}
 use borrow.Author.Tests.{le-leb, lt-leb}
-use Rattle.error.specs.Outcome.{Outcome, accept, refuse, lentOutput, counted}
+use Rattle.parse.specs.Outcome.{Outcome, accept, refuse, lentOutput, counted}
 use Rattle.boxes.proofs.Sets.{sets-front}
 
 -- a value beside the bytes

@@ -1,4 +1,4 @@
--- Laws of the place of unit k: by the count and the one found, and of the part that is handed back for it.
+-- Laws of the place of unit k: by the count and the one found, and of the part that is returned for it.
 use Prim.Native.Nat.{ℕ, zero, suc, _-_, _≤_, _<_}
 use mathlib.Core.Path.{_≡_, refl, sym, ap, _∙_}
 use mathlib.Core.List.{List, [], _∷_, map}
@@ -8,14 +8,15 @@ use native.Mathlib.Omega.{arith}
 use lib.ListN.{length, getD}
 use types.Run.{OneOf}
 use denote.Enum.Declared.{tagOf}
-use Rattle.error.specs.Outcome.{Outcome, accept, refuse}
+use Rattle.parse.specs.Outcome.{Outcome, accept, refuse}
 use Rattle.boxes.specs.Parts.{nowhere}
 use Rattle.boxes.specs.Walk.{countFound, found}
-use Rattle.boxes.specs.Places.{Place, inFirst, placeOf, nth, placeFound, PlaceFits, lying, firstOf}
+use Rattle.boxes.specs.Places.{Place, inFirst, placeOf, nth, placeFound, PlaceFits}
 use Rattle.boxes.specs.declared.Span.{Span}
 use Rattle.boxes.specs.declared.UnitPlace.{UnitPlace}
 use Rattle.boxes.specs.declared.UnitPlace.the-variants as U
 use Rattle.boxes.proofs.UnitPlace.{the-type}
+use Rattle.boxes.specs.inner.Places.{lying, spanInFirst}
 
 -- the one found as number k, d where there is none
 abbrev pub foundOr : {A : Type 0} → A → Outcome (List A) → ℕ → A
@@ -55,7 +56,7 @@ module _ {A : Type 0} (lies : A → Place) where
   place-past (accept xs) k n e h = let l : length xs ≡ n = cc in ap accept (nth-past xs k (omega arith))
   place-past (refuse m) k n e h = let z : _≡_ {A = ℕ} 0 1 = cc in absurd (omega arith)
 
-  -- the part that is handed back is at the one found
+  -- the part that is returned is at the one found
   module _ (d : A) (front : lies d ≡ inFirst nowhere) where
     nth-lying : (xs : List A) (k : ℕ) → lying (accept (nth (map lies xs) k)) ≡ lies (getD xs k d)
     unfolding nth
@@ -71,16 +72,16 @@ pub place-there : (o : Outcome (List Span)) (k n : ℕ) → countFound o ≡ acc
 place-there (accept xs) k n e h a f = let l : length xs ≡ n = cc in ap (λ (b : Span). accept (some (inFirst b))) f ∙ ap accept (nth-there inFirst nowhere xs k (omega arith))
 place-there (refuse m) k n e h a f = let z : _≡_ {A = ℕ} 0 1 = cc in absurd (omega arith)
 
--- a call that is lent one slice hands back the part of the one found
-found-lies : (o : Outcome (List Span)) (k : ℕ) → firstOf (lying (placeFound inFirst o k)) ≡ found o k
-found-lies (accept xs) k = ap firstOf (place-lies inFirst nowhere refl (accept xs) k)
+-- a call that is lent one slice returns the part of the one found
+found-lies : (o : Outcome (List Span)) (k : ℕ) → spanInFirst (lying (placeFound inFirst o k)) ≡ found o k
+found-lies (accept xs) k = ap spanInFirst (place-lies inFirst nowhere refl (accept xs) k)
 found-lies (refuse e) k = refl
 
-pub place-found : (r : UnitPlace) (o : Outcome (List Span)) (k : ℕ) → placeOf r ≡ placeFound inFirst o k → firstOf (lying (placeOf r)) ≡ found o k
-place-found r o k e = ap (λ (x : Outcome (Option Place)). firstOf (lying x)) e ∙ found-lies o k
+pub place-found : (r : UnitPlace) (o : Outcome (List Span)) (k : ℕ) → placeOf r ≡ placeFound inFirst o k → spanInFirst (lying (placeOf r)) ≡ found o k
+place-found r o k e = ap (λ (x : Outcome (Option Place)). spanInFirst (lying x)) e ∙ found-lies o k
 
 -- where no unit lies in the first slice
-pub not-first : (r : UnitPlace) → OneOf (1 ∷ 2 ∷ 3 ∷ []) (tagOf the-type r) → nowhere ≡ firstOf (lying (placeOf r))
+pub not-first : (r : UnitPlace) → OneOf (1 ∷ 2 ∷ 3 ∷ []) (tagOf the-type r) → nowhere ≡ spanInFirst (lying (placeOf r))
 not-first (U.First a) k = absurd (⊎-elim (λ h. omega arith) (⊎-elim (λ h. omega arith) (λ h. omega arith)) k)
 not-first (U.Second a) k = refl
 not-first U.Past k = refl

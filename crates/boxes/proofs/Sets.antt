@@ -1,4 +1,4 @@
--- Laws of `sets`, what a run of stores leaves: stores one behind the other, in another order, and from the front on.
+-- Laws of `sets`, what a run of stores leaves: stores one after the other, in another order, and from the front on.
 use Prim.Native.Nat.{ℕ, suc, _+_, _-_, _/_, _%_, _≤_, _<_}
 use mathlib.Core.Path.{_≡_, refl, sym, ap, _∙_}
 use mathlib.Core.List.{List, [], _∷_, _++_, append-nil, append-assoc}
@@ -10,13 +10,13 @@ use Rattle.boxes.specs.Bytes.{toBe}
 use Rattle.boxes.proofs.Numbers.{length-toBe}
 
 module _ {A : Type 0} where
-  -- one run behind another is one run
+  -- one run after another is one run
   pub sets-append : (d : List A) (i : ℕ) (xs ys : List A) → sets (sets d i xs) (i + length xs) ys ≡ sets d i (xs ++ ys)
   sets-append d i [] ys = ap (λ (j : ℕ). sets d j ys) (omega arith)
   sets-append d i (x ∷ xs) ys =
       ap (λ (j : ℕ). sets (sets (set d i x) (suc i) xs) j ys) (omega arith) ∙ sets-append (set d i x) (suc i) xs ys
 
-  -- a store behind a run may come before it
+  -- a store after a run may come before it
   pub set-before : (d : List A) (i j : ℕ) (a : A) (xs : List A) → i + length xs ≤ j → sets (set d j a) i xs ≡ set (sets d i xs) j a
   set-before d i j a [] h = refl
   set-before d i j a (x ∷ xs) h =
@@ -26,7 +26,7 @@ module _ {A : Type 0} where
   pub sets-last : (d : List A) (i : ℕ) (xs : List A) (a : A) → sets (set d (i + length xs) a) i xs ≡ sets d i (xs ++ (a ∷ []))
   sets-last d i xs a = set-before d i (i + length xs) a xs (omega arith) ∙ sets-append d i xs (a ∷ [])
 
-  -- from the front on: the run, and what stood behind it
+  -- from the front on: the run, and what followed it
   pub sets-front : (d xs : List A) → length xs ≤ length d → sets d 0 xs ≡ xs ++ drop (length xs) d
   sets-front d xs h =
       let e : 0 + length xs ≡ length xs = omega arith in
@@ -49,7 +49,7 @@ sets-by-block d s z b ys n i l e h f =
     let u : take n b ≡ s = ap (take n) t ∙ take-at s (drop (length s) z) n (sym l) in
     sets-copied d s ys i h (f ∙ ap (λ (x : List ℕ). take (length x) x ++ drop (length x) (take (length d - i) (drop i d))) u)
 
--- the next bytes of a source behind those that are stored
+-- the next bytes of a source after those that are stored
 pub sets-next : (d s : List ℕ) (i k n : ℕ) → k ≤ length s → sets (sets d i (take k s)) (i + k) (take n (drop k s)) ≡ sets d i (take (k + n) s)
 sets-next d s i k n h =
     let l : k ≡ length (take k s) = sym (length-take-le k s h) in

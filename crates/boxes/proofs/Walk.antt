@@ -8,11 +8,12 @@ use lib.Dec.{eqb}
 use lib.ListN.{length, getD, length-append, List·getD-append, List·getD-eq-default}
 use lib.Seq.{getD-at}
 use borrow.Author.Tests.{eq-eqb, ne-eqb}
-use Rattle.error.specs.Logic.{if_then_else_}
-use Rattle.error.specs.Outcome.{Outcome, accept, refuse}
+use Rattle.parse.specs.Logic.{if_then_else_}
+use Rattle.parse.specs.Outcome.{Outcome, accept, refuse}
 use Rattle.boxes.specs.Parts.{nowhere}
-use Rattle.boxes.specs.Walk.{more, countFound, found}
+use Rattle.boxes.specs.Walk.{countFound, found}
 use Rattle.boxes.specs.declared.Span.{Span}
+use Rattle.boxes.specs.inner.Walk.{more}
 
 -- a count with n counted before
 abbrev pub plus : ℕ → Outcome ℕ → Outcome ℕ
@@ -50,7 +51,7 @@ pub found-next : (a : Span) (o : Outcome (List Span)) (i : ℕ) → suc i < tota
 found-next a (accept xs) i h = (omega arith, refl)
 found-next a (refuse e) i h = absurd (omega arith)
 
--- ### a walk that keeps what it has passed: what is done, and what is left behind it
+-- ### a walk that keeps what it has passed: what is done, and what is left after it
 
 abbrev pub after : List Span → Outcome (List Span) → Outcome (List Span)
 after done (accept us) = accept (done ++ us)

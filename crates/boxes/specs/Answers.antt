@@ -1,14 +1,14 @@
 -- What the answers of this crate say.
 use Prim.Native.Nat.{ℕ}
 use mathlib.Core.List.{List}
-use Rattle.error.specs.Outcome.{Outcome, accept, refuse, lentInput}
-use Rattle.error.specs.Parse.{Parsed, value, refused}
+use Rattle.parse.specs.Outcome.{Outcome, accept, refuse, lentInput}
+use Rattle.parse.specs.Parse.{Parsed, value, refused}
 use Rattle.error.specs.Refusals.{numberOf}
 use Rattle.boxes.specs.Bytes.{uint}
 use Rattle.boxes.specs.declared.Field.{Field}
 use Rattle.boxes.specs.declared.Field.the-variants.{Value, Refused}
 
--- a field's number and the place behind it, or a refusal
+-- a field's number and the place after it, or a refusal
 abbrev pub fieldOf : Field → Outcome (ℕ × ℕ)
 fieldOf (Value v p) = accept (v, p)
 fieldOf (Refused e) = refuse (numberOf e)

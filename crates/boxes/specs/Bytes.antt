@@ -1,11 +1,12 @@
 -- Big-endian numbers of whole bytes, read from a place and written.
-use Prim.Native.Nat.{ℕ, zero, suc, _+_, _*_, _/_, _%_}
+use Prim.Native.Nat.{ℕ, zero, suc, _+_, _*_, _/_, _%_, _<_}
 use mathlib.Core.List.{List, [], _∷_, _++_}
-use lib.Dec.{leb}
+use lib.Dec.{leb, ltb, eqb}
 use lib.ListN.{length, getD, take}
-use Rattle.error.specs.Logic.{if_then_else_}
-use Rattle.error.specs.Parse.{value, refused, Parser, _>>=_, _>>_}
+use Rattle.parse.specs.Logic.{if_then_else_}
+use Rattle.parse.specs.Parse.{value, refused, Parser, _>>=_, _>>_}
 use Rattle.boxes.specs.declared.Span.{Span}
+use mathlib.Core.Bool.{Bool, _||_}
 
 -- the number of the w bytes from place p on, the first the highest
 unfoldable pub be : List ℕ → ℕ → ℕ → ℕ
@@ -38,3 +39,11 @@ toChunk w u = toBe w (length u) ++ u
 -- what P reads of the bytes of a span alone, whose places stay those of the whole
 unfoldable pub inside : {A : Type 0} → Span → Parser A → Parser A
 inside a P s p = P (take (a .start + a .len) s) (a .start)
+
+-- a prefix size outside 1 to 4
+abbrev pub outside : ℕ → Bool
+outside size = eqb size 0 || ltb 4 size
+
+-- a list of bytes
+abbrev pub AllBytes : List ℕ → Type 0
+AllBytes s = (i : ℕ) → getD s i 0 < 256

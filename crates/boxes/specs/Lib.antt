@@ -3,3 +3,4 @@ pub mod Parts
 pub mod Walk
 pub mod Places
 pub mod Answers
+pub mod inner

@@ -14,7 +14,7 @@ held s a = take (a .len) (drop (a .start) s)
 abbrev pub nowhere : Span
 nowhere = record { start = 0; len = 0 }
 
--- r is the part of s at a span: it holds those bytes, and lies in s's memory, so many bytes behind its first
+-- r is the part of s at a span: it holds those bytes, and lies in s's memory, so many bytes after its first
 pub record PartOf (r s : RefT (List ℕ)) (a : Span) : Type 0 where
   pub holds : r .now ≡ held (s .now) a
   pub lies : r .ptr ≡ (s .ptr .0, a .start + s .ptr .1)

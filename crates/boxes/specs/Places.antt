@@ -3,9 +3,8 @@ use Prim.Native.Nat.{ℕ, zero, suc, _+_, _≤_}
 use mathlib.Core.List.{List, [], _∷_, map}
 use mathlib.Core.Option.{Option, none, some}
 use lib.ListN.{length}
-use Rattle.error.specs.Outcome.{Outcome, accept, refuse}
+use Rattle.parse.specs.Outcome.{Outcome, accept, refuse}
 use Rattle.error.specs.Refusals.{numberOf}
-use Rattle.boxes.specs.Parts.{nowhere}
 use Rattle.boxes.specs.declared.Span.{Span}
 use Rattle.boxes.specs.declared.UnitPlace.{UnitPlace}
 use Rattle.boxes.specs.declared.UnitPlace.the-variants as U
@@ -39,14 +38,3 @@ PlaceFits s t (U.First a) = a .start + a .len ≤ length s
 PlaceFits s t (U.Second a) = a .start + a .len ≤ length t
 PlaceFits s t U.Past = Unit {0}
 PlaceFits s t (U.Refused e) = Unit {0}
-
--- the part that a call hands back for unit k: where there is none, the empty part at the front of the first slice
-abbrev pub lying : Outcome (Option Place) → Place
-lying (accept (some p)) = p
-lying (accept none) = inFirst nowhere
-lying (refuse e) = inFirst nowhere
-
--- its span in the first slice
-abbrev pub firstOf : Place → Span
-firstOf (inFirst a) = a
-firstOf (inSecond a) = nowhere

@@ -1,15 +1,10 @@
 -- Walks over the units of a list, an item or a stream: what is found, or the refusal.
 use Prim.Native.Nat.{ℕ}
-use mathlib.Core.List.{List, _∷_}
+use mathlib.Core.List.{List}
 use lib.ListN.{length, getD}
-use Rattle.error.specs.Outcome.{Outcome, accept, refuse}
+use Rattle.parse.specs.Outcome.{Outcome, accept, refuse}
 use Rattle.boxes.specs.Parts.{nowhere}
 use Rattle.boxes.specs.declared.Span.{Span}
-
--- a in front of what is left
-abbrev pub more : {A : Type 0} → A → Outcome (List A) → Outcome (List A)
-more a (accept xs) = accept (a ∷ xs)
-more a (refuse e) = refuse e
 
 -- how many are found, or the refusal
 abbrev pub countFound : {A : Type 0} → Outcome (List A) → Outcome ℕ

@@ -21,7 +21,7 @@ pub enum UnitPlace {
     Refused(Refusal),
 }
 
-// A field's number and the place behind it, or a refusal.
+// A field's number and the place after it, or a refusal.
 pub enum Field {
     Value(u32, usize),
     Refused(Refusal),

@@ -1,4 +1,4 @@
-// For the crates further down: bytes and numbers at a place that is known to be there, read and written.
+// Internal: bytes and numbers at a place that is known to be there, read and written.
 use super::Span;
 use super::UnitPlace;
 ghost use mathlib.Core.Path.{_≡_};
@@ -8,7 +8,8 @@ ghost use lib.ListN.{length, getD, set};
 ghost use lib.Seq.{sets};
 ghost use Rattle.boxes.specs.Bytes.{be, toBe};
 ghost use Rattle.boxes.specs.Parts.{PartOf};
-ghost use Rattle.boxes.specs.Places.{placeOf, lying, firstOf, PlaceFits};
+ghost use Rattle.boxes.specs.Places.{placeOf, PlaceFits};
+ghost use Rattle.boxes.specs.inner.Places.{lying, spanInFirst};
 
 // A byte as a number of its own width.
 pub fn wide(x: u8) -> usize
@@ -64,7 +65,7 @@ pub fn part(s: &[u8], a: Span) -> &[u8]
 // The part of the first slice where a unit lies; the empty part where none lies in it.
 pub fn part_at(s: &[u8], unit: UnitPlace) -> &[u8]
     requires { ⌜ PlaceFits (now s) [] unit ⌝ }
-    ensures { λ r. ⌜ PartOf r (s .entry) (firstOf (lying (placeOf unit))) ⌝ }
+    ensures { λ r. ⌜ PartOf r (s .entry) (spanInFirst (lying (placeOf unit))) ⌝ }
 {
     let UnitPlace::First(a) = unit else {
         let nowhere = Span { start: 0, len: 0 };

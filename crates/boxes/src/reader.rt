@@ -1,4 +1,4 @@
-// For this crate's calls: a field of lent bytes, which may not be there.
+// Internal: a field of lent bytes, which may not be there.
 use super::Field;
 use super::place;
 use error::LARGEST_INPUT;
@@ -19,6 +19,6 @@ pub fn uint_at(s: &[u8], at: usize, width: usize) -> Field
         return Field::Refused(Refusal::Truncated);
     }
     let value = place::number(s, at, width) as u32;
-    let behind = at + width;
-    Field::Value(value, behind)
+    let after = at + width;
+    Field::Value(value, after)
 }

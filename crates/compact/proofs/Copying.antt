@@ -1,22 +1,22 @@
--- Laws of a walk that stores the units it finds, one behind the other: what is stored and what is left make the whole.
+-- Laws of a walk that stores the units it finds, one after the other: what is stored and what is left make the whole.
 use Prim.Native.Nat.{ℕ, _+_, _≤_}
 use mathlib.Core.Path.{_≡_, refl, sym, ap, _∙_}
 use mathlib.Core.List.{List, [], _∷_}
 use native.Mathlib.Omega.{arith}
 use lib.ListN.{length, length-append}
 use lib.Seq.{sets, length-sets}
-use Rattle.error.specs.Outcome.{Outcome, accept, refuse}
+use Rattle.parse.specs.Outcome.{Outcome, accept, refuse}
 use Rattle.boxes.specs.Bytes.{toChunk}
 use Rattle.boxes.specs.Parts.{held}
-use Rattle.boxes.specs.Walk.{more}
 use Rattle.boxes.specs.declared.Span.{Span}
 use Rattle.boxes.proofs.Sets.{sets-append}
 use Rattle.unit_list.specs.UnitList.{encodeUnits}
 use Rattle.unit_list.proofs.Encode.{length-toChunk}
 use Rattle.unit_list.proofs.Accepted.{held-long}
-use Rattle.compact.specs.Units.{unitBytes, foundBytes, Copies}
+use Rattle.compact.specs.inner.Units.{unitBytes, foundUnitBytes, Copies}
+use Rattle.boxes.specs.inner.Walk.{more}
 
--- a unit inside s behind its length, alone and in front of others
+-- a unit inside s after its length, alone and in front of others
 module _ (w : ℕ) (s : List ℕ) (a : Span) (inside : a .start + a .len ≤ length s) where
   pub unit-room : length (toChunk w (held s a)) ≡ w + a .len
   unit-room = let l = held-long s a inside in length-toChunk w (held s a) ∙ rw l
@@ -25,8 +25,8 @@ module _ (w : ℕ) (s : List ℕ) (a : Span) (inside : a .start + a .len ≤ len
   unfolding encodeUnits
   room-more us = length-append (toChunk w (held s a)) (unitBytes w s us) ∙ rw unit-room
 
-pub copies-room : (w : ℕ) (s : List ℕ) (o : Outcome (List Span)) (out : List ℕ) (to : ℕ) → Copies w s o out to → to + length (foundBytes w s o) ≤ length out
-copies-room w s o out to h = let l = ap (λ (x : Outcome (List Span)). length (foundBytes w s x)) (h .found) in omega (arith, h .fits)
+pub copies-room : (w : ℕ) (s : List ℕ) (o : Outcome (List Span)) (out : List ℕ) (to : ℕ) → Copies w s o out to → to + length (foundUnitBytes w s o) ≤ length out
+copies-room w s o out to h = let l = ap (λ (x : Outcome (List Span)). length (foundUnitBytes w s x)) (h .found) in omega (arith, h .fits)
 
 -- the same in other output of that length
 pub copies-on : (w : ℕ) (s : List ℕ) (o : Outcome (List Span)) (out d : List ℕ) (to : ℕ) → Copies w s o out to → length d ≡ length out → Copies w s o d to
@@ -37,7 +37,7 @@ module _ (w : ℕ) (s out₀ : List ℕ) (to₀ : ℕ) (o₀ : Outcome (List Spa
   pub record Copying (o : Outcome (List Span)) (out : List ℕ) (to : ℕ) : Type 0 where
     pub copies : Copies w s o out to
     pub same : length out ≡ length out₀
-    pub whole : sets out to (foundBytes w s o) ≡ sets out₀ to₀ (foundBytes w s o₀)
+    pub whole : sets out to (foundUnitBytes w s o) ≡ sets out₀ to₀ (foundUnitBytes w s o₀)
 
   pub copying-start : Copies w s o₀ out₀ to₀ → Copying o₀ out₀ to₀
   copying-start h = record { copies = h; same = refl; whole = refl }
@@ -46,9 +46,9 @@ module _ (w : ℕ) (s out₀ : List ℕ) (to₀ : ℕ) (o₀ : Outcome (List Spa
     pub copying-never : (n : ℕ) → o ≡ refuse n → ⊥
     copying-never n e = let f = i .copies .found in let z : _≡_ {A = ℕ} 0 1 = cc in omega arith
 
-    pub copying-end : o ≡ accept [] → out ≡ sets out₀ to₀ (foundBytes w s o₀)
+    pub copying-end : o ≡ accept [] → out ≡ sets out₀ to₀ (foundUnitBytes w s o₀)
     unfolding encodeUnits
-    copying-end e = ap (λ (x : Outcome (List Span)). sets out to (foundBytes w s x)) (sym e) ∙ i .whole
+    copying-end e = ap (λ (x : Outcome (List Span)). sets out to (foundUnitBytes w s x)) (sym e) ∙ i .whole
 
     module _ (a : Span) (inside : a .start + a .len ≤ length s) where
       -- what the units to be stored are, once the first is known
@@ -76,5 +76,5 @@ module _ (w : ℕ) (s out₀ : List ℕ) (to₀ : ℕ) (o₀ : Outcome (List Spa
             same = l ∙ i .same;
             whole =
                 rw (f, k) (sets-append out to (toChunk w (held s a)) (unitBytes w s us))
-                ∙ ap (λ (x : Outcome (List Span)). sets out to (foundBytes w s x)) (sym e) ∙ i .whole;
+                ∙ ap (λ (x : Outcome (List Span)). sets out to (foundUnitBytes w s x)) (sym e) ∙ i .whole;
           }

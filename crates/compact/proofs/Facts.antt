@@ -8,8 +8,8 @@ use native.Mathlib.Decide.{decLe}
 use lib.ListN.{length, getD, take, drop, length-map, length-take, take-append-drop, drop-of-length-le, List·getD-eq-default}
 use lib.Seq.{getD-take, getD-drop, drop-cons, drop-drop}
 use borrow.Author.Tests.{le-leb, eq-eqb, ne-eqb}
-use Rattle.error.specs.Outcome.{accept, refuse}
-use Rattle.error.specs.Parse.{Parsed, value, refused, bind, times}
+use Rattle.parse.specs.Outcome.{accept, refuse}
+use Rattle.parse.specs.Parse.{Parsed, value, refused, bind, times}
 use Rattle.boxes.specs.Bytes.{toBe, chunk, toChunk}
 use Rattle.boxes.specs.Parts.{held}
 use Rattle.boxes.specs.declared.Span.{Span}
@@ -20,7 +20,7 @@ use Rattle.unit_list.proofs.Arrays.{be-one, sound-none, sound-more}
 use Rattle.unit_list.proofs.Encode.{UnitsRead, units-encode}
 use Rattle.unit_list.proofs.Accepted.{held-long}
 use Rattle.compact.specs.Compact.{compactRecord, CompactParsed, oneArray, parsedWith, parseCompact, allAtMost, compactBytes, serializeCompact}
-use Rattle.compact.specs.Units.{unitBytes, recordUnits, configOf, firstByte}
+use Rattle.compact.specs.inner.Units.{unitBytes, recordUnits, configOf, compactFirstByte}
 use Rattle.compact.specs.declared.CompactVvcConfig.{CompactVvcConfig}
 use Rattle.compact.proofs.Copying.{room-more}
 use Rattle.compact.proofs.OneArray.{list-long}
@@ -43,7 +43,7 @@ bytes-held s a h = bytes-take (a .len) (drop (a .start) s) (λ i. let e = getD-d
 
 -- ### units of a record
 
--- units read from place p on up to q: what they are, and that they stand there behind their lengths
+-- units read from place p on up to q: what they are, and that they stand there after their lengths
 pub record UnitsFrom (s : List ℕ) (p : ℕ) (us : List Span) (q : ℕ) : Type 0 where
   pub within : q ≤ length s
   pub short : (k : ℕ) → length (getD (map (held s) us) k []) ≤ 255
@@ -197,7 +197,7 @@ pub record CompactFacts (C : List ℕ) (r : CompactParsed) (list : List ℕ) : T
   pub written : compactBytes (r .config) units ≡ accept C
 
 -- the parts of the first byte make it
-first-again : (b : ℕ) → b < 256 → firstByte (configOf b) (b % 32 + 2) ≡ b
+first-again : (b : ℕ) → b < 256 → compactFirstByte (configOf b) (b % 32 + 2) ≡ b
 first-again b h =
     elim (decLe 128 b) [
       | yes k ↦ rw (eq-eqb (b / 128) 1 (omega arith)) (omega arith)

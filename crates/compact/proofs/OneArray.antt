@@ -9,7 +9,7 @@ use Rattle.boxes.proofs.Numbers.{length-toBe}
 use Rattle.unit_list.specs.UnitList.{encodeUnits, encodeArray, encodeArrays, encode}
 use Rattle.compact.specs.Compact.{oneArray}
 
--- what stands before its units
+-- what comes before its units
 abbrev pub listHead : ℕ → List ℕ
 listHead room = toBe 4 (2 + room) ++ (0 ∷ 0 ∷ [])
 

@@ -5,16 +5,16 @@ use mathlib.Core.List.{List, [], _∷_, map}
 use native.Mathlib.Omega.{arith}
 use lib.ListN.{length, getD}
 use borrow.Author.Tests.{le-leb, lt-ltb, le-ltb}
-use Rattle.error.specs.Outcome.{accept, refuse, andThen}
-use Rattle.error.specs.Parse.{Parsed, value, refused, bind, Parser, times, outcome}
+use Rattle.parse.specs.Outcome.{accept, refuse, andThen}
+use Rattle.parse.specs.Parse.{Parsed, value, refused, bind, Parser, times, outcome}
 use Rattle.boxes.specs.Bytes.{chunk}
 use Rattle.boxes.specs.Parts.{held}
 use Rattle.boxes.specs.declared.Span.{Span}
 use Rattle.boxes.proofs.Fields.{uint-there, uint-short}
-use Rattle.boxes.proofs.Lent.{lent-too-long}
+use Rattle.parse.proofs.Lent.{lent-too-long}
 use Rattle.unit_list.proofs.Arrays.{be-one}
 use Rattle.compact.specs.Compact.{atEnd, compactRecord, oneArray, parsedWith, parseCompact}
-use Rattle.compact.specs.Units.{unitBytes, recordUnits, configOf}
+use Rattle.compact.specs.inner.Units.{unitBytes, recordUnits, configOf}
 use Rattle.compact.specs.declared.CompactVvcConfig.{CompactVvcConfig}
 use Rattle.compact.proofs.OneArray.{list-long}
 

@@ -1,5 +1,5 @@
 -- What the answers of this crate say.
-use Rattle.error.specs.Outcome.{Outcome, accept, refuse}
+use Rattle.parse.specs.Outcome.{Outcome, accept, refuse}
 use Rattle.error.specs.Refusals.{numberOf}
 use Rattle.compact.specs.Compact.{CompactParsed}
 use Rattle.compact.specs.declared.CompactRead.{CompactRead}

@@ -4,15 +4,14 @@ use mathlib.Core.Bool.{Bool, true, not, _&&_}
 use mathlib.Core.List.{List, [], _∷_, map}
 use lib.Dec.{leb, ltb, eqb}
 use lib.ListN.{length}
-use Rattle.error.specs.Logic.{if_then_else_}
-use Rattle.error.specs.Outcome.{Outcome, accept, refuse, lentInput, andThen}
-use Rattle.error.specs.Parse.{value, refused, Parser, _>>=_, _>>_, give, times, outcome}
-use Rattle.boxes.specs.Bytes.{uint, chunk}
+use Rattle.parse.specs.Logic.{if_then_else_, bit}
+use Rattle.parse.specs.Outcome.{Outcome, accept, refuse, lentInput, andThen}
+use Rattle.parse.specs.Parse.{value, refused, Parser, _>>=_, _>>_, give, times, outcome}
+use Rattle.boxes.specs.Bytes.{uint, chunk, outside}
 use Rattle.boxes.specs.Parts.{held}
 use Rattle.boxes.specs.declared.Span.{Span}
 use Rattle.unit_list.specs.UnitList.{encode, encodeUnits}
 use Rattle.unit_list.specs.Answers.{listUnits}
-use Rattle.split.specs.Item.{outside}
 use Rattle.compact.specs.declared.CompactVvcConfig.{CompactVvcConfig}
 
 -- "Nothing may follow": 7 where bytes are left over
@@ -27,7 +26,7 @@ compactRecord = do
   atEnd
   give (record { «multi_layer_flag» = eqb (b / 128) 1; «length_size» = b / 32 % 4 + 1 }, units)
 
--- what reading hands back
+-- what reading returns
 pub record CompactParsed : Type 0 where
   pub config : CompactVvcConfig
   pub unitCount : ℕ
@@ -37,7 +36,7 @@ pub record CompactParsed : Type 0 where
 abbrev pub oneArray : List (List ℕ) → List ℕ
 oneArray us = encode (record { complete = 0; unitType = 0; units = us } ∷ [])
 
--- reading s gave r: what is handed back, and the list
+-- reading s gave r: what is returned, and the list
 abbrev pub parsedWith : List ℕ → CompactVvcConfig × List Span → CompactParsed × List ℕ
 parsedWith s r =
     (record { config = r .0; unitCount = length (r .1); listLength = length (oneArray (map (held s) (r .1))) }, oneArray (map (held s) (r .1)))
@@ -49,10 +48,6 @@ parseCompact s = lentInput s (andThen (outcome (compactRecord s 0)) (λ r. accep
 unfoldable pub allAtMost : ℕ → List (List ℕ) → Bool
 allAtMost n [] = true
 allAtMost n (u ∷ us) = leb (length u) n && allAtMost n us
-
--- 1 for a flag that is set
-abbrev pub bit : Bool → ℕ
-bit b = if b then 1 else 0
 
 -- the record of units: 4 size not 1 to 4, 8 count not 2 to 33, 9 unit above 255 bytes
 unfoldable pub compactBytes : CompactVvcConfig → List (List ℕ) → Outcome (List ℕ)

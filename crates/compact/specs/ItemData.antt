@@ -5,20 +5,20 @@ use mathlib.Core.List.{List, [], _∷_, _++_}
 use mathlib.Core.Option.{Option, none, some}
 use lib.Dec.{leb, eqb}
 use lib.ListN.{length, drop}
-use Rattle.error.specs.Logic.{if_then_else_}
-use Rattle.error.specs.Outcome.{Outcome, accept, refuse, lentInput}
-use Rattle.boxes.specs.Bytes.{toChunk}
+use Rattle.parse.specs.Logic.{if_then_else_}
+use Rattle.parse.specs.Outcome.{Outcome, accept, refuse, lentInput}
+use Rattle.boxes.specs.Bytes.{toChunk, outside}
 use Rattle.boxes.specs.Parts.{held}
 use Rattle.boxes.specs.declared.Span.{Span}
 use Rattle.nal.specs.Header.{unitType, layerId, temporalIdPlus1, nalHeader}
-use Rattle.split.specs.Item.{outside, itemUnits}
+use Rattle.split.specs.Item.{itemUnits}
 use Rattle.compact.specs.declared.CompactVvcConfig.{CompactVvcConfig}
 
 -- the unit that stored bytes are the payload of: IDR_N_LP, layer 0, temporal id plus 1 being 1, which is 00 41
 abbrev pub stillUnit : List ℕ → List ℕ
 stillUnit stored = nalHeader 8 0 1 ++ stored
 
--- one unit behind its length: 4, "6 unit too long for its prefix"
+-- one unit after its length: 4, "6 unit too long for its prefix"
 abbrev pub prefixed : ℕ → List ℕ → Outcome (List ℕ)
 prefixed size u =
     if outside size then refuse 4

@@ -1,4 +1,4 @@
 pub mod Compact
 pub mod ItemData
 pub mod Answers
-pub mod Units
+pub mod inner

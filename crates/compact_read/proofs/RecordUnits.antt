@@ -1,31 +1,31 @@
--- Laws of the units of a compact record: one read, and what is left behind it; measured, and stored as a list.
+-- Laws of the units of a compact record: one read, and what is left after it; measured, and stored as a list.
 use Prim.Native.Nat.{ℕ, zero, suc, _+_, _-_, _≤_, _<_}
 use mathlib.Core.Path.{_≡_, refl, sym, ap, _∙_}
 use mathlib.Core.List.{List, [], _∷_, _++_, map}
 use native.Mathlib.Omega.{arith}
 use lib.ListN.{length, set, take}
 use lib.Seq.{sets, take-length}
-use Rattle.error.specs.Outcome.{Outcome, accept, refuse}
-use Rattle.error.specs.Parse.{Parsed, value, refused, bind, times, outcome}
+use Rattle.parse.specs.Outcome.{Outcome, accept, refuse}
+use Rattle.parse.specs.Parse.{Parsed, value, refused, bind, times, outcome}
 use Rattle.boxes.specs.Bytes.{toBe, chunk}
 use Rattle.boxes.specs.Parts.{held}
-use Rattle.boxes.specs.Walk.{more}
 use Rattle.boxes.specs.declared.Span.{Span}
 use Rattle.boxes.proofs.Sets.{sets-append}
-use Rattle.boxes.proofs.Many.{times-nil, times-step, times-bad}
+use Rattle.parse.proofs.Many.{times-nil, times-step, times-bad}
 use Rattle.boxes.proofs.Fields.{Chunk, chunk-read}
 use Rattle.unit_list.specs.UnitList.{encodeUnits}
-use Rattle.unit_list.specs.Walk.{chunkStepped}
+use Rattle.unit_list.specs.inner.Walk.{chunkStepped}
 use Rattle.unit_list.specs.declared.ChunkRead.{ChunkRead}
 use Rattle.unit_list.specs.declared.ChunkRead.the-variants as C
 use Rattle.unit_list.proofs.Steps.{chunk-bytes, chunk-refused}
 use Rattle.compact.specs.Compact.{oneArray}
-use Rattle.compact.specs.Units.{unitBytes, foundBytes, Copies}
-use Rattle.compact_read.specs.Inside.{measured, foundList}
+use Rattle.compact.specs.inner.Units.{unitBytes, foundUnitBytes, Copies}
+use Rattle.compact_read.specs.inner.Room.{measured, foundList}
 use Rattle.compact.proofs.OneArray.{listHead, head-long, list-bytes}
 use Rattle.compact.proofs.Copying.{room-more}
+use Rattle.boxes.specs.inner.Walk.{more}
 
--- one of n units read from place p on, and what is left behind it
+-- one of n units read from place p on, and what is left after it
 pub record Turn (s : List ℕ) (n p : ℕ) (a : Span) : Type 0 where
   pub start : a .start ≡ p + 1
   pub inside : a .start + a .len ≤ length s
@@ -84,25 +84,25 @@ unfolding encodeUnits
 measured-done s n p = ap (λ (k : ℕ). value k p) (omega arith)
 
 -- what a measurement says
-pub record Measured (s : List ℕ) (x : Parsed (List Span)) (room behind : ℕ) : Type 0 where
+pub record UnitsMeasured (s : List ℕ) (x : Parsed (List Span)) (room after : ℕ) : Type 0 where
   pub units : List Span
-  pub read : x ≡ value units behind
+  pub read : x ≡ value units after
   pub long : room ≡ length (unitBytes 4 s units)
 
-pub measured-units : (s : List ℕ) (x : Parsed (List Span)) (room behind : ℕ) → value room behind ≡ measured s 0 x → Measured s x room behind
-measured-units s (value us q) room behind e =
-    let z : behind ≡ q = cc in
+pub measured-units : (s : List ℕ) (x : Parsed (List Span)) (room after : ℕ) → value room after ≡ measured s 0 x → UnitsMeasured s x room after
+measured-units s (value us q) room after e =
+    let z : after ≡ q = cc in
     let r : room ≡ 0 + length (unitBytes 4 s us) = cc in
     record { units = us; read = ap (value us) (sym z); long = omega arith }
-measured-units s (refused n) room behind e = absurd (let z : _≡_ {A = ℕ} 0 1 = cc in omega arith)
+measured-units s (refused n) room after e = absurd (let z : _≡_ {A = ℕ} 0 1 = cc in omega arith)
 
 -- there is room for the list
-module _ (s : List ℕ) (x : Parsed (List Span)) (room behind : ℕ) (m : Measured s x room behind) where
+module _ (s : List ℕ) (x : Parsed (List Span)) (room after : ℕ) (m : UnitsMeasured s x room after) where
   pub measured-copies : (out : List ℕ) → 7 + room ≤ length out → Copies 4 s (outcome x) out 7
   measured-copies out h = record { units = m .units; found = ap outcome (m .read); fits = omega (arith, m .long) }
 
-  pub measured-room : room ≡ length (foundBytes 4 s (outcome x))
-  measured-room = m .long ∙ sym (ap (λ (y : Parsed (List Span)). length (foundBytes 4 s (outcome y))) (m .read))
+  pub measured-room : room ≡ length (foundUnitBytes 4 s (outcome x))
+  measured-room = m .long ∙ sym (ap (λ (y : Parsed (List Span)). length (foundUnitBytes 4 s (outcome y))) (m .read))
 
   pub measured-list : foundList s (outcome x) ≡ oneArray (map (held s) (m .units))
   measured-list = ap (λ (y : Parsed (List Span)). foundList s (outcome y)) (m .read)
@@ -113,7 +113,7 @@ measured-refused s (refused m) n e = let z : m ≡ n = cc in ap refused z
 
 -- the list stored piece by piece
 pub list-stored : (s : List ℕ) (o : Outcome (List Span)) (out d e f : List ℕ) (room to : ℕ) → Copies 4 s o out to
-    → room ≡ length (foundBytes 4 s o) → d ≡ set out 0 1 → e ≡ sets d 1 (toBe 4 (2 + room) ++ (0 ∷ 0 ∷ [])) → f ≡ sets e 7 (foundBytes 4 s o)
+    → room ≡ length (foundUnitBytes 4 s o) → d ≡ set out 0 1 → e ≡ sets d 1 (toBe 4 (2 + room) ++ (0 ∷ 0 ∷ [])) → f ≡ sets e 7 (foundUnitBytes 4 s o)
     → f ≡ sets out 0 (foundList s o)
 list-stored s (refuse n) out d e f room to h l x y z = absurd (let w = h .found in let z : _≡_ {A = ℕ} 0 1 = cc in omega arith)
 list-stored s (accept us) out d e f room to h l x y z =

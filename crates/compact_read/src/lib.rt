@@ -6,7 +6,7 @@ use compact::CompactRead;
 use error::Refusal;
 use record_units::RecordRoom;
 ghost use mathlib.Core.Path.{_≡_};
-ghost use Rattle.error.specs.Outcome.{lentOutput};
+ghost use Rattle.parse.specs.Outcome.{lentOutput};
 ghost use Rattle.compact.specs.Compact.{parseCompact};
 ghost use Rattle.compact.specs.Answers.{compactOf};
 

@@ -1,4 +1,4 @@
-// For this crate's calls: the units of a compact record, measured and stored as a unit list.
+// Internal: the units of a compact record, measured and stored as a unit list.
 use boxes::place;
 use compact::CompactVvcConfig;
 use error::LARGEST_INPUT;
@@ -10,11 +10,11 @@ ghost use mathlib.Core.Path.{_≡_};
 ghost use Prim.Native.Nat.{_≤_, _^_};
 ghost use lib.ListN.{length};
 ghost use lib.Seq.{sets};
-ghost use Rattle.error.specs.Parse.{outcome};
-ghost use Rattle.compact.specs.Units.{recordUnits, Copies, foundBytes, configOf};
-ghost use Rattle.compact_read.specs.Inside.{measured, roomOf, RoomFits, RoomSays, foundList};
+ghost use Rattle.parse.specs.Parse.{outcome};
+ghost use Rattle.compact.specs.inner.Units.{recordUnits, Copies, foundUnitBytes, configOf};
+ghost use Rattle.compact_read.specs.inner.Room.{measured, unitsRoomOf, RoomSmall, RoomSays, foundList};
 
-// How many bytes the units take in a list, and the place behind them in the record; or that they are not all there.
+// How many bytes the units take in a list, and the place after them in the record; or that they are not all there.
 pub enum UnitsRoom {
     Room(usize, usize),
     Short,
@@ -41,7 +41,7 @@ pub fn config_of(first: u8) -> CompactVvcConfig
 // Measures `count` units.
 fn units_room(record: &[u8], count: usize) -> UnitsRoom
     requires { ⌜ (1 ≤ length (now «record»)) × (length (now «record») ≤ 2 ^ 30) ⌝ }
-    ensures { λ r. ⌜ (roomOf r ≡ measured (now («record» .entry)) 0 (recordUnits (now («record» .entry)) count)) × RoomFits r ⌝ }
+    ensures { λ r. ⌜ (unitsRoomOf r ≡ measured (now («record» .entry)) 0 (recordUnits (now («record» .entry)) count)) × RoomSmall r ⌝ }
 {
     let mut left = count;
     let mut at: usize = 1;
@@ -69,19 +69,19 @@ pub fn record_room(record: &[u8]) -> RecordRoom
         return RecordRoom::Refused(Refusal::Truncated);
     }
     let count = place::wide(first) % 32 + 2;
-    let UnitsRoom::Room(room, behind) = units_room(record, count) else {
+    let UnitsRoom::Room(room, after) = units_room(record, count) else {
         return RecordRoom::Refused(Refusal::Truncated);
     };
-    if behind < record.len() {
+    if after < record.len() {
         return RecordRoom::Refused(Refusal::BytesLeftOver);
     }
     RecordRoom::Room(count, room)
 }
 
-// Stores `count` units from a place on, each behind a length of four bytes.
+// Stores `count` units from a place on, each after a length of four bytes.
 fn put_units(record: &[u8], count: usize, out: &mut [u8], to: usize)
     requires { ⌜ (1 ≤ length (now «record»)) × (length (now «record») ≤ 2 ^ 30) × Copies 4 (now «record») (outcome (recordUnits (now «record») count)) (now out) to ⌝ }
-    ensures { λ _. ⌜ now (out .exit) ≡ sets (now (out .entry)) to (foundBytes 4 (now («record» .entry)) (outcome (recordUnits (now («record» .entry)) count))) ⌝ }
+    ensures { λ _. ⌜ now (out .exit) ≡ sets (now (out .entry)) to (foundUnitBytes 4 (now («record» .entry)) (outcome (recordUnits (now («record» .entry)) count))) ⌝ }
 {
     let mut left = count;
     let mut at: usize = 1;
@@ -99,7 +99,7 @@ fn put_units(record: &[u8], count: usize, out: &mut [u8], to: usize)
 
 // Stores the list of `count` units, which take `room` bytes: its version, the head of its one array, the units.
 pub fn put_list(record: &[u8], count: usize, room: usize, out: &mut [u8])
-    requires { ⌜ (1 ≤ length (now «record»)) × (length (now «record») ≤ 2 ^ 30) × Copies 4 (now «record») (outcome (recordUnits (now «record») count)) (now out) 7 × (room ≡ length (foundBytes 4 (now «record») (outcome (recordUnits (now «record») count)))) ⌝ }
+    requires { ⌜ (1 ≤ length (now «record»)) × (length (now «record») ≤ 2 ^ 30) × Copies 4 (now «record») (outcome (recordUnits (now «record») count)) (now out) 7 × (room ≡ length (foundUnitBytes 4 (now «record») (outcome (recordUnits (now «record») count)))) ⌝ }
     ensures { λ _. ⌜ now (out .exit) ≡ sets (now (out .entry)) 0 (foundList (now («record» .entry)) (outcome (recordUnits (now («record» .entry)) count))) ⌝ }
 {
     place::put(out, 0, 1);

@@ -1,4 +1,4 @@
-// For this crate's calls: the units of a unit list, measured and stored as a compact record.
+// Internal: the units of a unit list, measured and stored as a compact record.
 use boxes::place;
 use compact::CompactVvcConfig;
 use error::Counted;
@@ -13,15 +13,15 @@ ghost use mathlib.Core.Path.{_≡_};
 ghost use mathlib.Core.List.{_∷_};
 ghost use Prim.Native.Nat.{_+_, _≤_, _<_, _^_};
 ghost use lib.Seq.{sets};
-ghost use Rattle.error.specs.Outcome.{lentOutput, counted};
-ghost use Rattle.error.specs.Answers.{countOf, writtenOf};
-ghost use Rattle.unit_list.specs.Walk.{Fits};
-ghost use Rattle.unit_list.specs.Find.{unitsLeft};
-ghost use Rattle.compact_write.specs.Inside.{adding, summed, nothing, sumOf, SumFits, recordLength, recordOf};
-ghost use Rattle.compact.specs.Units.{Copies, foundBytes, firstByte};
+ghost use Rattle.parse.specs.Outcome.{lentOutput, counted};
+ghost use Rattle.parse.specs.Answers.{countOf, writtenOf};
+ghost use Rattle.unit_list.specs.inner.Walk.{Fits};
+ghost use Rattle.unit_list.specs.inner.Find.{unitsLeft};
+ghost use Rattle.compact_write.specs.inner.Sums.{addingUnit, summed, noUnits, sumOf, SumFits, recordLength, compactRecordOf};
+ghost use Rattle.compact.specs.inner.Units.{Copies, foundUnitBytes, compactFirstByte};
 
-// The units seen so far: how many, the bytes that they take behind lengths of one byte, and whether all fit such a length.
-pub struct UnitSum {
+// The units seen so far: how many, the bytes that they take after lengths of one byte, and whether all fit such a length.
+pub struct RecordSum {
     pub count: usize,
     pub room: usize,
     pub fits: bool,
@@ -29,39 +29,39 @@ pub struct UnitSum {
 
 // All units of a list, or that it is malformed.
 pub enum ListSum {
-    Sum(UnitSum),
+    Sum(RecordSum),
     Malformed,
 }
 
 // One unit more.
-fn add(sum: UnitSum, len: usize) -> UnitSum
+fn add(sum: RecordSum, len: usize) -> RecordSum
     requires { ⌜ sum .count + sum .room + len < 2 ^ 32 ⌝ }
-    ensures { λ r. ⌜ r ≡ adding len sum ⌝ }
+    ensures { λ r. ⌜ r ≡ addingUnit len sum ⌝ }
 {
     let count = sum.count + 1;
     let room = sum.room + 1 + len;
     if 255 < len {
-        return UnitSum {
+        return RecordSum {
             count: count,
             room: room,
             fits: false,
         };
     }
     let fits = sum.fits;
-    UnitSum {
+    RecordSum {
         count: count,
         room: room,
         fits: fits,
     }
 }
 
-// Measures the units behind a cursor.
+// Measures the units after a cursor.
 fn units_sum(list: &[u8], c: ListCursor) -> ListSum
     requires { ⌜ Fits (now list) c ⌝ }
-    ensures { λ r. ⌜ (sumOf r ≡ summed (now (list .entry)) nothing (unitsLeft (now (list .entry)) c)) × SumFits r ⌝ }
+    ensures { λ r. ⌜ (sumOf r ≡ summed (now (list .entry)) noUnits (unitsLeft (now (list .entry)) c)) × SumFits r ⌝ }
 {
     let mut here = c;
-    let mut sum = UnitSum {
+    let mut sum = RecordSum {
         count: 0,
         room: 0,
         fits: true,
@@ -78,10 +78,10 @@ fn units_sum(list: &[u8], c: ListCursor) -> ListSum
     }
 }
 
-// Stores the units behind a cursor from a place on, each behind a length of one byte.
+// Stores the units after a cursor from a place on, each after a length of one byte.
 fn put_units(list: &[u8], c: ListCursor, out: &mut [u8], to: usize)
     requires { ⌜ Fits (now list) c × Copies 1 (now list) (unitsLeft (now list) c) (now out) to ⌝ }
-    ensures { λ _. ⌜ now (out .exit) ≡ sets (now (out .entry)) to (foundBytes 1 (now (list .entry)) (unitsLeft (now (list .entry)) c)) ⌝ }
+    ensures { λ _. ⌜ now (out .exit) ≡ sets (now (out .entry)) to (foundUnitBytes 1 (now (list .entry)) (unitsLeft (now (list .entry)) c)) ⌝ }
 {
     let mut here = c;
     let mut at = to;
@@ -98,7 +98,7 @@ fn put_units(list: &[u8], c: ListCursor, out: &mut [u8], to: usize)
 // The first byte of a record: the flag, the prefix size minus 1, the unit count minus 2.
 fn first_byte(config: CompactVvcConfig, count: usize) -> u8
     requires { ⌜ (1 ≤ config .«length_size») × (config .«length_size» ≤ 4) × (2 ≤ count) × (count ≤ 33) ⌝ }
-    ensures { λ r. ⌜ r ≡ firstByte config count ⌝ }
+    ensures { λ r. ⌜ r ≡ compactFirstByte config count ⌝ }
 {
     let low = (config.length_size - 1) * 32 + (count - 2) as u8;
     if config.multi_layer_flag {
@@ -107,10 +107,10 @@ fn first_byte(config: CompactVvcConfig, count: usize) -> u8
     low
 }
 
-// Stores the record of `count` units behind a cursor: the first byte, the units.
+// Stores the record of `count` units after a cursor: the first byte, the units.
 fn store_record(config: CompactVvcConfig, count: usize, list: &[u8], c: ListCursor, out: &mut [u8])
     requires { ⌜ (1 ≤ config .«length_size») × (config .«length_size» ≤ 4) × (2 ≤ count) × (count ≤ 33) × Fits (now list) c × Copies 1 (now list) (unitsLeft (now list) c) (now out) 1 ⌝ }
-    ensures { λ _. ⌜ now (out .exit) ≡ sets (now (out .entry)) 0 (firstByte config count ∷ foundBytes 1 (now (list .entry)) (unitsLeft (now (list .entry)) c)) ⌝ }
+    ensures { λ _. ⌜ now (out .exit) ≡ sets (now (out .entry)) 0 (compactFirstByte config count ∷ foundUnitBytes 1 (now (list .entry)) (unitsLeft (now (list .entry)) c)) ⌝ }
 {
     let first = first_byte(config, count);
     place::put(out, 0, first);
@@ -118,7 +118,7 @@ fn store_record(config: CompactVvcConfig, count: usize, list: &[u8], c: ListCurs
 }
 
 // How long the record of units that are measured is. Refusals: 4, 8, 9.
-fn record_len(config: CompactVvcConfig, sum: UnitSum) -> Counted
+fn record_len(config: CompactVvcConfig, sum: RecordSum) -> Counted
     requires { ⌜ sum .room ≤ 2 ^ 32 ⌝ }
     ensures { λ r. ⌜ countOf r ≡ recordLength config sum ⌝ }
 {
@@ -134,10 +134,10 @@ fn record_len(config: CompactVvcConfig, sum: UnitSum) -> Counted
     Counted::Count(1 + sum.room)
 }
 
-// The record of the units behind a cursor. Refusals: 21, 4, 8, 9, 20.
-pub fn put_record(config: CompactVvcConfig, list: &[u8], c: ListCursor, out: &mut [u8]) -> Written
+// The record of the units after a cursor. Refusals: 21, 4, 8, 9, 20.
+pub fn put_compact(config: CompactVvcConfig, list: &[u8], c: ListCursor, out: &mut [u8]) -> Written
     requires { ⌜ Fits (now list) c ⌝ }
-    ensures { λ r. ⌜ (writtenOf r, now (out .exit)) ≡ lentOutput (counted (recordOf config (now (list .entry)) (unitsLeft (now (list .entry)) c))) (now (out .entry)) ⌝ }
+    ensures { λ r. ⌜ (writtenOf r, now (out .exit)) ≡ lentOutput (counted (compactRecordOf config (now (list .entry)) (unitsLeft (now (list .entry)) c))) (now (out .entry)) ⌝ }
 {
     let ListSum::Sum(sum) = units_sum(list, c) else {
         return Written::Refused(Refusal::UnitList);

@@ -4,7 +4,7 @@ use mathlib.Core.Bool.{true, false}
 use Prim.Native.Nat.{ℕ, _+_, _*_, _-_, _^_, _≤_, _<_}
 use native.Mathlib.Nat.{mul-le-mul}
 use native.Mathlib.Omega.{arith}
-use Rattle.cropped_size.specs.Cropped.{held32, subWidth, subHeight, croppedSide, croppedSize}
+use Rattle.cropped_size.specs.Cropped.{clamp32, subWidth, subHeight, croppedSide, croppedSize}
 use Rattle.sps.specs.declared.SpsHead.{SpsHead}
 use Rattle.cropped_size.specs.declared.PictureSize.{PictureSize}
 
@@ -13,7 +13,7 @@ pub product-fits : (a b : ℕ) → a < 2 ^ 32 → b < 2 ^ 32 → a * b < 2 ^ 64
 product-fits a b h k = omega (arith, mul-le-mul {n₁ = a} {m₁ = b} {n₂ = 2 ^ 32 - 1} {m₂ = 2 ^ 32 - 1} (omega arith) (omega arith))
 
 -- what is cut is the whole side, or less
-module _ (side unit a b t cut : ℕ) (h : t ≡ held32 (a + b)) (k : cut ≡ held32 (unit * t)) where
+module _ (side unit a b t cut : ℕ) (h : t ≡ clamp32 (a + b)) (k : cut ≡ clamp32 (unit * t)) where
   pub side-gone : side ≤ cut → 1 ≡ croppedSide side unit a b
   side-gone l = rw (← h, ← k) (omega arith)
 

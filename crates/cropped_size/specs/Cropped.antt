@@ -2,13 +2,13 @@
 use Prim.Native.Nat.{ℕ, _+_, _*_, _-_, _^_, min, max}
 use mathlib.Core.Bool.{_||_}
 use lib.Dec.{eqb}
-use Rattle.error.specs.Logic.{if_then_else_}
+use Rattle.parse.specs.Logic.{if_then_else_}
 use Rattle.sps.specs.declared.SpsHead.{SpsHead}
 use Rattle.cropped_size.specs.declared.PictureSize.{PictureSize}
 
 -- "each step held within 0 to 2^32 - 1" (a difference of numbers is 0 where it would be below)
-abbrev pub held32 : ℕ → ℕ
-held32 n = min n (2 ^ 32 - 1)
+abbrev pub clamp32 : ℕ → ℕ
+clamp32 n = min n (2 ^ 32 - 1)
 
 -- SubWidthC and SubHeightC by chroma format: 2 and 2 for 1, 2 and 1 for 2, else 1
 abbrev pub subWidth : ℕ → ℕ
@@ -19,7 +19,7 @@ subHeight chroma = if eqb chroma 1 then 2 else 1
 
 -- a side less so many units of both offsets, "and the end at least 1"
 abbrev pub croppedSide : ℕ → ℕ → ℕ → ℕ → ℕ
-croppedSide side unit a b = max (side - held32 (unit * held32 (a + b))) 1
+croppedSide side unit a b = max (side - clamp32 (unit * clamp32 (a + b))) 1
 
 -- `cropped_size`: "without a window the size itself"
 unfoldable pub croppedSize : SpsHead → PictureSize

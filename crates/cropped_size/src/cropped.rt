@@ -1,11 +1,11 @@
 // For this crate's call: the arithmetic of the conformance window, each step held within 32 bits.
 ghost use mathlib.Core.Path.{_≡_};
 ghost use Prim.Native.Nat.{_+_, _*_};
-ghost use Rattle.cropped_size.specs.Cropped.{held32, subWidth, subHeight, croppedSide};
+ghost use Rattle.cropped_size.specs.Cropped.{clamp32, subWidth, subHeight, croppedSide};
 
 // The sum, or the largest number of 32 bits.
 fn saturating_add(a: u32, b: u32) -> u32
-    ensures { λ r. ⌜ r ≡ held32 (a + b) ⌝ }
+    ensures { λ r. ⌜ r ≡ clamp32 (a + b) ⌝ }
 {
     let sum = a as u64 + b as u64;
     if 0xFFFF_FFFF < sum {
@@ -16,7 +16,7 @@ fn saturating_add(a: u32, b: u32) -> u32
 
 // The product, or the largest number of 32 bits.
 fn saturating_mul(a: u32, b: u32) -> u32
-    ensures { λ r. ⌜ r ≡ held32 (a * b) ⌝ }
+    ensures { λ r. ⌜ r ≡ clamp32 (a * b) ⌝ }
 {
     let product = a as u64 * b as u64;
     if 0xFFFF_FFFF < product {

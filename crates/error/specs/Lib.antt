@@ -1,6 +1,1 @@
-pub mod Logic
-pub mod Outcome
 pub mod Refusals
-pub mod Parse
-pub mod Steps
-pub mod Answers

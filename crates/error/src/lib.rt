@@ -19,7 +19,7 @@ pub enum Refusal {
     ZeroLengthUnit = 5,
     // a unit is too long for its prefix
     UnitTooLongForPrefix = 6,
-    // bytes are left over behind a compact record
+    // bytes are left over after a compact record
     BytesLeftOver = 7,
     // a compact record holds 2 to 33 units
     CompactUnitCount = 8,

@@ -1,4 +1,4 @@
--- Laws of an expansion into lent output: what is handed back on a refusal, where the list is too long (20), and where it fits.
+-- Laws of an expansion into lent output: what is returned on a refusal, where the list is too long (20), and where it fits.
 use Prim.Native.Nat.{ℕ, _≤_, _<_}
 use mathlib.Core.Path.{_≡_, ap}
 use mathlib.Core.List.{List, map}
@@ -6,7 +6,7 @@ use native.Mathlib.Omega.{arith}
 use lib.ListN.{length}
 use lib.Seq.{sets}
 use borrow.Author.Tests.{le-leb, lt-leb}
-use Rattle.error.specs.Outcome.{Outcome, accept, refuse, andThen}
+use Rattle.parse.specs.Outcome.{Outcome, accept, refuse, andThen}
 use Rattle.boxes.specs.Parts.{held}
 use Rattle.boxes.specs.declared.Span.{Span}
 use Rattle.boxes.proofs.Sets.{sets-front}
@@ -18,10 +18,10 @@ use Rattle.full.specs.declared.VvcConfig.{VvcConfig}
 use Rattle.grouping.specs.Grouping.{grouped}
 use Rattle.expand.specs.Expand.{FullHead, Picture, expandUnits, toFull}
 use Rattle.expand.specs.Answers.{expandedGiven}
-use Rattle.grouping.specs.Units.{heldUnits}
-use Rattle.expand.specs.Inside.{withUnits}
+use Rattle.grouping.specs.inner.Units.{heldUnits}
+use Rattle.expand.specs.inner.ParameterSets.{withUnits}
 
--- what a call hands back: the answer with the head, and what the output then holds
+-- what a call returns: the answer with the head, and what the output then holds
 abbrev pub Given : Type 0
 Given = (Outcome FullHead × VvcConfig) × List ℕ
 

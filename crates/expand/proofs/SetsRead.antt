@@ -4,24 +4,24 @@ use mathlib.Core.Path.{_≡_, refl, sym, ap, _∙_}
 use mathlib.Core.Bool.{Bool, true, false}
 use mathlib.Core.List.{List}
 use mathlib.Core.Option.{none, some}
-use Rattle.error.specs.Outcome.{Outcome, accept, refuse, andThen, handsBack}
+use Rattle.parse.specs.Outcome.{Outcome, accept, refuse, andThen, handsBack}
 use Rattle.error.specs.Refusals.{numberOf}
-use Rattle.error.specs.Steps.{orRefuse}
+use Rattle.parse.specs.Steps.{orRefuse}
 use Rattle.error.specs.declared.Refusal.{Refusal}
 use Rattle.ptl.specs.Ptl.{zeroPtl}
 use Rattle.ptl.specs.declared.VvcPtlRecord.{VvcPtlRecord}
 use Rattle.sps.specs.Sps.{parseSps}
 use Rattle.vps.specs.Vps.{vpsFirstPtl}
-use Rattle.params.specs.Answers.{readOf}
-use Rattle.vps.specs.Answers.{ptlOf, ptlGiven}
+use Rattle.params.specs.Answers.{paramsReadOf}
+use Rattle.vps.specs.Answers.{vpsPtlOf, ptlGiven}
 use Rattle.params.specs.declared.ParamsAnswer.{ParamsAnswer}
 use Rattle.params.specs.declared.ParamsAnswer.the-variants as P
 use Rattle.vps.specs.declared.PtlRead.{PtlRead}
 use Rattle.sps.specs.declared.SpsHead.{SpsHead}
 use Rattle.compact.specs.declared.CompactVvcConfig.{CompactVvcConfig}
-use Rattle.grouping.specs.Grouping.{havingType, first}
+use Rattle.grouping.specs.Grouping.{havingType, firstElement}
 use Rattle.expand.specs.Expand.{multiLayerVps, ptlOfSets, expandUnits, Picture, expandedHead}
-use Rattle.expand.specs.Inside.{ptlOrZeros, firstVpsPtl, firstSpsPtl, setsPtl, withUnits}
+use Rattle.expand.specs.inner.ParameterSets.{ptlOrZeros, firstVpsPtl, firstSpsPtl, setsPtl, withUnits}
 
 -- ### a value beside an answer
 
@@ -29,21 +29,21 @@ handed : {A : Type 0} (z : A) (o : Outcome A) → handsBack (λ a. a) z o .0 ≡
 handed z (accept a) = refl
 handed z (refuse n) = refl
 
-module _ {A : Type 0} (z : A) (r : ParamsAnswer) (a : A) (o : Outcome A) (f : (readOf r a, a) ≡ handsBack (λ x. x) z o) where
-  read-said : o ≡ readOf r a
+module _ {A : Type 0} (z : A) (r : ParamsAnswer) (a : A) (o : Outcome A) (f : (paramsReadOf r a, a) ≡ handsBack (λ x. x) z o) where
+  read-said : o ≡ paramsReadOf r a
   read-said = sym (handed z o) ∙ ap (λ (p : Outcome A × A). p .0) (sym f)
 
   pub read-value : r ≡ P.Read → o ≡ accept a
-  read-value e = read-said ∙ ap (λ (x : ParamsAnswer). readOf x a) e
+  read-value e = read-said ∙ ap (λ (x : ParamsAnswer). paramsReadOf x a) e
 
   pub read-refusal : (e : Refusal) → r ≡ P.Refused e → o ≡ refuse (numberOf e)
-  read-refusal n e = read-said ∙ ap (λ (x : ParamsAnswer). readOf x a) e
+  read-refusal n e = read-said ∙ ap (λ (x : ParamsAnswer). paramsReadOf x a) e
 
   -- whether it was read, without the value
-  pub read-whether : _≡_ {A = Outcome (Unit {0})} (readOf r tt) (andThen o (λ _. accept tt))
+  pub read-whether : _≡_ {A = Outcome (Unit {0})} (paramsReadOf r tt) (andThen o (λ _. accept tt))
   read-whether = go r ∙ ap (λ (x : Outcome A). andThen x (λ _. accept tt)) (sym read-said)
     where
-      go : (r : ParamsAnswer) → _≡_ {A = Outcome (Unit {0})} (readOf r tt) (andThen (readOf r a) (λ _. accept tt))
+      go : (r : ParamsAnswer) → _≡_ {A = Outcome (Unit {0})} (paramsReadOf r tt) (andThen (paramsReadOf r a) (λ _. accept tt))
       go P.Read = refl
       go (P.Refused e) = refl
 
@@ -54,10 +54,10 @@ and-then (refuse n) f g = refl
 -- ### the VPS
 
 module _ (n : ℕ) (us : List (List ℕ)) where
-  pub vps-missing : none ≡ first (havingType 14 us) → (refuse n, zeroPtl) ≡ ptlOrZeros (firstVpsPtl n us)
+  pub vps-missing : none ≡ firstElement (havingType 14 us) → (refuse n, zeroPtl) ≡ ptlOrZeros (firstVpsPtl n us)
   vps-missing e = rw (← e)
 
-  pub vps-found : (u : List ℕ) → some u ≡ first (havingType 14 us) → ptlGiven u ≡ ptlOrZeros (firstVpsPtl n us)
+  pub vps-found : (u : List ℕ) → some u ≡ firstElement (havingType 14 us) → ptlGiven u ≡ ptlOrZeros (firstVpsPtl n us)
   vps-found u e = rw (← e)
 
 module _ (us : List (List ℕ)) where
@@ -65,12 +65,12 @@ module _ (us : List (List ℕ)) where
   unfolding multiLayerVps
   single-layer b e = rw e
 
-  pub multi-layer : (b : Bool) → b ≡ true → (r : PtlRead) → ptlOf r ≡ ptlOrZeros (firstVpsPtl 16 us) → readOf (r .answer) tt ≡ multiLayerVps b us
+  pub multi-layer : (b : Bool) → b ≡ true → (r : PtlRead) → vpsPtlOf r ≡ ptlOrZeros (firstVpsPtl 16 us) → paramsReadOf (r .answer) tt ≡ multiLayerVps b us
   unfolding multiLayerVps
   multi-layer b e r f =
       rw e
       (read-whether zeroPtl (r .answer) (r .ptl) (firstVpsPtl 16 us) f
-      ∙ and-then (orRefuse 16 (first (havingType 14 us))) vpsFirstPtl (λ _. accept tt))
+      ∙ and-then (orRefuse 16 (firstElement (havingType 14 us))) vpsFirstPtl (λ _. accept tt))
 
   -- ### the SPS
 
@@ -82,10 +82,10 @@ module _ (us : List (List ℕ)) where
   unfolding ptlOfSets
   sps-with-ptl sps e = rw e
 
-  pub sps-missing : none ≡ first (havingType 15 us) → (refuse 17, zeroPtl) ≡ ptlOrZeros (firstSpsPtl us)
+  pub sps-missing : none ≡ firstElement (havingType 15 us) → (refuse 17, zeroPtl) ≡ ptlOrZeros (firstSpsPtl us)
   sps-missing e = rw (← e)
 
-  module _ (u : List ℕ) (e : some u ≡ first (havingType 15 us)) where
+  module _ (u : List ℕ) (e : some u ≡ firstElement (havingType 15 us)) where
     pub sps-found : (sps : SpsHead) → parseSps u ≡ accept sps → firstSpsPtl us ≡ ptlOfSets sps us
     sps-found sps f = rw (← e, f)
 
@@ -100,10 +100,10 @@ unfolding expandUnits
 sets-units c pic us = go (multiLayerVps (c .«multi_layer_flag») us)
   where
     go : (o : Outcome (Unit {0}))
-        → andThen o (λ _. andThen (orRefuse 17 (first (havingType 15 us))) (λ unit. andThen (parseSps unit) (λ sps. andThen (ptlOfSets sps us) (λ ptl. withUnits (expandedHead c pic ptl) us))))
+        → andThen o (λ _. andThen (orRefuse 17 (firstElement (havingType 15 us))) (λ unit. andThen (parseSps unit) (λ sps. andThen (ptlOfSets sps us) (λ ptl. withUnits (expandedHead c pic ptl) us))))
         ≡ andThen (andThen o (λ _. firstSpsPtl us)) (λ ptl. withUnits (expandedHead c pic ptl) us)
     go (refuse n) = refl
-    go (accept x) = find (orRefuse 17 (first (havingType 15 us)))
+    go (accept x) = find (orRefuse 17 (firstElement (havingType 15 us)))
       where
         find : (o : Outcome (List ℕ))
             → andThen o (λ unit. andThen (parseSps unit) (λ sps. andThen (ptlOfSets sps us) (λ ptl. withUnits (expandedHead c pic ptl) us)))

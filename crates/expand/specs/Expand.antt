@@ -3,9 +3,9 @@ use Prim.Native.Nat.{ℕ, _-_, min}
 use mathlib.Core.Bool.{Bool, true, false}
 use mathlib.Core.List.{List, map}
 use lib.ListN.{length}
-use Rattle.error.specs.Logic.{if_then_else_}
-use Rattle.error.specs.Outcome.{Outcome, accept}
-use Rattle.error.specs.Steps.{_>>=_, _>>_, orRefuse}
+use Rattle.parse.specs.Logic.{if_then_else_}
+use Rattle.parse.specs.Outcome.{Outcome, accept}
+use Rattle.parse.specs.Steps.{_>>=_, _>>_, orRefuse}
 use Rattle.boxes.specs.Parts.{held}
 use Rattle.unit_list.specs.UnitList.{encode}
 use Rattle.unit_list.specs.Answers.{listUnits}
@@ -13,7 +13,7 @@ use Rattle.sps.specs.Sps.{parseSps}
 use Rattle.vps.specs.Vps.{vpsFirstPtl}
 use Rattle.ptl.specs.declared.VvcPtlRecord.{VvcPtlRecord}
 use Rattle.sps.specs.declared.SpsHead.{SpsHead}
-use Rattle.grouping.specs.Grouping.{havingType, first, grouped}
+use Rattle.grouping.specs.Grouping.{havingType, firstElement, grouped}
 use Rattle.compact.specs.declared.CompactVvcConfig.{CompactVvcConfig}
 use Rattle.full.specs.declared.VvcConfig.{VvcConfig}
 
@@ -21,16 +21,16 @@ use Rattle.full.specs.declared.VvcConfig.{VvcConfig}
 unfoldable pub multiLayerVps : Bool → List (List ℕ) → Outcome (Unit {0})
 multiLayerVps false us = accept tt
 multiLayerVps true us = do
-  vps ← orRefuse 16 (first (havingType 14 us))
+  vps ← orRefuse 16 (firstElement (havingType 14 us))
   vpsFirstPtl vps
   accept tt
 
--- "PTL of the first SPS or else the first VPS": 18 neither PTL nor VPS; the VPS's refusals
+-- "PTL of the firstElement SPS or else the firstElement VPS": 18 neither PTL nor VPS; the VPS's refusals
 unfoldable pub ptlOfSets : SpsHead → List (List ℕ) → Outcome VvcPtlRecord
 ptlOfSets sps us =
     if sps .«ptl_present_flag» then accept (sps .ptl)
     else do
-      vps ← orRefuse 18 (first (havingType 14 us))
+      vps ← orRefuse 18 (firstElement (havingType 14 us))
       vpsFirstPtl vps
 
 -- what the caller knows of the picture
@@ -57,7 +57,7 @@ expandedHead c pic ptl = record {
   «avg_frame_rate» = 0;
 }
 
--- what expansion hands back
+-- what expansion returns
 pub record FullHead : Type 0 where
   pub head : VvcConfig
   pub listLength : ℕ
@@ -65,11 +65,11 @@ pub record FullHead : Type 0 where
 abbrev pub withList : VvcConfig → List ℕ → FullHead × List ℕ
 withList h list = (record { head = h; listLength = length list }, list)
 
--- the head and list of units: the refusals of expansion behind 23 and 21
+-- the head and list of units: the refusals of expansion after 23 and 21
 unfoldable pub expandUnits : CompactVvcConfig → Picture → List (List ℕ) → Outcome (FullHead × List ℕ)
 expandUnits c pic us = do
   multiLayerVps (c .«multi_layer_flag») us
-  unit ← orRefuse 17 (first (havingType 15 us))
+  unit ← orRefuse 17 (firstElement (havingType 15 us))
   sps ← parseSps unit
   ptl ← ptlOfSets sps us
   accept (withList (expandedHead c pic ptl) (encode (grouped us)))

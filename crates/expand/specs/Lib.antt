@@ -1,3 +1,3 @@
 pub mod Expand
 pub mod Answers
-pub mod Inside
+pub mod inner

@@ -1,4 +1,4 @@
-// For this crate's calls: the head of an expanded record.
+// Internal: the head of an expanded record.
 use compact::CompactVvcConfig;
 use full::VvcConfig;
 use ptl::VvcPtlRecord;

@@ -10,13 +10,13 @@ use params::ParamsAnswer;
 use unit_list::ListCursor;
 use unit_list::ListStart;
 ghost use mathlib.Core.Path.{_≡_};
-ghost use Rattle.error.specs.Outcome.{refuse};
+ghost use Rattle.parse.specs.Outcome.{refuse};
 ghost use Rattle.error.specs.Refusals.{numberOf};
 ghost use Rattle.full.specs.Read.{zeroHead};
 ghost use Rattle.expand.specs.Expand.{expandUnits, toFull};
 ghost use Rattle.expand.specs.Answers.{expandedOf, expandedGiven};
-ghost use Rattle.grouping.specs.Units.{Readable, unitsAt};
-ghost use Rattle.expand.specs.Inside.{withUnits};
+ghost use Rattle.grouping.specs.inner.Units.{Readable, unitsAt};
+ghost use Rattle.expand.specs.inner.ParameterSets.{withUnits};
 
 // What a compact record expands to: so many bytes of the output are the unit list.
 pub enum ExpandAnswer {
@@ -42,7 +42,7 @@ fn refused(e: Refusal) -> Expanded
     }
 }
 
-// A head with the list of the units behind a cursor, which goes to the output. Refusal: 20.
+// A head with the list of the units after a cursor, which goes to the output. Refusal: 20.
 fn put_expanded(full_head: VvcConfig, list: &[u8], c: ListCursor, out: &mut [u8]) -> Expanded
     requires { ⌜ Readable (now list) c ⌝ }
     ensures { λ r. ⌜ (expandedOf r, now (out .exit)) ≡ expandedGiven (withUnits «full_head» (unitsAt (now (list .entry)) c)) (now (out .entry)) ⌝ }
@@ -59,7 +59,7 @@ fn put_expanded(full_head: VvcConfig, list: &[u8], c: ListCursor, out: &mut [u8]
     }
 }
 
-// What the units behind a cursor expand to. Refusals: with the flag set 16 and the VPS's; 17, the SPS's, 18, the VPS's, 20.
+// What the units after a cursor expand to. Refusals: with the flag set 16 and the VPS's; 17, the SPS's, 18, the VPS's, 20.
 fn expand_units(
     config: CompactVvcConfig,
     list: &[u8],

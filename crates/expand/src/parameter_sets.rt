@@ -1,4 +1,4 @@
-// For this crate's calls: the PTL that the parameter sets of a list give.
+// Internal: the PTL that the parameter sets of a list give.
 use boxes::place;
 use error::Refusal;
 use grouping::units;
@@ -12,16 +12,16 @@ use vps::PtlRead;
 use vps::first_ptl;
 ghost use mathlib.Core.Path.{_≡_};
 ghost use Rattle.error.specs.Refusals.{numberOf};
-ghost use Rattle.params.specs.Answers.{readOf};
-ghost use Rattle.vps.specs.Answers.{ptlOf};
+ghost use Rattle.params.specs.Answers.{paramsReadOf};
+ghost use Rattle.vps.specs.Answers.{vpsPtlOf};
 ghost use Rattle.expand.specs.Expand.{multiLayerVps, ptlOfSets};
-ghost use Rattle.grouping.specs.Units.{Readable, unitsAt};
-ghost use Rattle.expand.specs.Inside.{ptlOrZeros, firstVpsPtl, firstSpsPtl, setsPtl};
+ghost use Rattle.grouping.specs.inner.Units.{Readable, unitsAt};
+ghost use Rattle.expand.specs.inner.ParameterSets.{ptlOrZeros, firstVpsPtl, firstSpsPtl, setsPtl};
 
-// The first PTL of the first VPS behind a cursor. Refusals: `missing` where there is no VPS, and the VPS's.
+// The first PTL of the first VPS after a cursor. Refusals: `missing` where there is no VPS, and the VPS's.
 fn vps_ptl(list: &[u8], c: ListCursor, missing: Refusal) -> PtlRead
     requires { ⌜ Readable (now list) c ⌝ }
-    ensures { λ r. ⌜ ptlOf r ≡ ptlOrZeros (firstVpsPtl (numberOf missing) (unitsAt (now (list .entry)) c)) ⌝ }
+    ensures { λ r. ⌜ vpsPtlOf r ≡ ptlOrZeros (firstVpsPtl (numberOf missing) (unitsAt (now (list .entry)) c)) ⌝ }
 {
     let first = units::first_having(list, c, NAL_VPS);
     let FirstUnit::At(a) = first else {
@@ -34,7 +34,7 @@ fn vps_ptl(list: &[u8], c: ListCursor, missing: Refusal) -> PtlRead
 // With the flag set the first VPS has to read. Refusals: 16, the VPS's.
 fn multi_layer_vps(multi_layer_flag: bool, list: &[u8], c: ListCursor) -> ParamsAnswer
     requires { ⌜ Readable (now list) c ⌝ }
-    ensures { λ r. ⌜ readOf r tt ≡ multiLayerVps «multi_layer_flag» (unitsAt (now (list .entry)) c) ⌝ }
+    ensures { λ r. ⌜ paramsReadOf r tt ≡ multiLayerVps «multi_layer_flag» (unitsAt (now (list .entry)) c) ⌝ }
 {
     if !multi_layer_flag {
         return ParamsAnswer::Read;
@@ -46,7 +46,7 @@ fn multi_layer_vps(multi_layer_flag: bool, list: &[u8], c: ListCursor) -> Params
 // The PTL of an SPS, or else of the first VPS. Refusals: 18, the VPS's.
 fn ptl_of_sets(sps: SpsHead, list: &[u8], c: ListCursor) -> PtlRead
     requires { ⌜ Readable (now list) c ⌝ }
-    ensures { λ r. ⌜ ptlOf r ≡ ptlOrZeros (ptlOfSets sps (unitsAt (now (list .entry)) c)) ⌝ }
+    ensures { λ r. ⌜ vpsPtlOf r ≡ ptlOrZeros (ptlOfSets sps (unitsAt (now (list .entry)) c)) ⌝ }
 {
     if !sps.ptl_present_flag {
         return vps_ptl(list, c, Refusal::NoPtl);
@@ -59,7 +59,7 @@ fn ptl_of_sets(sps: SpsHead, list: &[u8], c: ListCursor) -> PtlRead
 // The PTL of the first SPS, or else of the first VPS. Refusals: 17, the SPS's, 18, the VPS's.
 fn sps_ptl(list: &[u8], c: ListCursor) -> PtlRead
     requires { ⌜ Readable (now list) c ⌝ }
-    ensures { λ r. ⌜ ptlOf r ≡ ptlOrZeros (firstSpsPtl (unitsAt (now (list .entry)) c)) ⌝ }
+    ensures { λ r. ⌜ vpsPtlOf r ≡ ptlOrZeros (firstSpsPtl (unitsAt (now (list .entry)) c)) ⌝ }
 {
     let first = units::first_having(list, c, NAL_SPS);
     let FirstUnit::At(a) = first else {
@@ -75,10 +75,10 @@ fn sps_ptl(list: &[u8], c: ListCursor) -> PtlRead
     }
 }
 
-// The PTL that the parameter sets behind a cursor give. Refusals: with the flag set 16 and the VPS's; 17, the SPS's, 18, the VPS's.
+// The PTL that the parameter sets after a cursor give. Refusals: with the flag set 16 and the VPS's; 17, the SPS's, 18, the VPS's.
 pub fn sets_ptl(multi_layer_flag: bool, list: &[u8], c: ListCursor) -> PtlRead
     requires { ⌜ Readable (now list) c ⌝ }
-    ensures { λ r. ⌜ ptlOf r ≡ ptlOrZeros (setsPtl «multi_layer_flag» (unitsAt (now (list .entry)) c)) ⌝ }
+    ensures { λ r. ⌜ vpsPtlOf r ≡ ptlOrZeros (setsPtl «multi_layer_flag» (unitsAt (now (list .entry)) c)) ⌝ }
 {
     let answer = multi_layer_vps(multi_layer_flag, list, c);
     match answer {

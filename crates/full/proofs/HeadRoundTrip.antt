@@ -7,20 +7,20 @@ use mathlib.Core.List.{List, [], _∷_, _++_, append-assoc}
 use lib.Dec.{eqb}
 use lib.ListN.{length, length-append}
 use borrow.Author.Tests.{leb-true, ne-eqb}
-use Rattle.error.specs.Logic.{if_then_else_}
-use Rattle.error.specs.Parse.{value}
+use Rattle.parse.specs.Logic.{if_then_else_, bit}
+use Rattle.parse.specs.Parse.{value}
 use Rattle.boxes.specs.Bytes.{toBe}
 use Rattle.boxes.proofs.Numbers.{length-toBe}
-use Rattle.nal.proofs.StartCodes.{and-true}
 use Rattle.ptl.specs.declared.VvcPtlRecord.{VvcPtlRecord}
 use Rattle.ptl_record.specs.Read.{vvcPtlRecord}
-use Rattle.ptl_record.specs.Write.{bit, ptlBytes, ptlFits}
+use Rattle.ptl_record.specs.Write.{ptlBytes, ptlFits}
 use Rattle.full.specs.Read.{plainHead, headWithPtl, vvcHead}
 use Rattle.full.specs.Write.{ptlPart, headBytes, ptlPartFits, headFits}
 use Rattle.full.specs.RoundTrip.{Wide, readBack}
 unfoldable pub use Rattle.full.specs.RoundTrip.{withPtl}
 use Rattle.full.specs.declared.VvcConfig.{VvcConfig}
 use Rattle.record_arrays.proofs.ArraysRoundTrip.{byte-there, number-there}
+use Rattle.parse.proofs.General.{and-true}
 
 -- a PTL that is read back as another
 abbrev pub ReadsAs : VvcPtlRecord → ℕ → VvcPtlRecord → Type 0
@@ -69,7 +69,7 @@ module _ (h : VvcConfig) (q : VvcPtlRecord) (sm : Small h) (wide : Wide h) (read
   abbrev dims : List ℕ
   dims = toBe 2 (h .«max_picture_width») ++ (toBe 2 (h .«max_picture_height») ++ (toBe 2 (h .«avg_frame_rate») ++ post))
 
-  -- the parts of s, each behind those before it
+  -- the parts of s, each after those before it
   whole : s ≡ pre ++ (toBe 2 (word h) ++ ((h .«bit_depth_minus8» * 32 + 31) ∷ (ptlOf ++ dims)))
   unfolding ptlPart
   whole = e ∙ ap (λ (x : List ℕ). pre ++ x) (simp append-assoc)

@@ -1,5 +1,5 @@
 -- How long a record is that was written from a list: a lent input may be so long.
-use Prim.Native.Nat.{ℕ, suc, _+_, _-_, _*_, _^_, _≤_}
+use Prim.Native.Nat.{ℕ, suc, _+_, _*_, _^_, _≤_}
 use native.Mathlib.Omega.{arith}
 use native.Mathlib.Decide.{decLe}
 use mathlib.Core.Path.{_≡_, refl, _∙_}
@@ -8,10 +8,9 @@ use mathlib.Core.List.{List, [], _∷_, _++_}
 use lib.Dec.{leb}
 use lib.ListN.{length, length-append}
 use borrow.Author.Tests.{leb-true}
-use Rattle.error.specs.Logic.{if_then_else_}
+use Rattle.parse.specs.Logic.{if_then_else_}
 use Rattle.boxes.specs.Bytes.{toBe, toChunk}
 use Rattle.boxes.proofs.Numbers.{length-toBe}
-use Rattle.nal.proofs.StartCodes.{and-true}
 use Rattle.unit_list.specs.UnitList.{Array, unitsOf, encodeUnits, encodeArray, encodeArrays, encode}
 use Rattle.unit_list.proofs.Encode.{length-toChunk}
 use Rattle.record_arrays.specs.Read.{holdsOne}
@@ -21,6 +20,7 @@ use Rattle.full.specs.Write.{ptlPart, headBytes, ptlPartFits, headFits, 
 use Rattle.full.specs.RoundTrip.{Typed}
 use Rattle.full.specs.declared.VvcConfig.{VvcConfig}
 use Rattle.full.proofs.HeadRoundTrip.{small, length-part}
+use Rattle.parse.proofs.General.{and-true}
 
 -- ### the head
 
@@ -43,7 +43,7 @@ head-short h t e =
 
 -- ### the arrays
 
--- units behind 2-byte lengths, beside the same behind 4-byte lengths
+-- units after 2-byte lengths, beside the same after 4-byte lengths
 units-room : (us : List (List ℕ)) → unitsFit us ≡ true
     → (length (encodeUnits 2 us) ≤ 65537 * length us) × (length (encodeUnits 4 us) ≡ length (encodeUnits 2 us) + 2 * length us)
 unfolding unitsFit encodeUnits

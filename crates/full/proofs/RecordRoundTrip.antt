@@ -7,10 +7,9 @@ use mathlib.Core.List.{List, [], _∷_, _++_, append-nil, append-assoc}
 use lib.Dec.{leb, eqb}
 use lib.ListN.{length, length-append}
 use borrow.Author.Tests.{leb-true, le-leb, eqb-false}
-use Rattle.error.specs.Logic.{if_then_else_}
-use Rattle.error.specs.Outcome.{accept, refuse}
-use Rattle.error.specs.Parse.{value}
-use Rattle.nal.proofs.StartCodes.{and-true}
+use Rattle.parse.specs.Logic.{if_then_else_}
+use Rattle.parse.specs.Outcome.{accept, refuse}
+use Rattle.parse.specs.Parse.{value}
 use Rattle.unit_list.specs.UnitList.{Array, encode}
 use Rattle.unit_list.proofs.Arrays.{Sound}
 use Rattle.record_arrays.specs.Write.{arraysBytes, arraysFit}
@@ -26,6 +25,7 @@ unfoldable pub use Rattle.full.specs.RoundTrip.{headRead}
 use Rattle.full.specs.declared.VvcConfig.{VvcConfig}
 use Rattle.record_arrays.proofs.ArraysRoundTrip.{placedArrays, arrays-read, arrays-held, byte-there}
 use Rattle.full.proofs.HeadRoundTrip.{ReadsAs, small, Writable, head-read}
+use Rattle.parse.proofs.General.{and-true}
 
 module _ (h : VvcConfig) (q : VvcPtlRecord) (xs : List (Array (List ℕ))) (w : Writable h q) (sound : Sound xs) (fits : recordFits h xs ≡ true) where
   abbrev s : List ℕ

@@ -4,9 +4,9 @@ use mathlib.Core.Bool.{true, false}
 use mathlib.Core.List.{List}
 use lib.Dec.{eqb}
 use lib.ListN.{length}
-use Rattle.error.specs.Logic.{if_then_else_}
-use Rattle.error.specs.Outcome.{Outcome, accept, refuse, lentInput}
-use Rattle.error.specs.Parse.{Parsed, value, refused, Parser, _>>=_, _>>_, give, refuseIf, times}
+use Rattle.parse.specs.Logic.{if_then_else_}
+use Rattle.parse.specs.Outcome.{Outcome, accept, refuse, lentInput}
+use Rattle.parse.specs.Parse.{Parsed, value, refused, Parser, _>>=_, _>>_, give, refuseIf, times}
 use Rattle.boxes.specs.Bytes.{uint}
 use Rattle.boxes.specs.declared.Span.{Span}
 use Rattle.bit_reader.specs.Bits.{isSet}
@@ -72,13 +72,13 @@ vvcRecord = do
   arrays ← times n recordArray
   give (head, arrays)
 
--- what reading hands back
+-- what reading returns
 pub record FullParsed : Type 0 where
   pub head : VvcConfig
   pub consumed : ℕ
   pub listLength : ℕ
 
--- reading s gave r: what is handed back, and the unit list
+-- reading s gave r: what is returned, and the unit list
 abbrev pub fullParsed : List ℕ → Parsed (VvcConfig × List (Array Span)) → Outcome (FullParsed × List ℕ)
 fullParsed s (refused e) = refuse e
 fullParsed s (value r p) =

@@ -4,7 +4,7 @@ use mathlib.Core.Path.{_≡_}
 use mathlib.Core.Bool.{Bool, true, false}
 use mathlib.Core.List.{List}
 use lib.ListN.{length, getD}
-use Rattle.error.specs.Outcome.{accept}
+use Rattle.parse.specs.Outcome.{accept}
 use Rattle.ptl.specs.declared.VvcPtlRecord.{VvcPtlRecord}
 use Rattle.ptl_record.specs.AsWritten.{asWritten}
 use Rattle.full.specs.Read.{plainHead, parseFull}

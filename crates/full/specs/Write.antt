@@ -4,12 +4,12 @@ use mathlib.Core.Bool.{Bool, true, _&&_}
 use mathlib.Core.List.{List, [], _∷_, _++_}
 use lib.Dec.{leb, eqb}
 use lib.ListN.{length}
-use Rattle.error.specs.Logic.{if_then_else_}
-use Rattle.error.specs.Outcome.{Outcome, accept, refuse, andThen}
+use Rattle.parse.specs.Logic.{if_then_else_, bit}
+use Rattle.parse.specs.Outcome.{Outcome, accept, refuse, andThen}
 use Rattle.boxes.specs.Bytes.{toBe}
 use Rattle.unit_list.specs.UnitList.{Array, decode, heldArrays}
 use Rattle.record_arrays.specs.Write.{arraysBytes, arraysFit}
-use Rattle.ptl_record.specs.Write.{bit, ptlBytes, ptlFits}
+use Rattle.ptl_record.specs.Write.{ptlBytes, ptlFits}
 use Rattle.full.specs.declared.VvcConfig.{VvcConfig}
 
 -- what stands under ptl_present_flag

@@ -58,7 +58,7 @@ impl VvcConfig {
     }
 }
 
-// For the crates further down: a head without the PTL flag. With 0 it is the head of zeros that stands beside a refusal.
+// Internal: a head without the PTL flag. With 0 it is the head of zeros that stands beside a refusal.
 pub fn plain_head(length_size: u8) -> VvcConfig
     ensures { λ r. ⌜ r ≡ plainHead «length_size» ⌝ }
 {

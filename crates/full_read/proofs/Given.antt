@@ -5,29 +5,29 @@ use mathlib.Core.Bool.{Bool, true, false}
 use mathlib.Core.List.{List}
 use lib.Dec.{leb}
 use lib.ListN.{length}
-use Rattle.error.specs.Logic.{if_then_else_}
-use Rattle.error.specs.Outcome.{Outcome, accept, refuse, handsBack, lentOutput, overlay}
-use Rattle.error.specs.Parse.{Parsed, value, refused, bind, times}
+use Rattle.parse.specs.Logic.{if_then_else_}
+use Rattle.parse.specs.Outcome.{Outcome, accept, refuse, handsBack, lentOutput, overlay}
+use Rattle.parse.specs.Parse.{Parsed, value, refused, bind, times}
 use Rattle.boxes.specs.Bytes.{uint}
 use Rattle.boxes.specs.declared.Span.{Span}
-use Rattle.boxes.proofs.Lent.{lent-too-long, lent-within}
+use Rattle.parse.proofs.Lent.{lent-too-long, lent-within}
 use Rattle.unit_list.specs.UnitList.{Array, encode, heldArrays}
 use Rattle.record_arrays.specs.Read.{recordArray}
-use Rattle.record_arrays_read.specs.Inside.{countedArrays, listGiven}
+use Rattle.record_arrays_read.specs.inner.Arrays.{countedArrays, listGiven}
 use Rattle.full.specs.Read.{FullParsed, fullParsed, parseFull, vvcHead, vvcRecord, zeroHead}
 use Rattle.full.specs.declared.VvcConfig.{VvcConfig}
 use Rattle.full_read.specs.Answers.{fullGiven}
-use Rattle.full_read.specs.Inside.{besideHead, refusedWith}
+use Rattle.full_read.specs.inner.Heads.{besideHead, refusedWith}
 
 -- arrays that were read, with the head
 abbrev with-head : VvcConfig → Parsed (List (Array Span)) → Parsed (VvcConfig × List (Array Span))
 with-head head x = bind x (λ xs q. value (head, xs) q)
 
--- what is handed back and left in the output, once it is known what is read
+-- what is returned and left in the output, once it is known what is read
 abbrev handed : Outcome (FullParsed × List ℕ) → List ℕ → (Outcome FullParsed × VvcConfig) × List ℕ
 handed o out = (handsBack (λ r. r .head) zeroHead (lentOutput o out .0), lentOutput o out .1)
 
--- bytes that are stored if they fit, and what is handed back with them
+-- bytes that are stored if they fit, and what is returned with them
 abbrev stored : {A : Type 0} → Bool → A → List ℕ → List ℕ → Outcome A × List ℕ
 stored b a bytes out = if b then (accept a, overlay bytes out) else (refuse 20, out)
 

@@ -6,14 +6,13 @@ use native.Mathlib.Omega.{arith}
 use native.Mathlib.Decide.{decLe}
 use lib.ListN.{length, getD}
 use borrow.Author.Tests.{eq-eqb, ne-eqb}
-use Rattle.error.specs.Parse.{Parsed, value, refused, bind}
+use Rattle.parse.specs.Parse.{Parsed, value, refused, bind}
 use Rattle.error.specs.Refusals.{numberOf}
 use Rattle.error.specs.declared.Refusal.{Refusal}
 use Rattle.boxes.specs.Bytes.{be, uint}
 use Rattle.boxes.proofs.Fields.{uint-there, uint-short}
-use Rattle.ptl.specs.Answers.{orZeroPtl}
 use Rattle.ptl.specs.declared.VvcPtlRecord.{VvcPtlRecord}
-use Rattle.ptl_record.specs.Answers.{readOf, ptlOf}
+use Rattle.ptl_record.specs.inner.Answers.{ptlRecordRead, ptlRecordOf}
 use Rattle.ptl_record.specs.Read.{vvcPtlRecord}
 use Rattle.ptl_record.specs.declared.PtlRecordAnswer.{PtlRecordAnswer}
 use Rattle.ptl_record.specs.declared.PtlRecordAnswer.the-variants as P
@@ -21,10 +20,11 @@ use Rattle.ptl_record.specs.declared.PtlRecordRead.{PtlRecordRead}
 use Rattle.ptl_record.proofs.Reading.{Reach, reach-bind, reach-value, reach-uint, reach-byte}
 use Rattle.full.specs.Read.{plainHead, headWithPtl, vvcHead}
 use Rattle.full.specs.declared.VvcConfig.{VvcConfig}
-use Rattle.full_read.specs.Inside.{headRead, headOf, orZeroHead, headFields, sizesBehind}
+use Rattle.full_read.specs.inner.Heads.{headAnswerOf, headReadOf, orZeroHead, headFields, sizesAfter}
 use Rattle.full_read.specs.declared.head.HeadAnswer.{HeadAnswer}
 use Rattle.full_read.specs.declared.head.HeadAnswer.the-variants as H
 use Rattle.full_read.specs.declared.head.HeadRead.{HeadRead}
+use Rattle.ptl.specs.inner.Answers.{orZeroPtl}
 
 -- what follows the PTL: three numbers of two bytes
 module _ (s : List ℕ) where
@@ -32,8 +32,8 @@ module _ (s : List ℕ) where
   reach-number-to p q e = rw e at (reach-uint s 2 p)
 
   pub reads-sizes : (size w d : ℕ) (ptl : VvcPtlRecord) (at : ℕ)
-      → Reach (length s) (sizesBehind size w d ptl s at) (headFields size w d ptl (be s at 2) (be s (at + 2) 2) (be s (at + 4) 2)) (at + 6)
-  unfolding sizesBehind
+      → Reach (length s) (sizesAfter size w d ptl s at) (headFields size w d ptl (be s at 2) (be s (at + 2) 2) (be s (at + 4) 2)) (at + 6)
+  unfolding sizesAfter
   reads-sizes size w d ptl at =
       reach-bind _ (reach-number-to at (at + 2) refl) (omega arith)
       (λ _. reach-bind _ (reach-number-to (at + 2) (at + 4) (omega arith)) (omega arith)
@@ -44,7 +44,7 @@ or-zero : (x : Parsed VvcPtlRecord) → orZeroPtl x .0 ≡ x
 or-zero (value p q) = refl
 or-zero (refused e) = refl
 
--- what the PTL flag announces, behind the first byte
+-- what the PTL flag announces, after the first byte
 module _ (size : ℕ) (s : List ℕ) where
   no-depth : 3 ≤ length s → length s < 4 → headWithPtl size s 1 ≡ refused 1
   unfolding headWithPtl
@@ -62,22 +62,22 @@ module _ (size : ℕ) (s : List ℕ) where
       ]
 
   module _ (there : 4 ≤ length s) where
-    behind-number : headWithPtl size s 1 ≡ bind (vvcPtlRecord (be s 1 2 / 16 % 8) s 4) (λ ptl q. sizesBehind size (be s 1 2) (be s 3 1) ptl s q)
-    unfolding headWithPtl sizesBehind
-    behind-number = rw (uint-there 2 s 1 (omega arith), uint-there 1 s 3 there)
+    after-number : headWithPtl size s 1 ≡ bind (vvcPtlRecord (be s 1 2 / 16 % 8) s 4) (λ ptl q. sizesAfter size (be s 1 2) (be s 3 1) ptl s q)
+    unfolding headWithPtl sizesAfter
+    after-number = rw (uint-there 2 s 1 (omega arith), uint-there 1 s 3 there)
 
     -- the PTL was read, or refused
-    module _ (w : ℕ) (is : w ≡ be s 1 2) (r : PtlRecordRead) (f : ptlOf r ≡ orZeroPtl (vvcPtlRecord (w / 16 % 8) s 4)) where
-      ptl-said : vvcPtlRecord (be s 1 2 / 16 % 8) s 4 ≡ readOf (r .answer) (r .ptl)
+    module _ (w : ℕ) (is : w ≡ be s 1 2) (r : PtlRecordRead) (f : ptlRecordOf r ≡ orZeroPtl (vvcPtlRecord (w / 16 % 8) s 4)) where
+      ptl-said : vvcPtlRecord (be s 1 2 / 16 % 8) s 4 ≡ ptlRecordRead (r .answer) (r .ptl)
       ptl-said = rw (← is) (sym (ap (λ (y : Parsed VvcPtlRecord × VvcPtlRecord). y .0) f ∙ or-zero (vvcPtlRecord (w / 16 % 8) s 4)))
 
-      known : (a : PtlRecordAnswer) → r .answer ≡ a → headWithPtl size s 1 ≡ bind (readOf a (r .ptl)) (λ ptl q. sizesBehind size (be s 1 2) (be s 3 1) ptl s q)
+      known : (a : PtlRecordAnswer) → r .answer ≡ a → headWithPtl size s 1 ≡ bind (ptlRecordRead a (r .ptl)) (λ ptl q. sizesAfter size (be s 1 2) (be s 3 1) ptl s q)
       known a e =
-          behind-number
-          ∙ ap (λ (x : Parsed VvcPtlRecord). bind x (λ ptl q. sizesBehind size (be s 1 2) (be s 3 1) ptl s q))
-          (ptl-said ∙ ap (λ (a : PtlRecordAnswer). readOf a (r .ptl)) e)
+          after-number
+          ∙ ap (λ (x : Parsed VvcPtlRecord). bind x (λ ptl q. sizesAfter size (be s 1 2) (be s 3 1) ptl s q))
+          (ptl-said ∙ ap (λ (a : PtlRecordAnswer). ptlRecordRead a (r .ptl)) e)
 
-      pub ptl-read : (q : ℕ) → r .answer ≡ P.Read q → headWithPtl size s 1 ≡ sizesBehind size (be s 1 2) (be s 3 1) (r .ptl) s q
+      pub ptl-read : (q : ℕ) → r .answer ≡ P.Read q → headWithPtl size s 1 ≡ sizesAfter size (be s 1 2) (be s 3 1) (r .ptl) s q
       ptl-read q e = known (P.Read q) e
 
       pub ptl-refused : (e : Refusal) → r .answer ≡ P.Refused e → headWithPtl size s 1 ≡ refused (numberOf e)
@@ -88,15 +88,15 @@ or-zero-head : (x : Parsed VvcConfig) → orZeroHead x .0 ≡ x
 or-zero-head (value p q) = refl
 or-zero-head (refused e) = refl
 
-module _ (r : HeadRead) (x : Parsed VvcConfig) (f : headOf r ≡ orZeroHead x) where
-  head-said : x ≡ headRead (r .answer) (r .head)
+module _ (r : HeadRead) (x : Parsed VvcConfig) (f : headReadOf r ≡ orZeroHead x) where
+  head-said : x ≡ headAnswerOf (r .answer) (r .head)
   head-said = sym (ap (λ (y : Parsed VvcConfig × VvcConfig). y .0) f ∙ or-zero-head x)
 
   pub head-read : (q : ℕ) → r .answer ≡ H.Read q → x ≡ value (r .head) q
-  head-read q e = head-said ∙ ap (λ (a : HeadAnswer). headRead a (r .head)) e
+  head-read q e = head-said ∙ ap (λ (a : HeadAnswer). headAnswerOf a (r .head)) e
 
   pub head-refused : (e : Refusal) → r .answer ≡ H.Refused e → x ≡ refused (numberOf e)
-  head-refused e h = head-said ∙ ap (λ (a : HeadAnswer). headRead a (r .head)) h
+  head-refused e h = head-said ∙ ap (λ (a : HeadAnswer). headAnswerOf a (r .head)) h
 
 -- the first byte
 module _ (s : List ℕ) where

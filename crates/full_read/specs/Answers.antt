@@ -1,7 +1,7 @@
 -- What the answers of this crate say.
 use Prim.Native.Nat.{ℕ}
 use mathlib.Core.List.{List}
-use Rattle.error.specs.Outcome.{Outcome, accept, refuse, handsBack, lentOutput}
+use Rattle.parse.specs.Outcome.{Outcome, accept, refuse, handsBack, lentOutput}
 use Rattle.error.specs.Refusals.{numberOf}
 use Rattle.full.specs.Read.{FullParsed, parseFull, zeroHead}
 use Rattle.full.specs.declared.VvcConfig.{VvcConfig}
@@ -9,13 +9,13 @@ use Rattle.full_read.specs.declared.FullAnswer.{FullAnswer}
 use Rattle.full_read.specs.declared.FullAnswer.the-variants as A
 use Rattle.full_read.specs.declared.FullRead.{FullRead}
 
-abbrev pub answerOf : FullAnswer → VvcConfig → Outcome FullParsed
-answerOf (A.Read consumed len) h = accept (record { head = h; consumed = consumed; listLength = len })
-answerOf (A.Refused e) h = refuse (numberOf e)
+abbrev pub fullAnswerOf : FullAnswer → VvcConfig → Outcome FullParsed
+fullAnswerOf (A.Read consumed len) h = accept (record { head = h; consumed = consumed; listLength = len })
+fullAnswerOf (A.Refused e) h = refuse (numberOf e)
 
 -- the answer, and what stands in the struct's head, on a refusal too
 abbrev pub fullOf : FullRead → Outcome FullParsed × VvcConfig
-fullOf r = (answerOf (r .answer) (r .head), r .head)
+fullOf r = (fullAnswerOf (r .answer) (r .head), r .head)
 
 -- `VvcConfig::parse` into lent output: the answer, the head beside it and what the output then holds
 abbrev pub fullGiven : List ℕ → List ℕ → (Outcome FullParsed × VvcConfig) × List ℕ

@@ -8,9 +8,9 @@ use head::HeadAnswer;
 use record_arrays_read::ListRead;
 ghost use mathlib.Core.Path.{_≡_};
 ghost use Rattle.error.specs.Refusals.{numberOf};
-ghost use Rattle.record_arrays_read.specs.Inside.{listOf};
+ghost use Rattle.record_arrays_read.specs.inner.Arrays.{listOf};
 ghost use Rattle.full_read.specs.Answers.{fullOf, fullGiven};
-ghost use Rattle.full_read.specs.Inside.{besideHead, refusedWith};
+ghost use Rattle.full_read.specs.inner.Heads.{besideHead, refusedWith};
 
 // A full record that was read: bytes consumed, and how many bytes of the output its unit list takes.
 pub enum FullAnswer {

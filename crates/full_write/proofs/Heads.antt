@@ -1,4 +1,4 @@
--- Laws of the bytes of a head: its parts stored one behind the other, and its length.
+-- Laws of the bytes of a head: its parts stored one after the other, and its length.
 use Prim.Native.Nat.{ℕ, _+_, _-_, _*_, _≤_}
 use mathlib.Core.Path.{_≡_, sym, ap, _∙_, subst}
 use mathlib.Core.Bool.{Bool, true, false}
@@ -7,16 +7,16 @@ use native.Mathlib.Omega.{arith}
 use lib.ListN.{length, set, length-append}
 use lib.Seq.{sets}
 use borrow.Author.Tests.{leb-true, le-leb}
-use Rattle.error.specs.Logic.{if_then_else_}
+use Rattle.parse.specs.Logic.{if_then_else_, bit}
 use Rattle.boxes.specs.Bytes.{toBe}
 use Rattle.boxes.proofs.Numbers.{length-toBe}
-use Rattle.nal.proofs.StartCodes.{and-true}
-use Rattle.ptl_record.specs.Write.{bit, ptlBytes}
+use Rattle.ptl_record.specs.Write.{ptlBytes}
 use Rattle.ptl_record.proofs.Writing.{sets-then}
 use Rattle.full.specs.Write.{ptlPart, headBytes, ptlPartFits, headFits}
 use Rattle.full.specs.declared.VvcConfig.{VvcConfig}
+use Rattle.parse.proofs.General.{and-true}
 
--- three numbers of two bytes, stored one behind the other
+-- three numbers of two bytes, stored one after the other
 pub picture-stored : (d : List ℕ) (at x y z : ℕ) → sets (sets (sets d at (toBe 2 x)) (at + 2) (toBe 2 y)) (at + 4) (toBe 2 z) ≡ sets d at ((toBe 2 x ++ toBe 2 y) ++ toBe 2 z)
 picture-stored d at x y z =
     let a = length-toBe 2 x in
@@ -48,17 +48,17 @@ module _ (h : VvcConfig) where
   abbrev Z : List ℕ
   Z = toBe 2 (h .«avg_frame_rate»)
 
-  -- the parts under the flag, stored one behind the other
-  pub part-stored : (d : List ℕ) (at behind : ℕ) → behind ≡ at + 3 + length P
-      → sets (sets (set (sets d at W) (at + 2) (h .«bit_depth_minus8» * 32 + 31)) (at + 3) P) behind ((X ++ Y) ++ Z) ≡ sets d at (ptlPart h)
+  -- the parts under the flag, stored one after the other
+  pub part-stored : (d : List ℕ) (at after : ℕ) → after ≡ at + 3 + length P
+      → sets (sets (set (sets d at W) (at + 2) (h .«bit_depth_minus8» * 32 + 31)) (at + 3) P) after ((X ++ Y) ++ Z) ≡ sets d at (ptlPart h)
   unfolding ptlPart
-  part-stored d at behind e =
+  part-stored d at after e =
       let w = length-toBe 2 (word h) in
       let l₁ = length-append W D in
       let l₂ = length-append (W ++ D) P in
-      ap (λ (v : List ℕ). sets (sets v (at + 3) P) behind ((X ++ Y) ++ Z)) (sets-then d at (at + 2) W D (omega arith))
-      ∙ ap (λ (v : List ℕ). sets v behind ((X ++ Y) ++ Z)) (sets-then d at (at + 3) (W ++ D) P (omega arith))
-      ∙ sets-then d at behind ((W ++ D) ++ P) ((X ++ Y) ++ Z) (omega arith)
+      ap (λ (v : List ℕ). sets (sets v (at + 3) P) after ((X ++ Y) ++ Z)) (sets-then d at (at + 2) W D (omega arith))
+      ∙ ap (λ (v : List ℕ). sets v after ((X ++ Y) ++ Z)) (sets-then d at (at + 3) (W ++ D) P (omega arith))
+      ∙ sets-then d at after ((W ++ D) ++ P) ((X ++ Y) ++ Z) (omega arith)
       ∙ ap (sets d at) (sym (append-assoc ((W ++ D) ++ P) (X ++ Y) Z) ∙ ap (λ (v : List ℕ). v ++ Z) (sym (append-assoc ((W ++ D) ++ P) X Y)))
 
   -- what a head that fits says

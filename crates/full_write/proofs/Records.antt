@@ -1,4 +1,4 @@
--- Laws of the record: its answers in the order of their tests, and its parts stored one behind the other.
+-- Laws of the record: its answers in the order of their tests, and its parts stored one after the other.
 use Prim.Native.Nat.{ℕ, _+_, _^_, _≤_}
 use mathlib.Core.Path.{_≡_, refl, sym, ap, subst, _∙_}
 use mathlib.Core.Bool.{Bool, true, false, _&&_}
@@ -8,29 +8,29 @@ use lib.Dec.{leb}
 use lib.ListN.{length, set, length-append, length-set}
 use lib.Seq.{sets, length-sets}
 use borrow.Author.Tests.{eq-eqb, ne-eqb, leb-true}
-use Rattle.error.specs.Outcome.{Outcome, accept, refuse}
+use Rattle.parse.specs.Outcome.{Outcome, accept, refuse}
 use Rattle.error.specs.Refusals.{numberOf}
 use Rattle.error.specs.declared.Refusal.{Refusal}
 use Rattle.boxes.specs.Walk.{countFound}
 use Rattle.boxes.specs.declared.Span.{Span}
-use Rattle.nal.proofs.StartCodes.{and-true}
 use Rattle.unit_list.specs.UnitList.{Array, decode, heldArrays}
-use Rattle.unit_list.specs.Walk.{arraysFrom, Fits}
+use Rattle.unit_list.specs.inner.Walk.{arraysFrom, Fits}
 use Rattle.unit_list.specs.declared.ListCursor.{ListCursor}
 use Rattle.record_arrays.specs.Write.{arraysBytes}
-use Rattle.record_arrays_write.specs.Inside.{arraysMeasure, measuredBy, measureOf, ArraysWithin, Puts, bytesOf, arraysInRecord}
+use Rattle.record_arrays_write.specs.inner.Measures.{arraysMeasure, measuredBy, measureOf, ArraysWithin, Puts, bytesOf, arraysInRecord}
 use Rattle.record_arrays_write.specs.declared.measure.Measure.{Measure}
 use Rattle.record_arrays_write.specs.declared.measure.RecordMeasure.{RecordMeasure}
 use Rattle.record_arrays_write.specs.declared.measure.RecordMeasure.the-variants as M
 use Rattle.ptl_record.proofs.Writing.{sets-then}
 use Rattle.full.specs.Write.{headBytes, headFits, fullBytes, recordFits, writeFull, serializeFull}
 use Rattle.full.specs.declared.VvcConfig.{VvcConfig}
-use Rattle.full_write.specs.Inside.{recordOf, Writable, SizeOf}
+use Rattle.full_write.specs.inner.Record.{fullRecordOf, Writable, SizeOf}
 use Rattle.full_write.specs.declared.RecordSize.{RecordSize}
 use Rattle.full_write.specs.declared.RecordSize.the-variants as R
+use Rattle.parse.proofs.General.{and-true}
 
 -- a list's record is that of its arrays
-pub serialize-arrays : (h : VvcConfig) (s : List ℕ) (o : Outcome (List (Array Span))) → o ≡ decode s → recordOf h s o ≡ serializeFull h s
+pub serialize-arrays : (h : VvcConfig) (s : List ℕ) (o : Outcome (List (Array Span))) → o ≡ decode s → fullRecordOf h s o ≡ serializeFull h s
 unfolding serializeFull
 serialize-arrays h s o e = rw e
 
@@ -53,15 +53,15 @@ fits-by h s o m k = rw (k .is)
 pub fits-parts : (a : Bool) (n : ℕ) (b : Bool) → a && (leb n 255 && b) ≡ true → (a ≡ true) × (n ≤ 255)
 fits-parts a n b e = let f = and-true a (leb n 255 && b) e in (f .0, leb-true n 255 (and-true (leb n 255) b (f .1) .0))
 
-refused-of : (h : VvcConfig) (s : List ℕ) (o : Outcome (List (Array Span))) (n : ℕ) → refuse n ≡ measuredBy (arraysMeasure s) o → recordOf h s o ≡ refuse n
+refused-of : (h : VvcConfig) (s : List ℕ) (o : Outcome (List (Array Span))) (n : ℕ) → refuse n ≡ measuredBy (arraysMeasure s) o → fullRecordOf h s o ≡ refuse n
 refused-of h s (accept xs) n e = absurd (let z : _≡_ {A = ℕ} 0 1 = cc in omega arith)
 refused-of h s (refuse k) n e = let z : k ≡ n = cc in ap refuse z
 
--- ### the tests, once the arrays behind a cursor's end are measured
+-- ### the tests, once the arrays after a cursor's end are measured
 
 module _ (h : VvcConfig) (s : List ℕ) (c : ListCursor) (fits : Fits s c) (r : RecordMeasure)
     (f : (measureOf r ≡ measuredBy (arraysMeasure s) (arraysFrom s c)) × ArraysWithin s r) where
-  pub record-malformed : r ≡ M.Malformed → recordOf h s (arraysFrom s c) ≡ refuse 21
+  pub record-malformed : r ≡ M.Malformed → fullRecordOf h s (arraysFrom s c) ≡ refuse 21
   record-malformed e = refused-of h s (arraysFrom s c) 21 (sym (ap measureOf e) ∙ f .0)
 
   module _ (m : Measure) (e : r ≡ M.Is m) where
@@ -75,17 +75,17 @@ module _ (h : VvcConfig) (s : List ℕ) (c : ListCursor) (fits : Fits s c) (r : 
     pub arrays-short : m .len ≤ 2 ^ 30
     arrays-short = let w = subst (ArraysWithin s) e (f .1) in omega (arith, w .0, fits .lent)
 
-    pub record-three : h .«length_size» ≡ 3 → recordOf h s (arraysFrom s c) ≡ refuse 3
+    pub record-three : h .«length_size» ≡ 3 → fullRecordOf h s (arraysFrom s c) ≡ refuse 3
     unfolding writeFull
     record-three e = rw (k .found, eq-eqb (h .«length_size») 3 e)
 
     module _ (other : h .«length_size» ≡ 3 → ⊥) where
-      pub record-wide : headFits h && (leb (m .count) 255 && m .fits) ≡ false → recordOf h s (arraysFrom s c) ≡ refuse 22
+      pub record-wide : headFits h && (leb (m .count) 255 && m .fits) ≡ false → fullRecordOf h s (arraysFrom s c) ≡ refuse 22
       unfolding writeFull
       record-wide e = rw (k .found, ne-eqb (h .«length_size») 3 other, sym (fits-by h s (arraysFrom s c) m k) ∙ e)
 
       module _ (fit : headFits h && (leb (m .count) 255 && m .fits) ≡ true) where
-        record-given : recordOf h s (arraysFrom s c) ≡ accept (fullBytes h xs)
+        record-given : fullRecordOf h s (arraysFrom s c) ≡ accept (fullBytes h xs)
         unfolding writeFull
         record-given = rw (k .found, ne-eqb (h .«length_size») 3 other, sym (fits-by h s (arraysFrom s c) m k) ∙ fit)
 
@@ -95,7 +95,7 @@ module _ (h : VvcConfig) (s : List ℕ) (c : ListCursor) (fits : Fits s c) (r : 
             let n : m .len ≡ length (arraysBytes xs) = ap (λ (x : Measure). x .len) (k .is) in
             omega (arith, length-append (headBytes h) (length xs ∷ []), length-append (headBytes h ++ (length xs ∷ [])) (arraysBytes xs))
 
-        pub record-sized : (head-len : ℕ) → head-len ≡ length (headBytes h) → Writable h s (recordOf h s (arraysFrom s c)) c (m .count) (head-len + 1 + m .len)
+        pub record-sized : (head-len : ℕ) → head-len ≡ length (headBytes h) → Writable h s (fullRecordOf h s (arraysFrom s c)) c (m .count) (head-len + 1 + m .len)
         record-sized head-len l =
             let p = fits-parts (headFits h) (m .count) (m .fits) fit in
             record {

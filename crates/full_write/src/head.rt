@@ -77,7 +77,7 @@ fn put_picture(out: &mut [u8], at: usize, width: u16, height: u16, rate: u16)
     place::put_number(out, at + 4, 2, rate as usize);
 }
 
-// Stores what stands under the PTL flag, and gives the place behind it.
+// Stores what stands under the PTL flag, and gives the place after it.
 fn put_ptl_part(out: &mut [u8], at: usize, h: VvcConfig) -> usize
     requires { ⌜ (ptlPartFits h ≡ true) × (at + length (ptlPart h) ≤ length (now out)) ⌝ }
     ensures { λ r. ⌜ (r ≡ at + length (ptlPart h)) × (now (out .exit) ≡ sets (now (out .entry)) at (ptlPart h)) × (r ≤ at + 1103) ⌝ }
@@ -90,18 +90,18 @@ fn put_ptl_part(out: &mut [u8], at: usize, h: VvcConfig) -> usize
     );
     place::put_number(out, at, 2, word);
     place::put(out, at + 2, h.bit_depth_minus8 * 32 + 31);
-    let behind = ptl_record_write::write::put_ptl(out, at + 3, h.native_ptl, h.num_sublayers);
+    let after = ptl_record_write::write::put_ptl(out, at + 3, h.native_ptl, h.num_sublayers);
     put_picture(
         out,
-        behind,
+        after,
         h.max_picture_width,
         h.max_picture_height,
         h.avg_frame_rate,
     );
-    behind + 6
+    after + 6
 }
 
-// Stores a head at the front of lent memory, and gives the place behind it.
+// Stores a head at the front of lent memory, and gives the place after it.
 pub fn put_head(out: &mut [u8], h: VvcConfig) -> usize
     requires { ⌜ (headFits h ≡ true) × (length (headBytes h) ≤ length (now out)) ⌝ }
     ensures { λ r. ⌜ (r ≡ length (headBytes h)) × (now (out .exit) ≡ sets (now (out .entry)) 0 (headBytes h)) × (r ≤ 1104) ⌝ }

@@ -16,12 +16,12 @@ use unit_list::walk;
 ghost use mathlib.Core.Path.{_≡_};
 ghost use mathlib.Core.Bool.{_&&_};
 ghost use lib.Dec.{leb};
-ghost use Rattle.error.specs.Outcome.{lentOutput, counted};
-ghost use Rattle.error.specs.Answers.{countOf, writtenOf};
+ghost use Rattle.parse.specs.Outcome.{lentOutput, counted};
+ghost use Rattle.parse.specs.Answers.{countOf, writtenOf};
 ghost use Rattle.boxes.specs.Walk.{countFound};
-ghost use Rattle.unit_list.specs.Walk.{arraysFrom, Fits};
+ghost use Rattle.unit_list.specs.inner.Walk.{arraysFrom, Fits};
 ghost use Rattle.full.specs.Write.{headFits, serializeFull};
-ghost use Rattle.full_write.specs.Inside.{recordOf, Writable, SizeOf};
+ghost use Rattle.full_write.specs.inner.Record.{fullRecordOf, Writable, SizeOf};
 
 // The cursor in front of a record's arrays, how many they are, and the bytes of the record; or why it is refused.
 pub enum RecordSize {
@@ -42,10 +42,10 @@ fn record_fits(head: VvcConfig, arrays: Measure) -> bool
     arrays.fits
 }
 
-// The size of the record of a head and of the arrays behind a cursor's end. Refusals: 21, 3, 22.
+// The size of the record of a head and of the arrays after a cursor's end. Refusals: 21, 3, 22.
 fn size_from(head: VvcConfig, list: &[u8], c: ListCursor) -> RecordSize
     requires { ⌜ Fits (now list) c ⌝ }
-    ensures { λ r. ⌜ SizeOf head (now (list .entry)) (recordOf head (now (list .entry)) (arraysFrom (now (list .entry)) c)) r ⌝ }
+    ensures { λ r. ⌜ SizeOf head (now (list .entry)) (fullRecordOf head (now (list .entry)) (arraysFrom (now (list .entry)) c)) r ⌝ }
 {
     let RecordMeasure::Is(arrays) = measure::measure_arrays(list, c) else {
         return RecordSize::Refused(Refusal::UnitList);
@@ -71,7 +71,7 @@ fn record_size(head: VvcConfig, list: &[u8]) -> RecordSize
 }
 
 // Stores a record whose size is known. Refusal: 20.
-fn put_record(
+fn put_full(
     head: VvcConfig,
     list: &[u8],
     c: ListCursor,
@@ -106,7 +106,7 @@ pub fn serialize(head: VvcConfig, list: &[u8], out: &mut [u8]) -> Written
     ensures { λ r. ⌜ (writtenOf r, now (out .exit)) ≡ lentOutput (counted (serializeFull head (now (list .entry)))) (now (out .entry)) ⌝ }
 {
     match record_size(head, list) {
-        RecordSize::Is(c, count, len) => put_record(head, list, c, count, len, out),
+        RecordSize::Is(c, count, len) => put_full(head, list, c, count, len, out),
         RecordSize::Refused(e) => Written::Refused(e),
     }
 }

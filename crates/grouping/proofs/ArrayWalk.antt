@@ -1,5 +1,5 @@
 -- Laws of a walk that takes the array of a type at its first unit, for any walk that gives units: what is done and what is left make the whole.
-use Prim.Native.Nat.{ℕ, _+_, _*_, _^_, _≤_, _<_}
+use Prim.Native.Nat.{ℕ, _+_, _*_, _^_, _≤_}
 use mathlib.Core.Path.{_≡_, refl, sym, ap, _∙_, subst}
 use mathlib.Core.Bool.{Bool, true, false}
 use mathlib.Core.List.{List, [], _∷_, _++_}
@@ -7,11 +7,12 @@ use native.Mathlib.Omega.{arith}
 use lib.ListN.{length, getD, set, replicate, length-append}
 use lib.Seq.{sets, length-sets}
 use Rattle.boxes.proofs.Sets.{sets-append}
-use Rattle.nal.specs.Header.{largestUnitType, unitTypes, typeOr31}
+use Rattle.nal.specs.Header.{largestUnitType, typeOr31}
 use Rattle.unit_list.specs.UnitList.{encodeArray, encodeArrays}
 use Rattle.grouping.specs.Grouping.{group, grouped}
-use Rattle.grouping.specs.Units.{Turn}
+use Rattle.grouping.specs.inner.Units.{Turn}
 use Rattle.grouping.proofs.FirstAppearance.{among, Marks, marks-start, marks-more, arraysLeft, arrays-all, arrays-none, arrays-met, arrays-new, array-long, groupBytes}
+use Rattle.nal.specs.inner.Kinds.{unitTypes}
 
 -- all arrays
 abbrev pub allArrays : List (List ℕ) → List ℕ

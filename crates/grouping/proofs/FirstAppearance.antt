@@ -8,18 +8,19 @@ use lib.Dec.{eqb}
 use lib.ListN.{length, getD, set, replicate, length-append, length-replicate, getD-replicate, length-set}
 use lib.Seq.{sets, getD-set-same, getD-set-other}
 use borrow.Author.Tests.{eq-eqb, eqb-true}
-use Rattle.error.specs.Logic.{if_then_else_}
+use Rattle.parse.specs.Logic.{if_then_else_}
 use Rattle.boxes.specs.Bytes.{toBe, toChunk}
 use Rattle.boxes.proofs.Numbers.{length-toBe}
 use Rattle.boxes.proofs.Sets.{sets-append, set-before}
-use Rattle.nal.specs.Header.{unitTypes, typeOr31}
+use Rattle.nal.specs.Header.{typeOr31}
 use Rattle.unit_list.specs.UnitList.{encodeUnits, encodeArray, encodeArrays}
 use Rattle.unit_list.proofs.Encode.{length-toChunk}
 use Rattle.grouping.specs.Grouping.{havingType, without, firsts, group, grouped}
+use Rattle.nal.specs.inner.Kinds.{unitTypes}
 
 -- ### the array of a type
 
--- stores behind a run may come before it
+-- stores after a run may come before it
 sets-before : (d : List ℕ) (i j : ℕ) (xs ys : List ℕ) → i + length xs ≤ j → sets (sets d j ys) i xs ≡ sets (sets d i xs) j ys
 sets-before d i j xs [] h = refl
 sets-before d i j xs (y ∷ ys) h =
@@ -34,7 +35,7 @@ module _ (us : List (List ℕ)) (t : ℕ) where
   unfolding encodeArray
   array-long = length-toChunk 4 (1 ∷ t ∷ groupBytes) ∙ omega arith
 
-  -- the units first, and then what stands before them
+  -- the units first, and then what comes before them
   pub array-stored : (d e f : List ℕ) (at n : ℕ) → e ≡ sets d (at + 6) groupBytes → f ≡ sets e at (toBe 4 n ++ (1 ∷ t ∷ [])) → n ≡ 2 + length groupBytes
       → f ≡ sets d at (encodeArray 4 (group us t))
   unfolding encodeArray toChunk

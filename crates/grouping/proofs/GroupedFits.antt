@@ -8,7 +8,7 @@ use mathlib.Core.List.{List, [], _∷_, _++_, map}
 use lib.Dec.{eqb}
 use lib.ListN.{length, getD, length-append, length-map}
 use borrow.Author.Tests.{eq-eqb}
-use Rattle.error.specs.Logic.{if_then_else_}
+use Rattle.parse.specs.Logic.{if_then_else_}
 use Rattle.boxes.specs.Bytes.{toChunk}
 use Rattle.nal.specs.Header.{largestUnitType, typeOr31}
 use Rattle.unit_list.specs.UnitList.{Array, unitsOf, encodeUnits, encodeArray, encodeArrays, encode}
@@ -126,7 +126,7 @@ module _ (us : List (List ℕ)) where
       let r = grouped-as us in
       ap length (r .units) ∙ length-map (r .order) (λ i. getD us i []) ∙ r .count
 
--- How long short units are behind lengths of w bytes, and in a list.
+-- How long short units are after lengths of w bytes, and in a list.
 pub units-long : (w : ℕ) (us : List (List ℕ)) → Every (λ u. length u ≤ 255) us → length (encodeUnits w us) ≤ (w + 255) * length us
 unfolding encodeUnits
 units-long w [] e = omega arith

@@ -9,7 +9,7 @@ use mathlib.Core.List.{List, [], _∷_, _++_, map}
 use lib.Dec.{eqb}
 use lib.ListN.{length, getD, length-append, length-map}
 use borrow.Author.Tests.{eq-eqb, ne-eqb, eqb-true, eqb-false}
-use Rattle.error.specs.Logic.{if_then_else_}
+use Rattle.parse.specs.Logic.{if_then_else_}
 use Rattle.nal.specs.Header.{typeOr31}
 use Rattle.unit_list.specs.UnitList.{unitsOf}
 use Rattle.grouping.specs.Order.{firstPlace, typeAt, Before, GroupedAs}
@@ -176,8 +176,8 @@ OfType t us i = (i < length us) × (typeAt us i ≡ t)
 type-step : (t : ℕ) (u : List ℕ) (us : List (List ℕ)) (ps : List ℕ) → Each (OfType t us) ps
     → Each (OfType t (u ∷ us)) (if eqb (typeOr31 u) t then 0 ∷ map suc ps else map suc ps)
 type-step t u us ps h =
-    let behind = each-suc (OfType t (u ∷ us)) ps (each-map (λ i k. (omega arith, k .1)) ps h) in
-    by-eqb (Each (OfType t (u ∷ us))) (typeOr31 u) t (0 ∷ map suc ps) (map suc ps) (λ e. ((omega arith, e), behind)) (λ _. behind)
+    let after = each-suc (OfType t (u ∷ us)) ps (each-map (λ i k. (omega arith, k .1)) ps h) in
+    by-eqb (Each (OfType t (u ∷ us))) (typeOr31 u) t (0 ∷ map suc ps) (map suc ps) (λ e. ((omega arith, e), after)) (λ _. after)
 
 places-type : (t : ℕ) (us : List (List ℕ)) → Each (OfType t us) (places t us)
 unfolding places
@@ -203,14 +203,14 @@ places-has t (u ∷ us) zero h e =
     by-eqb (Has 0) (typeOr31 u) t (0 ∷ map suc (places t us)) (map suc (places t us)) (λ _. (0, omega arith, refl)) (λ n. absurd (n e))
 places-has t (u ∷ us) (suc i) h e = has-step t u (places t us) i (places-has t us i (omega arith) e)
 
-units-behind : (u : List ℕ) (us : List (List ℕ)) (ps : List ℕ) → map (λ i. getD (u ∷ us) i []) (map suc ps) ≡ map (λ i. getD us i []) ps
-units-behind u us [] = refl
-units-behind u us (p ∷ ps) = ap (λ l. getD us p [] ∷ l) (units-behind u us ps)
+units-after : (u : List ℕ) (us : List (List ℕ)) (ps : List ℕ) → map (λ i. getD (u ∷ us) i []) (map suc ps) ≡ map (λ i. getD us i []) ps
+units-after u us [] = refl
+units-after u us (p ∷ ps) = ap (λ l. getD us p [] ∷ l) (units-after u us ps)
 
 units-step : (c : Bool) (u : List ℕ) (us vs : List (List ℕ)) (ps : List ℕ) → vs ≡ map (λ i. getD us i []) ps
     → (if c then u ∷ vs else vs) ≡ map (λ i. getD (u ∷ us) i []) (if c then 0 ∷ map suc ps else map suc ps)
-units-step true u us vs ps e = ap (λ l. u ∷ l) (e ∙ sym (units-behind u us ps))
-units-step false u us vs ps e = e ∙ sym (units-behind u us ps)
+units-step true u us vs ps e = ap (λ l. u ∷ l) (e ∙ sym (units-after u us ps))
+units-step false u us vs ps e = e ∙ sym (units-after u us ps)
 
 places-units : (t : ℕ) (us : List (List ℕ)) → havingType t us ≡ map (λ i. getD us i []) (places t us)
 unfolding places havingType

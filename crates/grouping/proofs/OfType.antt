@@ -12,9 +12,9 @@ use Rattle.nal.specs.Header.{typeOr31}
 use Rattle.unit_list.specs.UnitList.{encodeUnits}
 use Rattle.unit_list.proofs.Encode.{length-toChunk}
 use Rattle.grouping.specs.Grouping.{havingType}
-use Rattle.grouping.specs.Units.{Turn}
+use Rattle.grouping.specs.inner.Units.{Turn}
 
--- the bytes of the units of a type, each behind its length
+-- the bytes of the units of a type, each after its length
 abbrev pub bytesOf : ℕ → List (List ℕ) → List ℕ
 bytesOf t us = encodeUnits 4 (havingType t us)
 
@@ -45,25 +45,25 @@ module _ (t : ℕ) (left : List (List ℕ)) (p : ℕ) (u : List ℕ) (rest : Lis
   having-other h = ap (havingType t) (w .units) ∙ rw (ne-eqb (typeOr31 u) t h)
 
 -- the walk over us stands at place p, with `left` left, and has measured so many bytes
-pub record Measured (t : ℕ) (us left : List (List ℕ)) (p len : ℕ) : Type 0 where
+pub record TypeMeasured (t : ℕ) (us left : List (List ℕ)) (p len : ℕ) : Type 0 where
   pub few : len ≤ 2 * p
   pub whole : len + length (bytesOf t left) ≡ length (bytesOf t us)
 
 module _ (t : ℕ) (us : List (List ℕ)) where
-  pub measured-start : (p : ℕ) → Measured t us us p 0
+  pub measured-start : (p : ℕ) → TypeMeasured t us us p 0
   measured-start p = record { few = omega arith; whole = omega arith }
 
-  module _ (left : List (List ℕ)) (p len : ℕ) (i : Measured t us left p len) where
+  module _ (left : List (List ℕ)) (p len : ℕ) (i : TypeMeasured t us left p len) where
     pub measured-end : left ≡ [] → len ≡ length (bytesOf t us)
     measured-end e = let z = ap length (bytes-none t left e) in omega (arith, i .whole)
 
     module _ (u : List ℕ) (rest : List (List ℕ)) (q : ℕ) (w : Turn left p u rest q) where
-      pub measured-same : typeOr31 u ≡ t → (n : ℕ) → length u ≡ n → Measured t us rest q (len + 4 + n)
+      pub measured-same : typeOr31 u ≡ t → (n : ℕ) → length u ≡ n → TypeMeasured t us rest q (len + 4 + n)
       measured-same h n l =
           let k = length-same t left p u rest q w h in
           record { few = omega (arith, i .few, w .ahead); whole = omega (arith, i .whole) }
 
-      pub measured-other : (typeOr31 u ≡ t → ⊥) → Measured t us rest q len
+      pub measured-other : (typeOr31 u ≡ t → ⊥) → TypeMeasured t us rest q len
       measured-other h =
           let k = ap (λ (vs : List (List ℕ)). length (encodeUnits 4 vs)) (having-other t left p u rest q w h) in
           record { few = omega (arith, i .few, w .ahead); whole = omega (arith, i .whole) }

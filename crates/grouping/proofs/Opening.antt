@@ -3,14 +3,14 @@ use Prim.Native.Nat.{ℕ}
 use mathlib.Core.Path.{_≡_, refl, ap}
 use mathlib.Core.List.{List, map}
 use native.Mathlib.Omega.{arith}
-use Rattle.error.specs.Outcome.{Outcome, accept, refuse}
+use Rattle.parse.specs.Outcome.{Outcome, accept, refuse}
 use Rattle.boxes.specs.Parts.{held}
 use Rattle.boxes.specs.Walk.{countFound}
 use Rattle.boxes.specs.declared.Span.{Span}
-use Rattle.unit_list.specs.Walk.{Fits}
-use Rattle.unit_list.specs.Find.{unitsLeft}
+use Rattle.unit_list.specs.inner.Walk.{Fits}
+use Rattle.unit_list.specs.inner.Find.{unitsLeft}
 use Rattle.unit_list.specs.declared.ListCursor.{ListCursor}
-use Rattle.grouping.specs.Units.{spansOf, unitsAt, Readable, heldUnits}
+use Rattle.grouping.specs.inner.Units.{spansOf, unitsAt, Readable, heldUnits}
 
 module _ (s : List ℕ) (c : ListCursor) (n : ℕ) where
   -- units that were counted read

@@ -3,7 +3,7 @@ use Prim.Native.Nat.{ℕ}
 use mathlib.Core.List.{List, [], _∷_, map}
 use mathlib.Core.Option.{Option, none, some}
 use lib.Dec.{eqb}
-use Rattle.error.specs.Logic.{if_then_else_}
+use Rattle.parse.specs.Logic.{if_then_else_}
 use Rattle.nal.specs.Header.{typeOr31}
 use Rattle.unit_list.specs.UnitList.{Array}
 
@@ -17,7 +17,7 @@ unfoldable pub without : ℕ → List ℕ → List ℕ
 without t [] = []
 without t (x ∷ xs) = if eqb x t then without t xs else x ∷ without t xs
 
--- each number once, by its first appearance
+-- each number once, by its firstElement appearance
 unfoldable pub firsts : List ℕ → List ℕ
 firsts [] = []
 firsts (t ∷ ts) = t ∷ without t (firsts ts)
@@ -26,11 +26,11 @@ firsts (t ∷ ts) = t ∷ without t (firsts ts)
 abbrev pub group : List (List ℕ) → ℕ → Array (List ℕ)
 group us t = record { complete = 1; unitType = t; units = havingType t us }
 
--- "Units grouped by type (31 when byte 1 is absent), groups by first appearance, order kept inside, complete 1."
+-- "Units grouped by type (31 when byte 1 is absent), groups by firstElement appearance, order kept inside, complete 1."
 unfoldable pub grouped : List (List ℕ) → List (Array (List ℕ))
 grouped us = map (group us) (firsts (map typeOr31 us))
 
--- the first of some
-abbrev pub first : {A : Type 0} → List A → Option A
-first [] = none
-first (u ∷ us) = some u
+-- the firstElement of some
+abbrev pub firstElement : {A : Type 0} → List A → Option A
+firstElement [] = none
+firstElement (u ∷ us) = some u

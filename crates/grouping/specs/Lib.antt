@@ -1,3 +1,3 @@
 pub mod Grouping
 pub mod Order
-pub mod Units
+pub mod inner

@@ -1,4 +1,4 @@
-// For the crates further down: units grouped by type. Those behind a cursor are measured and stored as arrays, one for each type, the types by
+// Internal: units grouped by type. Those after a cursor are measured and stored as arrays, one for each type, the types by
 // first appearance.
 use super::units;
 use super::units::UnitStep;
@@ -12,9 +12,9 @@ ghost use lib.ListN.{length};
 ghost use lib.Seq.{sets};
 ghost use Rattle.unit_list.specs.UnitList.{encodeUnits, encodeArray, encodeArrays, encode};
 ghost use Rattle.grouping.specs.Grouping.{havingType, group, grouped};
-ghost use Rattle.grouping.specs.Units.{Readable, unitsAt};
+ghost use Rattle.grouping.specs.inner.Units.{Readable, unitsAt};
 
-// How many bytes the units of a type take, each behind a length of 4 bytes.
+// How many bytes the units of a type take, each after a length of 4 bytes.
 fn group_len(list: &[u8], c: ListCursor, t: u8) -> usize
     requires { ⌜ Readable (now list) c ⌝ }
     ensures { λ r. ⌜ (r ≡ length (encodeUnits 4 (havingType t (unitsAt (now (list .entry)) c)))) × (r ≤ 2 ^ 31) ⌝ }
@@ -53,7 +53,7 @@ pub fn groups_len(list: &[u8], c: ListCursor) -> usize
     }
 }
 
-// Stores the units of a type from a place on; the place behind them.
+// Stores the units of a type from a place on; the place after them.
 fn put_group_units(list: &[u8], c: ListCursor, t: u8, out: &mut [u8], at: usize) -> usize
     requires { ⌜ Readable (now list) c × (at + length (encodeUnits 4 (havingType t (unitsAt (now list) c))) ≤ length (now out)) ⌝ }
     ensures { λ r. ⌜ (r ≡ at + length (encodeUnits 4 (havingType t (unitsAt (now (list .entry)) c)))) × (now (out .exit) ≡ sets (now (out .entry)) at (encodeUnits 4 (havingType t (unitsAt (now (list .entry)) c)))) ⌝ }
@@ -72,7 +72,7 @@ fn put_group_units(list: &[u8], c: ListCursor, t: u8, out: &mut [u8], at: usize)
     }
 }
 
-// Stores the array of a type from a place on; the place behind it. It is complete.
+// Stores the array of a type from a place on; the place after it. It is complete.
 fn put_group(list: &[u8], c: ListCursor, t: u8, out: &mut [u8], at: usize) -> usize
     requires { ⌜ Readable (now list) c × (at + length (encodeArray 4 (group (unitsAt (now list) c) t)) ≤ length (now out)) ⌝ }
     ensures { λ r. ⌜ (r ≡ at + length (encodeArray 4 (group (unitsAt (now (list .entry)) c) t))) × (now (out .exit) ≡ sets (now (out .entry)) at (encodeArray 4 (group (unitsAt (now (list .entry)) c) t))) ⌝ }

@@ -1,4 +1,4 @@
-// For this crate and those further down: the units of a list by the type in their headers. Grouping asks `next_unit` alone, so a walk over other
+// Internal: the units of a list by the type in their headers. Grouping asks `next_unit` alone, so a walk over other
 // bytes that gives units needs only a step of its own.
 use boxes::Span;
 use boxes::place;
@@ -17,11 +17,11 @@ ghost use lib.ListN.{length};
 ghost use Rattle.boxes.specs.Parts.{held};
 ghost use Rattle.nal.specs.Header.{largestUnitType, typeOr31};
 ghost use Rattle.nal.specs.Kinds.{isRecordType};
-ghost use Rattle.unit_list.specs.Walk.{Fits};
+ghost use Rattle.unit_list.specs.inner.Walk.{Fits};
 ghost use Rattle.unit_list.specs.Answers.{listUnits};
-ghost use Rattle.unit_list.specs.Find.{unitsLeft};
-ghost use Rattle.grouping.specs.Grouping.{havingType, first};
-ghost use Rattle.grouping.specs.Units.{Readable, unitsAt, firstOf, FirstFits, startedUnits, StartReads, heldUnits, Steps};
+ghost use Rattle.unit_list.specs.inner.Find.{unitsLeft};
+ghost use Rattle.grouping.specs.Grouping.{havingType, firstElement};
+ghost use Rattle.grouping.specs.inner.Units.{Readable, unitsAt, foundUnit, FirstFits, startedUnits, StartReads, heldUnits, Steps};
 
 // One step of a walk over units that read: where the unit lies, its type and where the walk goes on; or the end.
 pub enum UnitStep {
@@ -35,7 +35,7 @@ pub enum FirstUnit {
     Missing,
 }
 
-// The cursor itself, where all units behind it read. Refusal: 21.
+// The cursor itself, where all units after it read. Refusal: 21.
 fn start_at(list: &[u8], c: ListCursor) -> ListStart
     requires { ⌜ Fits (now list) c ⌝ }
     ensures { λ r. ⌜ (startedUnits (now (list .entry)) r ≡ heldUnits (now (list .entry)) (unitsLeft (now (list .entry)) c)) × StartReads (now (list .entry)) r ⌝ }
@@ -67,7 +67,7 @@ fn unit_type(list: &[u8], a: Span) -> u8
     header::type_or_31(unit)
 }
 
-// The next unit behind a cursor, with its type.
+// The next unit after a cursor, with its type.
 pub fn next_unit(list: &[u8], c: ListCursor) -> UnitStep
     requires { ⌜ Readable (now list) c ⌝ }
     ensures { λ r. ⌜ Steps (now (list .entry)) c r ⌝ }
@@ -80,10 +80,10 @@ pub fn next_unit(list: &[u8], c: ListCursor) -> UnitStep
     UnitStep::Unit(a, t, next)
 }
 
-// The first unit of a record kind behind a cursor, `t` being the type of that kind.
+// The first unit of a record kind after a cursor, `t` being the type of that kind.
 pub fn first_having(list: &[u8], c: ListCursor, t: u8) -> FirstUnit
     requires { ⌜ Readable (now list) c × (isRecordType t ≡ true) ⌝ }
-    ensures { λ r. ⌜ (firstOf (now (list .entry)) r ≡ first (havingType t (unitsAt (now (list .entry)) c))) × FirstFits (now (list .entry)) r ⌝ }
+    ensures { λ r. ⌜ (foundUnit (now (list .entry)) r ≡ firstElement (havingType t (unitsAt (now (list .entry)) c))) × FirstFits (now (list .entry)) r ⌝ }
 {
     let mut here = c;
     loop {

@@ -5,8 +5,8 @@ use mathlib.Core.Bool.{false}
 use mathlib.Core.List.{List, [], _∷_}
 use native.Mathlib.Omega.{arith}
 use lib.ListN.{length}
-use Rattle.error.specs.Outcome.{accept, refuse}
-use Rattle.error.specs.Parse.{many, manyUpTo}
+use Rattle.parse.specs.Outcome.{accept, refuse}
+use Rattle.parse.specs.Parse.{many, manyUpTo}
 use Rattle.boxes.specs.Bytes.{be, toBe, toChunk, uint, bytes}
 use Rattle.split.specs.Item.{itemUnit, itemUnits}
 use Rattle.compact.specs.ItemData.{restore, stillUnit, strip}

@@ -8,30 +8,29 @@ use native.Mathlib.Decide.{decLe}
 use lib.Dec.{leb}
 use lib.ListN.{length}
 use lib.Seq.{sets}
-use Rattle.error.specs.Logic.{if_then_else_}
-use Rattle.error.specs.Outcome.{Outcome, accept, refuse}
-use Rattle.boxes.specs.Bytes.{toChunk}
+use Rattle.parse.specs.Logic.{if_then_else_}
+use Rattle.parse.specs.Outcome.{Outcome, accept, refuse}
+use Rattle.boxes.specs.Bytes.{toChunk, outside}
 use Rattle.boxes.specs.Walk.{countFound}
-use Rattle.split.specs.Item.{outside}
 use Rattle.split.proofs.Items.{size-inside}
 use Rattle.compact.specs.ItemData.{stillUnit, restore}
 use Rattle.compact.specs.declared.CompactVvcConfig.{CompactVvcConfig}
-use Rattle.item_data.specs.Inside.{restoredBytes, Restores}
+use Rattle.item_data.specs.inner.Still.{restoredBytes, Restores}
 use Rattle.item_data.proofs.Stills.{restore-too-long, restore-copy, restore-unit}
 
--- bytes whose length was told
-pub record Told (o : Outcome (List ℕ)) (n : ℕ) : Type 0 where
+-- bytes whose length was measured-as
+pub record MeasuredAs (o : Outcome (List ℕ)) (n : ℕ) : Type 0 where
   pub bytes : List ℕ
   pub given : o ≡ accept bytes
   pub long : n ≡ length bytes
 
-pub told : (o : Outcome (List ℕ)) (n : ℕ) → accept n ≡ countFound o → Told o n
-told (accept bytes) n e = record { bytes = bytes; given = refl; long = cc }
-told (refuse m) n e = absurd (let z : _≡_ {A = ℕ} 0 1 = cc in omega arith)
+pub measured-as : (o : Outcome (List ℕ)) (n : ℕ) → accept n ≡ countFound o → MeasuredAs o n
+measured-as (accept bytes) n e = record { bytes = bytes; given = refl; long = cc }
+measured-as (refuse m) n e = absurd (let z : _≡_ {A = ℕ} 0 1 = cc in omega arith)
 
-pub told-refused : (o : Outcome (List ℕ)) (n : ℕ) → refuse n ≡ countFound o → o ≡ refuse n
-told-refused (accept bytes) n e = absurd (let z : _≡_ {A = ℕ} 0 1 = cc in omega arith)
-told-refused (refuse m) n e = let z : m ≡ n = cc in ap refuse z
+pub measured-refused : (o : Outcome (List ℕ)) (n : ℕ) → refuse n ≡ countFound o → o ≡ refuse n
+measured-refused (accept bytes) n e = absurd (let z : _≡_ {A = ℕ} 0 1 = cc in omega arith)
+measured-refused (refuse m) n e = let z : m ≡ n = cc in ap refuse z
 
 -- stored bytes that restore: what the item is, and the output that holds it
 module _ (c : CompactVvcConfig) (s out : List ℕ) (r : Restores c s out) where
@@ -50,7 +49,7 @@ module _ (c : CompactVvcConfig) (s out : List ℕ) (r : Restores c s out) where
     stored-copy d e = e ∙ ap (λ (o : Outcome (List ℕ)). sets out 0 (restoredBytes o)) (sym (restore-copy c s restores-lent set))
 
   module _ (clear : c .«multi_layer_flag» ≡ false) where
-    -- one unit behind its length
+    -- one unit after its length
     pub restores-unit : (c .«length_size» ≤ 4) × (r .item ≡ toChunk (c .«length_size») (stillUnit s))
     restores-unit =
         go (outside (c .«length_size»)) (leb (256 ^ (c .«length_size»)) (length (stillUnit s))) refl (sym (restore-unit c s restores-lent clear) ∙ r .found)

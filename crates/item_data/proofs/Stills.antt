@@ -8,24 +8,25 @@ use lib.Dec.{eqb}
 use lib.ListN.{length, getD, take, drop}
 use lib.Seq.{sets, drop-cons}
 use borrow.Author.Tests.{le-leb, lt-leb, eq-eqb, ne-eqb, le-ltb}
-use Rattle.error.specs.Outcome.{Outcome, accept, refuse}
-use Rattle.error.specs.Parse.{Parsed, value, refused}
-use Rattle.boxes.specs.Bytes.{toBe, toChunk}
+use Rattle.parse.specs.Outcome.{Outcome, accept, refuse}
+use Rattle.parse.specs.Parse.{Parsed, value, refused}
+use Rattle.boxes.specs.Bytes.{toBe, toChunk, outside}
 use Rattle.boxes.specs.Parts.{held}
-use Rattle.boxes.specs.Walk.{more, countFound}
+use Rattle.boxes.specs.Walk.{countFound}
 use Rattle.boxes.specs.declared.Span.{Span}
 use Rattle.boxes.proofs.Walk.{total}
-use Rattle.boxes.proofs.Many.{many-bad}
+use Rattle.parse.proofs.Many.{many-bad}
 use Rattle.boxes.proofs.Numbers.{length-toBe}
 use Rattle.boxes.proofs.Sets.{sets-append}
 use Rattle.unit_list.proofs.Encode.{length-toChunk}
 use Rattle.unit_list.proofs.Accepted.{held-long}
-use Rattle.split.specs.Item.{outside, itemUnit, itemUnits}
-use Rattle.split.specs.Answers.{leftOf}
+use Rattle.split.specs.Item.{itemUnit, itemUnits}
 use Rattle.split.proofs.Items.{left-step}
 use Rattle.nal.specs.Header.{nalHeader}
 use Rattle.compact.specs.ItemData.{stillUnit, prefixed, restore, isStill, onlyStill, strip}
 use Rattle.compact.specs.declared.CompactVvcConfig.{CompactVvcConfig}
+use Rattle.boxes.specs.inner.Walk.{more}
+use Rattle.split.specs.inner.Walk.{itemUnitsFrom}
 
 -- ### restored
 
@@ -122,13 +123,13 @@ module _ (item : List ℕ) where
   several a b (accept us) = refl
   several a b (refuse n) = refl
 
-  pub more-behind : (size : ℕ) (a : Span) (p : ℕ) → p < length item → refuse 24 ≡ onlyStill item (more a (leftOf size item p))
-  unfolding leftOf
-  more-behind size a p h = go (itemUnit size item p) refl
+  pub more-after : (size : ℕ) (a : Span) (p : ℕ) → p < length item → refuse 24 ≡ onlyStill item (more a (itemUnitsFrom size item p))
+  unfolding itemUnitsFrom
+  more-after size a p h = go (itemUnit size item p) refl
     where
-      go : (x : Parsed Span) → itemUnit size item p ≡ x → refuse 24 ≡ onlyStill item (more a (leftOf size item p))
+      go : (x : Parsed Span) → itemUnit size item p ≡ x → refuse 24 ≡ onlyStill item (more a (itemUnitsFrom size item p))
       go (refused n) e = rw (many-bad (itemUnit size) item p n h e)
-      go (value b q) e = several a b (leftOf size item q) ∙ ap (λ (o : Outcome (List Span)). onlyStill item (more a o)) (sym (left-step size item p b q h e))
+      go (value b q) e = several a b (itemUnitsFrom size item q) ∙ ap (λ (o : Outcome (List Span)). onlyStill item (more a o)) (sym (left-step size item p b q h e))
 
 -- ### the two calls, by the tests of their input and of the flag
 

@@ -1,10 +1,10 @@
-// For this crate's calls: bytes copied to lent memory.
+// Internal: bytes copied to lent memory.
 use boxes::place;
 use error::Refusal;
 use error::Written;
 ghost use mathlib.Core.Path.{_≡_};
-ghost use Rattle.error.specs.Outcome.{accept, lentOutput, counted};
-ghost use Rattle.error.specs.Answers.{writtenOf};
+ghost use Rattle.parse.specs.Outcome.{accept, lentOutput, counted};
+ghost use Rattle.parse.specs.Answers.{writtenOf};
 
 // A result that is the bytes of `src`. Refusal: 20.
 pub fn put_all(src: &[u8], out: &mut [u8]) -> Written

@@ -1,4 +1,4 @@
-// For the crates further down: how long restored item data is, measured before any of it is written.
+// Internal: how long restored item data is, measured before any of it is written.
 use boxes::place;
 use compact::CompactVvcConfig;
 use error::Counted;
@@ -8,7 +8,7 @@ use split::walk;
 ghost use mathlib.Core.Path.{_≡_};
 ghost use Prim.Native.Nat.{_≤_, _^_};
 ghost use lib.ListN.{length};
-ghost use Rattle.error.specs.Answers.{countOf};
+ghost use Rattle.parse.specs.Answers.{countOf};
 ghost use Rattle.boxes.specs.Walk.{countFound};
 ghost use Rattle.compact.specs.ItemData.{prefixed, stillUnit, restore};
 

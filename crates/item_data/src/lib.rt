@@ -11,11 +11,11 @@ use error::Refusal;
 use error::Written;
 use still::Still;
 ghost use mathlib.Core.Path.{_≡_};
-ghost use Rattle.error.specs.Outcome.{lentOutput, counted};
-ghost use Rattle.error.specs.Answers.{writtenOf};
+ghost use Rattle.parse.specs.Outcome.{lentOutput, counted};
+ghost use Rattle.parse.specs.Answers.{writtenOf};
 ghost use Rattle.compact.specs.ItemData.{restore, strip};
 
-// Restores the item data of stored bytes: a copy with the flag set, else their unit behind its length. Refusals: 23, 4, 6, 20.
+// Restores the item data of stored bytes: a copy with the flag set, else their unit after its length. Refusals: 23, 4, 6, 20.
 pub fn item_data(config: CompactVvcConfig, stored: &[u8], out: &mut [u8]) -> Written
     ensures { λ r. ⌜ (writtenOf r, now (out .exit)) ≡ lentOutput (counted (restore config (now (stored .entry)))) (now (out .entry)) ⌝ }
 {

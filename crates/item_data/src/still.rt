@@ -1,4 +1,4 @@
-// For this crate's calls: an item stored, and the one unit of a single-layer still found in it again.
+// Internal: an item stored, and the one unit of a single-layer still found in it again.
 use boxes::Span;
 use boxes::place;
 use compact::CompactVvcConfig;
@@ -11,11 +11,11 @@ ghost use Prim.Native.Nat.{_+_, _≤_, _^_};
 ghost use lib.ListN.{length};
 ghost use lib.Seq.{sets};
 ghost use mathlib.Core.List.{[], _∷_};
-ghost use Rattle.error.specs.Outcome.{accept};
+ghost use Rattle.parse.specs.Outcome.{accept};
 ghost use Rattle.boxes.specs.Bytes.{toChunk};
 ghost use Rattle.split.specs.Item.{itemUnits};
 ghost use Rattle.compact.specs.ItemData.{stillUnit, restore, onlyStill};
-ghost use Rattle.item_data.specs.Inside.{payloadOf, PayloadFits, restoredBytes, Restores};
+ghost use Rattle.item_data.specs.inner.Still.{payloadOf, PayloadFits, restoredBytes, Restores};
 
 // Where what follows the header of the one unit lies; or that an item is anything but one such unit.
 pub enum Still {
@@ -23,7 +23,7 @@ pub enum Still {
     Other,
 }
 
-// Stores the unit of stored bytes behind its length of `size` bytes.
+// Stores the unit of stored bytes after its length of `size` bytes.
 fn store_still(size: usize, stored: &[u8], out: &mut [u8])
     requires { ⌜ (size ≤ 4) × (length (now stored) ≤ 2 ^ 30) × (size + 2 + length (now stored) ≤ length (now out)) ⌝ }
     ensures { λ _. ⌜ now (out .exit) ≡ sets (now (out .entry)) 0 (toChunk size (stillUnit (now (stored .entry)))) ⌝ }

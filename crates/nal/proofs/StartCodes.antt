@@ -10,8 +10,9 @@ use lib.Dec.{eqb}
 use lib.ListN.{length, getD, drop, length-drop, length-append}
 use lib.Seq.{drop-cons, getD-drop}
 use borrow.Author.Tests.{eqb-true, eq-eqb}
-use Rattle.error.specs.Logic.{if_then_else_}
+use Rattle.parse.specs.Logic.{if_then_else_}
 use Rattle.nal.specs.StartCode.{isStartCode, scan}
+use Rattle.parse.proofs.General.{and-true}
 
 -- the bytes 00 00 01 stand in s from place i on
 pub record CodeAt (s : List ℕ) (i : ℕ) : Type 0 where
@@ -43,10 +44,6 @@ code-down x s i c =
       second = ap (λ (j : ℕ). getD (x ∷ s) j 0) e₁ ∙ c .second;
       third = ap (λ (j : ℕ). getD (x ∷ s) j 0) e₂ ∙ c .third;
     }
-
-pub and-true : (a b : Bool) → a && b ≡ true → (a ≡ true) × (b ≡ true)
-and-true true b e = (refl, e)
-and-true false b e = absurd (let w : _≡_ {A = ℕ} 0 1 = cc in omega arith)
 
 code-here : (x y z : ℕ) (r : List ℕ) → isStartCode x y z ≡ true → CodeAt (x ∷ y ∷ z ∷ r) 0
 unfolding isStartCode
@@ -182,7 +179,7 @@ scan-skip (x ∷ s) (suc k) h none =
     let b = scan-skip s k (omega arith) (λ i l c. none (suc i) (omega arith) (code-up x s i c)) in
     omega arith
 
--- ### behind a part without a start code
+-- ### after a part without a start code
 
 free-tail : (x y z : ℕ) (r : List ℕ) → scan (x ∷ y ∷ z ∷ r) ≡ length (x ∷ y ∷ z ∷ r) → (isStartCode x y z ≡ false) × (scan (y ∷ z ∷ r) ≡ length (y ∷ z ∷ r))
 unfolding scan

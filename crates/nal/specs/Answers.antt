@@ -3,7 +3,7 @@ use Prim.Native.Nat.{ℕ}
 use mathlib.Core.Bool.{Bool, true, false}
 use mathlib.Core.List.{List}
 use mathlib.Core.Option.{Option, none, some}
-use Rattle.error.specs.Outcome.{Outcome, accept, refuse, lentInput}
+use Rattle.parse.specs.Outcome.{Outcome, accept, refuse, lentInput}
 use Rattle.error.specs.Refusals.{numberOf}
 use Rattle.nal.specs.StartCode.{unitChecked}
 use Rattle.nal.specs.declared.HeaderField.{HeaderField}

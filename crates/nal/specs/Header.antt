@@ -25,10 +25,6 @@ temporalIdPlus1 (a ∷ b ∷ u) = some (b % 8)
 abbrev pub largestUnitType : ℕ
 largestUnitType = 31
 
--- how many types there are
-abbrev pub unitTypes : ℕ
-unitTypes = 32
-
 -- the type where it is there, else the largest, 31: what expansion groups by
 abbrev pub typeOr31 : List ℕ → ℕ
 typeOr31 [] = largestUnitType

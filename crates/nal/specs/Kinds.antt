@@ -3,7 +3,7 @@ use Prim.Native.Nat.{ℕ}
 use mathlib.Core.Bool.{Bool, true, false, _&&_, _||_}
 use mathlib.Core.List.{List}
 use lib.Dec.{leb, eqb}
-use Rattle.error.specs.Logic.{if_then_else_}
+use Rattle.parse.specs.Logic.{if_then_else_}
 use Rattle.nal.specs.Header.{typeOr31}
 use Rattle.nal.specs.declared.UnitKind.{UnitKind}
 use Rattle.nal.specs.declared.UnitKind.the-variants.{PictureData, Record, Aud, Other}
@@ -41,13 +41,6 @@ isAud (PictureData t) = false
 isAud (Record t) = false
 isAud Aud = true
 isAud Other = false
-
--- picture data of this type
-abbrev pub isPictureDataOf : ℕ → UnitKind → Bool
-isPictureDataOf t (PictureData x) = eqb x t
-isPictureDataOf t (Record x) = false
-isPictureDataOf t Aud = false
-isPictureDataOf t Other = false
 
 -- a record kind of this type
 abbrev pub isRecordOf : ℕ → UnitKind → Bool

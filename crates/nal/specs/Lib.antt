@@ -2,3 +2,4 @@ pub mod Header
 pub mod Kinds
 pub mod StartCode
 pub mod Answers
+pub mod inner

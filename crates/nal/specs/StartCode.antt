@@ -4,12 +4,12 @@ use mathlib.Core.Bool.{Bool, false, not, _&&_}
 use mathlib.Core.List.{List, [], _∷_}
 use lib.Dec.{eqb, ltb}
 use lib.ListN.{length, drop}
-use Rattle.error.specs.Logic.{if_then_else_}
+use Rattle.parse.specs.Logic.{if_then_else_}
 
 unfoldable pub isStartCode : ℕ → ℕ → ℕ → Bool
 isStartCode x y z = eqb z 1 && (eqb y 0 && eqb x 0)
 
--- how many bytes stand before the first start code; all of them where there is none
+-- how many bytes come before the first start code; all of them where there is none
 unfoldable pub scan : List ℕ → ℕ
 scan [] = 0
 scan (x ∷ []) = 1

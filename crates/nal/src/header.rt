@@ -1,11 +1,12 @@
-// For the crates further down: a unit's type and kind, where the unit is within the bounds already.
+// Internal: a unit's type and kind, where the unit is within the bounds already.
 use super::LARGEST_UNIT_TYPE;
 use super::UnitKind;
 use super::unit_kind;
 ghost use mathlib.Core.Path.{_≡_};
 ghost use Prim.Native.Nat.{_≤_};
 ghost use Rattle.nal.specs.Header.{largestUnitType, typeOr31};
-ghost use Rattle.nal.specs.Kinds.{unitKind, kindOf, isPictureDataOf, isRecordOf};
+ghost use Rattle.nal.specs.Kinds.{unitKind, kindOf, isRecordOf};
+ghost use Rattle.nal.specs.inner.Kinds.{isPictureDataOf};
 
 // The type of a unit, 31 where byte 1 is absent.
 pub fn type_or_31(nal: &[u8]) -> u8

@@ -1,4 +1,4 @@
-// For the crates further down: the scan for start codes, and the end of a unit.
+// Internal: the scan for start codes, and the end of a unit.
 ghost use mathlib.Core.Path.{_≡_};
 ghost use Prim.Native.Nat.{_≤_};
 ghost use lib.ListN.{length};

@@ -5,10 +5,10 @@ use Prim.Native.Nat.{ℕ}
 use lib.Dec.{lit≤}
 use lib.ListN.{take}
 use Rattle.bit_reader.specs.Bits.{isSet}
-use Rattle.bit_reader.proofs.Local.{Local, local-u, local-ue, local-refusing, local-more, local-if, local-bind}
+use Rattle.bit_reader.proofs.Looks.{LooksWithin, local-u, local-ue, local-refusing, local-more, local-if, local-bind}
 use Rattle.opi.specs.Opi.{opiPoint}
 
-pub local-opi : Local 65 opiPoint
+pub local-opi : LooksWithin 65 opiPoint
 unfolding opiPoint
 local-opi =
     local-bind 1 64 (local-u 1) (λ present.

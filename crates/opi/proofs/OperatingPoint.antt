@@ -6,12 +6,12 @@ use mathlib.Core.Option.{Option, none, some}
 use Prim.Native.Nat.{ℕ}
 use borrow.Author.Tests.{eq-eqb, ne-eqb}
 use denote.Ref.{RefT, now}
-use Rattle.error.specs.Logic.{if_then_else_}
-use Rattle.error.specs.Parse.{Parsed, value, refused, bind, refusing}
+use Rattle.parse.specs.Logic.{if_then_else_}
+use Rattle.parse.specs.Parse.{Parsed, value, refused, bind, refusing}
 use Rattle.error.specs.declared.Refusal.{Refusal}
 use Rattle.bit_reader.specs.Bits.{u, isSet, ue}
-use Rattle.bit_reader.specs.Answers.{parsed}
-use Rattle.bit_reader.specs.Reader.{skipping, placeBehind, Stepped}
+use Rattle.bit_reader.specs.inner.Answers.{parsed}
+use Rattle.bit_reader.specs.inner.Reader.{skipping, readerPlaceAfter, Stepped}
 use Rattle.bit_reader.specs.declared.BitPosition.{BitPosition}
 use Rattle.bit_reader.specs.declared.BitsRead.{BitsRead}
 use Rattle.bit_reader.specs.declared.BitsRead.the-variants.{Value, Refused}
@@ -19,7 +19,8 @@ use Rattle.bit_reader.specs.declared.reader.BitReader.{BitReader}
 use Rattle.bit_reader.specs.declared.reader.ReaderStep.{ReaderStep}
 use Rattle.bit_reader.proofs.Chain.{passed-for-read}
 use Rattle.bit_reader.proofs.ReaderCalls.{AtStart}
-use Rattle.opi.specs.Opi.{whereRead, opiPoint, pointOf}
+use Rattle.opi.specs.Opi.{whereRead, opiPoint}
+use Rattle.opi.specs.inner.Point.{pointOf}
 
 -- ---- the five answers
 module _ (x y z : BitsRead) where
@@ -45,18 +46,18 @@ module _ (x y z : BitsRead) where
 
 -- ---- the definition as three steps, each from where the one before it left the reader. The second flag is passed over.
 module _ (s : List ℕ) where
-  second-read : (b : Bool) (y : Parsed ℕ) (p : ℕ) → bind y (λ _ t. (if b then ue else refusing 0) s t) ≡ bind y (λ _ _. if b then ue s (placeBehind y p) else refused 0)
+  second-read : (b : Bool) (y : Parsed ℕ) (p : ℕ) → bind y (λ _ t. (if b then ue else refusing 0) s t) ≡ bind y (λ _ _. if b then ue s (readerPlaceAfter y p) else refused 0)
   second-read true (value v t) p = refl
   second-read false (value v t) p = refl
   second-read b (refused e) p = refl
 
   first-read : (x : Parsed ℕ) (p : ℕ)
       → bind x (λ b q. bind (u 1 s q) (λ _ t. (if isSet b then ue else refusing 0) s t))
-      ≡ pointOf x (skipping 1 s (placeBehind x p)) (ue s (placeBehind (skipping 1 s (placeBehind x p)) (placeBehind x p)))
+      ≡ pointOf x (skipping 1 s (readerPlaceAfter x p)) (ue s (readerPlaceAfter (skipping 1 s (readerPlaceAfter x p)) (readerPlaceAfter x p)))
   first-read (value b q) p = passed-for-read 1 s q (λ t. (if isSet b then ue else refusing 0) s t) ∙ second-read (isSet b) (skipping 1 s q) q
   first-read (refused e) p = refl
 
-  three-reads : (p : ℕ) → opiPoint s p ≡ pointOf (u 1 s p) (skipping 1 s (placeBehind (u 1 s p) p)) (ue s (placeBehind (skipping 1 s (placeBehind (u 1 s p) p)) (placeBehind (u 1 s p) p)))
+  three-reads : (p : ℕ) → opiPoint s p ≡ pointOf (u 1 s p) (skipping 1 s (readerPlaceAfter (u 1 s p) p)) (ue s (readerPlaceAfter (skipping 1 s (readerPlaceAfter (u 1 s p) p)) (readerPlaceAfter (u 1 s p) p)))
   unfolding opiPoint
   three-reads p = first-read (u 1 s p) p
 

@@ -6,10 +6,10 @@ use Prim.Native.Nat.{ℕ, _-_, _^_, _≤_, _<_}
 use native.Mathlib.Omega.{arith}
 use lib.ListN.{length, take, drop, drop-of-length-le}
 use borrow.Author.Tests.{le-leb, lt-leb}
-use Rattle.error.specs.Outcome.{accept, refuse}
+use Rattle.parse.specs.Outcome.{accept, refuse}
 use Rattle.rbsp.specs.Rbsp.{unescape, rbsp}
 use Rattle.bit_reader.specs.Bits.{u}
-use Rattle.params.proofs.Units.{behind-header}
+use Rattle.params.proofs.Units.{after-header}
 use Rattle.opi.specs.Opi.{whereRead, opiPoint, opiOlsIdx}
 use Rattle.opi.specs.Answers.{olsIdxGiven}
 
@@ -24,4 +24,4 @@ module _ (unit : List ℕ) where
 
   pub opi-read : length unit ≤ 2 ^ 30 → accept (whereRead (opiPoint (rbsp (take (length unit - 2) (drop 2 unit))) 0)) ≡ olsIdxGiven unit
   unfolding opiOlsIdx
-  opi-read h = rw (behind-header unit, le-leb (length unit) (2 ^ 30) h)
+  opi-read h = rw (after-header unit, le-leb (length unit) (2 ^ 30) h)

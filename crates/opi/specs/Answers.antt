@@ -2,7 +2,7 @@
 use Prim.Native.Nat.{ℕ}
 use mathlib.Core.List.{List}
 use mathlib.Core.Option.{Option, none, some}
-use Rattle.error.specs.Outcome.{Outcome, accept, refuse, lentInput}
+use Rattle.parse.specs.Outcome.{Outcome, accept, refuse, lentInput}
 use Rattle.error.specs.Refusals.{numberOf}
 use Rattle.opi.specs.Opi.{opiOlsIdx}
 use Rattle.opi.specs.declared.OlsIdx.{OlsIdx}

@@ -1,2 +1,3 @@
 pub mod Opi
 pub mod Answers
+pub mod inner

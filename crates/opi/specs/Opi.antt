@@ -3,8 +3,8 @@ use mathlib.Core.List.{List}
 use mathlib.Core.Option.{Option, none, some}
 use Prim.Native.Nat.{ℕ}
 use lib.ListN.{drop}
-use Rattle.error.specs.Logic.{if_then_else_}
-use Rattle.error.specs.Parse.{Parsed, value, refused, bind, Parser, _>>=_, _>>_, refusing}
+use Rattle.parse.specs.Logic.{if_then_else_}
+use Rattle.parse.specs.Parse.{Parsed, value, refused, Parser, _>>=_, _>>_, refusing}
 use Rattle.rbsp.specs.Rbsp.{rbsp}
 use Rattle.bit_reader.specs.Bits.{u, isSet, ue}
 
@@ -22,7 +22,3 @@ whereRead (refused e) = none
 -- the operating point of an OPI unit: "from its RBSP: two flag bits, first one 1, Exp-Golomb"; absent where it does not read
 unfoldable pub opiOlsIdx : List ℕ → Option ℕ
 opiOlsIdx unit = whereRead (opiPoint (rbsp (drop 2 unit)) 0)
-
--- an OPI's operating point (`opiPoint`) from the answers of the three reads, each from where the one before it left the reader
-abbrev pub pointOf : Parsed ℕ → Parsed ℕ → Parsed ℕ → Parsed ℕ
-pointOf ols htid idx = bind ols (λ present _. bind htid (λ _ _. if isSet present then idx else refused 0))

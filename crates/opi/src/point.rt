@@ -5,11 +5,12 @@ use bit_reader::reader::BitReader;
 ghost use mathlib.Core.Path.{_≡_};
 ghost use Prim.Native.Nat.{_≤_};
 ghost use lib.ListN.{length};
-ghost use Rattle.error.specs.Outcome.{accept};
+ghost use Rattle.parse.specs.Outcome.{accept};
 ghost use Rattle.rbsp.specs.Rbsp.{rbsp};
-ghost use Rattle.bit_reader.specs.Answers.{parsed};
-ghost use Rattle.opi.specs.Opi.{whereRead, opiPoint, pointOf};
+ghost use Rattle.bit_reader.specs.inner.Answers.{parsed};
+ghost use Rattle.opi.specs.Opi.{whereRead, opiPoint};
 ghost use Rattle.opi.specs.Answers.{olsIdxOf};
+ghost use Rattle.opi.specs.inner.Point.{pointOf};
 
 // What the answers of the two flags and of the code say: absent where one is refused, or where the first flag is not 1.
 fn point_of(ols: BitsRead, htid: BitsRead, idx: BitsRead) -> OlsIdx

@@ -8,8 +8,8 @@ use native.Mathlib.Omega.{arith}
 use lib.Dec.{leb, eqb}
 use lib.ListN.{length}
 use borrow.Author.Tests.{le-leb, eqb-true}
-use Rattle.error.specs.Logic.{if_then_else_}
-use Rattle.error.specs.Outcome.{Outcome, accept, refuse, andThen}
+use Rattle.parse.specs.Logic.{if_then_else_}
+use Rattle.parse.specs.Outcome.{Outcome, accept, refuse, andThen}
 use Rattle.boxes.specs.Parts.{held}
 use Rattle.boxes.specs.declared.Span.{Span}
 use Rattle.unit_list.specs.UnitList.{encode, unitsOf, heldArrays}
@@ -18,7 +18,6 @@ use Rattle.unit_list.proofs.Units.{units-held}
 use Rattle.unit_list.proofs.Accepted.{sound-held}
 use Rattle.full.specs.Read.{FullParsed, parseFull}
 use Rattle.access_unit.specs.AccessUnit.{assemble}
-use Rattle.path.specs.Still.{Bytes}
 use Rattle.path.proofs.Expansion.{then-accept}
 use Rattle.vvcc_c.specs.Exports.{readBeside, streamBeside}
 use Rattle.output_lengths.specs.Lengths.{prefixSize, scratchRoom, streamRoomWith, streamRoom, Suffices}
@@ -26,6 +25,7 @@ use Rattle.output_lengths.proofs.FullRecord.{full-read}
 use Rattle.output_lengths.proofs.Refusals.{beside-not-short}
 use Rattle.output_lengths.proofs.Outputs.{suffices, lent-accepted}
 use Rattle.output_lengths.proofs.Assembled.{streamed, held-room, encoded-units, assembled-parts}
+use Rattle.boxes.specs.Bytes.{AllBytes}
 
 module _ (rec item : List ℕ) where
   read-beside : (r : FullParsed) (list : List ℕ) → readBeside rec item ≡ accept (r, list) → parseFull rec ≡ accept (r, list)
@@ -47,7 +47,7 @@ module _ (rec item : List ℕ) where
         go (refuse n) e = refl
 
   -- ### the output
-  module _ (bytes : Bytes rec) (tols : Option ℕ) where
+  module _ (bytes : AllBytes rec) (tols : Option ℕ) where
     -- the record's units take at most twice the record
     listed-long : (r : FullParsed) (list : List ℕ) → parseFull rec ≡ accept (r, list) → (us : List Span) → listUnits list ≡ accept us → streamed (map (held list) us) ≤ 2 * length rec
     listed-long r list e us u =

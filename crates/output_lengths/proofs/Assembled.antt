@@ -6,9 +6,9 @@ use mathlib.Core.List.{List, [], _∷_, _++_, map}
 use mathlib.Core.Option.{Option}
 use native.Mathlib.Omega.{arith}
 use lib.ListN.{length, drop, length-append, length-map, length-take}
-use Rattle.error.specs.Logic.{if_then_else_}
-use Rattle.error.specs.Outcome.{Outcome, accept, refuse, andThen}
-use Rattle.error.specs.Parse.{Parsed, value, refused, many, outcome}
+use Rattle.parse.specs.Logic.{if_then_else_}
+use Rattle.parse.specs.Outcome.{Outcome, accept, refuse, andThen}
+use Rattle.parse.specs.Parse.{Parsed, value, refused, many, outcome}
 use Rattle.boxes.specs.Parts.{held}
 use Rattle.boxes.specs.declared.Span.{Span}
 use Rattle.unit_list.specs.UnitList.{Array, decode, unitsOf, encode}
@@ -17,19 +17,19 @@ use Rattle.unit_list.proofs.Arrays.{Sound, room, run-value}
 use Rattle.unit_list.proofs.Encode.{units-encode}
 use Rattle.unit_list.proofs.Accepted.{accepted}
 use Rattle.split.specs.Item.{itemUnit}
-use Rattle.split.specs.Answers.{leftOf}
 use Rattle.split.specs.Stream.{annexB}
 use Rattle.split.proofs.Items.{unit-read, unit-advances}
 use Rattle.full.specs.declared.VvcConfig.{VvcConfig}
 use Rattle.access_unit.specs.AccessUnit.{targetOf, keeps, kept, startCode, assemble}
-use Rattle.access_unit.specs.Inside.{keptLeft, lengths, Gathered, gather, sizesOf}
+use Rattle.access_unit.specs.inner.Gathered.{keptLeft, lengths, Gathered, gather, sizesOf}
 use Rattle.access_unit.proofs.Sums.{lengths-append}
 use Rattle.access_unit.proofs.Streams.{stream-length}
 use Rattle.access_unit.proofs.Gathering.{gathered}
 use Rattle.access_unit.proofs.Answering.{assemble-unknown, assemble-known}
 use Rattle.path.proofs.Expansion.{then-accept}
+use Rattle.split.specs.inner.Walk.{itemUnitsFrom}
 
--- so many bytes units have behind start codes of four bytes
+-- so many bytes units have after start codes of four bytes
 abbrev pub streamed : List (List ℕ) → ℕ
 streamed us = 4 * length us + lengths us
 
@@ -89,7 +89,7 @@ module _ (size : ℕ) (item : List ℕ) (some : 1 ≤ size) where
       })
 
   kept-fit : (target : Option ℕ) (ks : List Span) → keptLeft size target item 0 ≡ accept ks → ItemFits 0 ks
-  unfolding keptLeft leftOf
+  unfolding keptLeft itemUnitsFrom
   kept-fit target ks e = go (many (itemUnit size) item 0) refl e
     where
       go : (x : Parsed (List Span)) → many (itemUnit size) item 0 ≡ x → andThen (outcome x) (λ xs. accept (kept item target xs)) ≡ accept ks → ItemFits 0 ks

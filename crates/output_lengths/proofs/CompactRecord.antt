@@ -7,34 +7,33 @@ use native.Mathlib.Omega.{arith}
 use native.Mathlib.Nat.{mul-suc}
 use lib.Dec.{leb, eqb}
 use lib.ListN.{length, length-append}
-use Rattle.error.specs.Logic.{if_then_else_}
-use Rattle.error.specs.Outcome.{accept, refuse}
-use Rattle.error.specs.Parse.{times}
-use Rattle.boxes.specs.Bytes.{uint, chunk, toChunk}
+use Rattle.parse.specs.Logic.{if_then_else_}
+use Rattle.parse.specs.Outcome.{accept, refuse}
+use Rattle.parse.specs.Parse.{times}
+use Rattle.boxes.specs.Bytes.{uint, chunk, toChunk, outside}
 use Rattle.unit_list.specs.UnitList.{encodeUnits}
 use Rattle.unit_list.proofs.Arrays.{be-one}
 use Rattle.unit_list.proofs.Encode.{length-toChunk}
-use Rattle.split.specs.Item.{outside}
 use Rattle.compact.specs.Compact.{atEnd, compactRecord, CompactParsed, allAtMost, compactBytes}
-use Rattle.compact.specs.Units.{firstByte}
+use Rattle.compact.specs.inner.Units.{compactFirstByte}
 use Rattle.compact.specs.declared.CompactVvcConfig.{CompactVvcConfig}
 use Rattle.compact.proofs.Facts.{CompactFacts}
-use Rattle.access_unit.specs.Inside.{lengths}
+use Rattle.access_unit.specs.inner.Gathered.{lengths}
 use Rattle.path.proofs.Units.{every-of}
 use Rattle.grouping.proofs.GroupedFits.{units-long}
 use Rattle.output_lengths.specs.Lengths.{longestCompact, multiLayer}
 use Rattle.output_lengths.proofs.Reading.{Gives, gives-value, gives-any, gives-bind, gives-uint}
 
--- units behind lengths of w bytes
+-- units after lengths of w bytes
 pub encoded-long : (w : ℕ) (us : List (List ℕ)) → length (encodeUnits w us) ≡ w * length us + lengths us
 unfolding encodeUnits lengths
 encoded-long w [] = omega arith
 encoded-long w (u ∷ us) = omega (arith, length-append (toChunk w u) (encodeUnits w us), length-toChunk w u, encoded-long w us, mul-suc w (length us))
 
--- one byte and the units, each behind one
+-- one byte and the units, each after one
 written-long : (c : CompactVvcConfig) (us : List (List ℕ)) (C : List ℕ) → compactBytes c us ≡ accept C → length C ≡ 1 + length (encodeUnits 1 us)
 unfolding compactBytes
-written-long c us C e = go (firstByte c (length us)) (outside (c .«length_size»)) (not (leb 2 (length us) && leb (length us) 33)) (not (allAtMost 255 us)) e
+written-long c us C e = go (compactFirstByte c (length us)) (outside (c .«length_size»)) (not (leb 2 (length us) && leb (length us) 33)) (not (allAtMost 255 us)) e
   where
     go : (b : ℕ) (x y z : Bool) → (if x then refuse 4 else (if y then refuse 8 else (if z then refuse 9 else accept (b ∷ encodeUnits 1 us)))) ≡ accept C
         → length C ≡ 1 + length (encodeUnits 1 us)

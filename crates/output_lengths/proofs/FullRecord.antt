@@ -6,10 +6,10 @@ use mathlib.Core.List.{List, [], _∷_, map}
 use native.Mathlib.Omega.{arith}
 use lib.Dec.{eqb}
 use lib.ListN.{length, drop, length-append, length-take}
-use Rattle.error.specs.Logic.{if_then_else_}
-use Rattle.error.specs.Outcome.{accept}
-use Rattle.error.specs.Parse.{give, refuseIf, times}
-use Rattle.boxes.specs.Bytes.{uint, chunk, toChunk}
+use Rattle.parse.specs.Logic.{if_then_else_}
+use Rattle.parse.specs.Outcome.{accept}
+use Rattle.parse.specs.Parse.{give, refuseIf, times}
+use Rattle.boxes.specs.Bytes.{uint, chunk, toChunk, AllBytes}
 use Rattle.boxes.specs.Parts.{held}
 use Rattle.boxes.specs.declared.Span.{Span}
 use Rattle.boxes.proofs.Fields.{chunk-read}
@@ -21,7 +21,6 @@ use Rattle.ptl_record.specs.Read.{vvcPtlRecord}
 use Rattle.full.specs.Read.{FullParsed, plainHead, headWithPtl, vvcHead, vvcRecord, parseFull}
 use Rattle.record_arrays.specs.Read.{holdsOne, recordArray}
 use Rattle.full.specs.declared.VvcConfig.{VvcConfig}
-use Rattle.path.specs.Still.{Bytes}
 use Rattle.vvcc_c.proofs.Beside.{read-as}
 use Rattle.output_lengths.specs.Lengths.{prefixSize, scratchRoom}
 use Rattle.output_lengths.proofs.Reading.{Gives, gives-value, gives-any, gives-bind, gives-uint}
@@ -50,18 +49,18 @@ module _ (s : List ℕ) where
 
   -- ### arrays: six bytes before the units of a list for at least three of the record
   record CountFits (p n q : ℕ) : Type 0 where
-    behind : p ≤ q
+    after : p ≤ q
     some : p + 2 ≤ q + 2 * n
     inside : q ≤ length s
 
   gives-count : (t : Bool) (p : ℕ) → p ≤ length s → Gives ((if t then give 1 else uint 2) s p) (CountFits p)
-  gives-count true p h = gives-value 1 p (record { behind = omega arith; some = omega arith; inside = h })
-  gives-count false p h = record { at = λ n q e. let g = gives-uint s 2 p .at n q e in record { behind = omega (arith, g .next); some = omega (arith, g .next); inside = g .inside } }
+  gives-count true p h = gives-value 1 p (record { after = omega arith; some = omega arith; inside = h })
+  gives-count false p h = record { at = λ n q e. let g = gives-uint s 2 p .at n q e in record { after = omega (arith, g .next); some = omega (arith, g .next); inside = g .inside } }
 
   record ArrayFits (p : ℕ) (a : Array Span) (q : ℕ) : Type 0 where
     few : 4 * p + length (encodeArray 4 (heldArray s a)) ≤ 4 * q
     streamed : 2 * p + room 4 (a .units) ≤ 2 * q
-    one : Bytes s → a .complete ≤ 1
+    one : AllBytes s → a .complete ≤ 1
     small : a .unitType ≤ largestType
     inside : q ≤ length s
 
@@ -73,8 +72,8 @@ module _ (s : List ℕ) where
       gives-bind (times n (chunk 2) s r) _ (gives-units n r (c .inside)) (λ us z v.
       let l = length-toChunk 4 (b / 128 ∷ b % 32 ∷ encodeUnits 4 (map (held s) us)) in
       gives-value _ z (record {
-        few = omega (arith, encoded-room us, u .next, c .behind, c .some, v .few, v .along);
-        streamed = omega (arith, u .next, c .behind, v .few);
+        few = omega (arith, encoded-room us, u .next, c .after, c .some, v .few, v .along);
+        streamed = omega (arith, u .next, c .after, v .few);
         one = λ all. omega (arith, u .is, be-one s p, all p);
         small = omega arith;
         inside = v .inside;
@@ -83,7 +82,7 @@ module _ (s : List ℕ) where
   record ArraysFit (p : ℕ) (xs : List (Array Span)) (q : ℕ) : Type 0 where
     few : 4 * p + length (encodeArrays 4 (heldArrays s xs)) ≤ 4 * q
     streamed : 2 * p + room 4 (unitsOf xs) ≤ 2 * q
-    sound : Bytes s → Sound xs
+    sound : AllBytes s → Sound xs
     inside : q ≤ length s
 
   gives-arrays : (n p : ℕ) → p ≤ length s → Gives (times n recordArray s p) (ArraysFit p)
@@ -125,12 +124,12 @@ module _ (s : List ℕ) where
       go true n r = gives-with-ptl n r
       go false n r = gives-value _ r refl
 
-  -- ### the record: its arrays stand behind at least one byte
+  -- ### the record: its arrays follow at least one byte
   pub record RecordFits (h : VvcConfig) (xs : List (Array Span)) : Type 0 where
     pub size : h .«length_size» ≡ prefixSize s
     pub few : length (encode (heldArrays s xs)) ≤ scratchRoom s
     pub streamed : room 4 (unitsOf xs) ≤ 2 * length s
-    pub sound : Bytes s → Sound xs
+    pub sound : AllBytes s → Sound xs
 
   gives-record : Gives (vvcRecord s 0) (λ r q. RecordFits (r .0) (r .1))
   unfolding vvcRecord encode
@@ -154,7 +153,7 @@ module _ (s : List ℕ) where
   pub full-read : (r : FullParsed) (list : List ℕ) → parseFull s ≡ accept (r, list) → Read r list
   full-read r list e =
       let a = read-as s r list e in
-      let f = gives-record .at (a .what) (a .behind) (a .reads) in
+      let f = gives-record .at (a .what) (a .after) (a .reads) in
       record {
         arrays = a .what .1;
         is = a .same;

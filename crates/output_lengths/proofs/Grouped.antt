@@ -7,11 +7,11 @@ use native.Mathlib.Omega.{arith}
 use lib.Dec.{eqb}
 use lib.ListN.{length}
 use borrow.Author.Tests.{eqb-true, eqb-false, ne-eqb}
-use Rattle.error.specs.Logic.{if_then_else_}
+use Rattle.parse.specs.Logic.{if_then_else_}
 use Rattle.nal.specs.Header.{typeOr31}
 use Rattle.unit_list.specs.UnitList.{unitsOf}
 use Rattle.grouping.specs.Grouping.{havingType, without, firsts, group, grouped}
-use Rattle.access_unit.specs.Inside.{lengths}
+use Rattle.access_unit.specs.inner.Gathered.{lengths}
 use Rattle.access_unit.proofs.Sums.{lengths-append}
 
 -- n for each time that t stands in a list

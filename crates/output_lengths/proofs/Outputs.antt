@@ -6,8 +6,8 @@ use native.Mathlib.Omega.{arith}
 use native.Mathlib.Decide.{decLe}
 use lib.ListN.{length}
 use borrow.Author.Tests.{le-leb}
-use Rattle.error.specs.Outcome.{Outcome, accept, refuse, lentInput}
-use Rattle.boxes.proofs.Lent.{lent-too-long, lent-within}
+use Rattle.parse.specs.Outcome.{Outcome, accept, refuse, lentInput}
+use Rattle.parse.proofs.Lent.{lent-too-long, lent-within}
 use Rattle.output_lengths.proofs.NotShort.{NotShort}
 use Rattle.output_lengths.specs.Lengths.{Suffices}
 

@@ -1,11 +1,11 @@
--- What holds of a value that is read and of the place behind it.
+-- What holds of a value that is read and of the place after it.
 use Prim.Native.Nat.{ℕ, _+_, _≤_}
 use mathlib.Core.Path.{_≡_, refl, subst}
 use mathlib.Core.List.{List}
 use native.Mathlib.Omega.{arith}
 use native.Mathlib.Decide.{decLe}
 use lib.ListN.{length}
-use Rattle.error.specs.Parse.{Parsed, value, refused, bind}
+use Rattle.parse.specs.Parse.{Parsed, value, refused, bind}
 use Rattle.boxes.specs.Bytes.{be, uint}
 use Rattle.boxes.proofs.Fields.{uint-there, uint-short}
 

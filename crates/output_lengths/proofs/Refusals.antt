@@ -7,11 +7,11 @@ use mathlib.Core.Option.{Option, none, some}
 use native.Mathlib.Omega.{arith}
 use lib.Dec.{leb, ltb, eqb}
 use lib.ListN.{length, drop}
-use Rattle.error.specs.Logic.{if_then_else_}
-use Rattle.error.specs.Outcome.{Outcome, accept, refuse, andThen}
-use Rattle.error.specs.Steps.{orRefuse}
-use Rattle.error.specs.Parse.{Parsed, value, refused, bind, Parser, _>>=_, give, refusing, refuseIf, here, times, many, manyUpTo, outcome, outcomeOr}
-use Rattle.boxes.specs.Bytes.{uint, bytes, chunk}
+use Rattle.parse.specs.Logic.{if_then_else_}
+use Rattle.parse.specs.Outcome.{Outcome, accept, refuse, andThen}
+use Rattle.parse.specs.Steps.{orRefuse}
+use Rattle.parse.specs.Parse.{Parsed, value, refused, bind, Parser, _>>=_, give, refusing, refuseIf, here, times, many, manyUpTo, outcome, outcomeOr}
+use Rattle.boxes.specs.Bytes.{uint, bytes, chunk, outside}
 use Rattle.boxes.specs.Parts.{held}
 use Rattle.nal.specs.Header.{typeOr31}
 use Rattle.unit_list.specs.UnitList.{unitList, decode}
@@ -23,7 +23,7 @@ use Rattle.ptl_record.specs.Read.{octets, vvcPtlRecord}
 use Rattle.sps.specs.Sps.{window, noWindow, spsHead, parseSps}
 use Rattle.vps.specs.Vps.{vpsPtl, vpsFirstPtl}
 use Rattle.sps.specs.declared.SpsHead.{SpsHead}
-use Rattle.split.specs.Item.{outside, itemUnit, itemUnits, splitItem}
+use Rattle.split.specs.Item.{itemUnit, itemUnits, splitItem}
 use Rattle.compact.specs.Compact.{atEnd, compactRecord, parseCompact}
 use Rattle.compact.specs.ItemData.{restore}
 use Rattle.compact.specs.declared.CompactVvcConfig.{CompactVvcConfig}
@@ -31,7 +31,7 @@ use Rattle.full.specs.Read.{headWithPtl, vvcHead, vvcRecord, fullParsed, parseF
 use Rattle.record_arrays.specs.Read.{holdsOne, recordArray}
 use Rattle.full.specs.Write.{serializeFull}
 use Rattle.full.specs.declared.VvcConfig.{VvcConfig}
-use Rattle.grouping.specs.Grouping.{first, havingType}
+use Rattle.grouping.specs.Grouping.{firstElement, havingType}
 use Rattle.expand.specs.Expand.{Picture, multiLayerVps, ptlOfSets, expandUnits, toFull}
 use Rattle.access_unit.specs.AccessUnit.{Source, targetOf, arranged, notEmpty, accessUnit, assemble}
 use Rattle.still.specs.Stills.{anyPicture, stillRecord, streamWith, stillStream}
@@ -67,7 +67,7 @@ never-if false l g = g
 never-refuse-if : (b : Bool) (k : ℕ) → (k ≡ 20 → ⊥) → NeverShort (refuseIf b k)
 never-refuse-if b k h = never-if b (never-refusing k h) (never-give tt)
 
--- one behind the other
+-- one after the other
 never-bind : {A B : Type 0} {P : Parser A} {Q : A → Parser B} → NeverShort P → ((a : A) → NeverShort (Q a)) → NeverShort (P >>= Q)
 never-bind {A} {B} {P} {Q} l g = record { at = λ s p n. go s p n (P s p) refl }
   where
@@ -330,22 +330,22 @@ layers-not-short : (b : Bool) (us : List (List ℕ)) → NotShort (multiLayerVps
 unfolding multiLayerVps
 layers-not-short false us = tt
 layers-not-short true us =
-    not-short-then (orRefuse 16 (first (havingType 14 us))) _ (or-not-short 16 (first (havingType 14 us)) (λ e. omega arith)) (λ vps. not-short-then (vpsFirstPtl vps) _ (vps-not-short vps) (λ _. tt))
+    not-short-then (orRefuse 16 (firstElement (havingType 14 us))) _ (or-not-short 16 (firstElement (havingType 14 us)) (λ e. omega arith)) (λ vps. not-short-then (vpsFirstPtl vps) _ (vps-not-short vps) (λ _. tt))
 
 ptl-not-short : (sps : SpsHead) (us : List (List ℕ)) → NotShort (ptlOfSets sps us)
 unfolding ptlOfSets
 ptl-not-short sps us = go (sps .«ptl_present_flag»)
   where
-    go : (b : Bool) → NotShort (if b then accept (sps .ptl) else andThen (orRefuse 18 (first (havingType 14 us))) (λ vps. vpsFirstPtl vps))
+    go : (b : Bool) → NotShort (if b then accept (sps .ptl) else andThen (orRefuse 18 (firstElement (havingType 14 us))) (λ vps. vpsFirstPtl vps))
     go true = tt
-    go false = not-short-then (orRefuse 18 (first (havingType 14 us))) _ (or-not-short 18 (first (havingType 14 us)) (λ e. omega arith)) vps-not-short
+    go false = not-short-then (orRefuse 18 (firstElement (havingType 14 us))) _ (or-not-short 18 (firstElement (havingType 14 us)) (λ e. omega arith)) vps-not-short
 
 full-not-short : (c : CompactVvcConfig) (pic : Picture) (list : List ℕ) → NotShort (toFull c pic list)
 unfolding toFull expandUnits
 full-not-short c pic list =
     not-short-then (listUnits list) _ (list-not-short list) (λ spans.
     not-short-then (multiLayerVps (c .«multi_layer_flag») (map (held list) spans)) _ (layers-not-short _ _) (λ _.
-    not-short-then (orRefuse 17 (first (havingType 15 (map (held list) spans)))) _ (or-not-short 17 (first (havingType 15 (map (held list) spans))) (λ e. omega arith)) (λ unit.
+    not-short-then (orRefuse 17 (firstElement (havingType 15 (map (held list) spans)))) _ (or-not-short 17 (firstElement (havingType 15 (map (held list) spans))) (λ e. omega arith)) (λ unit.
     not-short-then (parseSps unit) _ (sps-not-short unit) (λ sps.
     not-short-then (ptlOfSets sps (map (held list) spans)) _ (ptl-not-short sps _) (λ ptl. tt)))))
 

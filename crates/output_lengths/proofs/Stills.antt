@@ -6,8 +6,8 @@ use mathlib.Core.List.{List, [], _∷_, _++_, map}
 use mathlib.Core.Option.{Option}
 use native.Mathlib.Omega.{arith}
 use lib.ListN.{length, length-append}
-use Rattle.error.specs.Outcome.{accept, andThen}
-use Rattle.boxes.specs.Bytes.{toChunk}
+use Rattle.parse.specs.Outcome.{accept, andThen}
+use Rattle.boxes.specs.Bytes.{toChunk, AllBytes}
 use Rattle.boxes.specs.Parts.{held}
 use Rattle.boxes.specs.declared.Span.{Span}
 use Rattle.unit_list.specs.UnitList.{unitsOf, encode}
@@ -22,13 +22,12 @@ use Rattle.full.specs.declared.VvcConfig.{VvcConfig}
 use Rattle.grouping.specs.Grouping.{grouped}
 use Rattle.expand.specs.Expand.{Picture, FullHead, expandedHead, toFull}
 use Rattle.access_unit.specs.AccessUnit.{startCode, assemble}
-use Rattle.access_unit.specs.Inside.{lengths}
-use Rattle.path.specs.Still.{Bytes}
+use Rattle.access_unit.specs.inner.Gathered.{lengths}
 use Rattle.path.proofs.Expansion.{then-accept}
 use Rattle.path.proofs.Lengths.{head-long, arrays-long}
 use Rattle.boxes.specs.Walk.{countFound}
 use Rattle.still.specs.Stills.{stillRecord, anyPicture, streamWith, stillStream}
-use Rattle.still.specs.Inside.{ReadFrom, itemBehind, streamExpanded, unitsStream}
+use Rattle.still.specs.inner.Steps.{ReadFrom, itemAfter, streamExpanded, unitsStream}
 use Rattle.grouping.proofs.GroupedFits.{grouped-sound, grouped-few, grouped-count}
 use Rattle.still.proofs.Lists.{Ready, written-bytes, facts, us, types, expanded, written, ready}
 use Rattle.still.proofs.Steps.{item-counted, stream-layers, stream-plain}
@@ -40,7 +39,7 @@ use Rattle.output_lengths.proofs.Grouped.{grouped-less}
 use Rattle.output_lengths.proofs.CompactRecord.{encoded-long, compact-long, flag-is}
 
 -- a compact record that was read and expanded
-module _ (C : List ℕ) (all : Bytes C) (r : CompactParsed) (list : List ℕ) (e : parseCompact C ≡ accept (r, list)) (pic : Picture) (full : FullHead) (arrays : List ℕ)
+module _ (C : List ℕ) (all : AllBytes C) (r : CompactParsed) (list : List ℕ) (e : parseCompact C ≡ accept (r, list)) (pic : Picture) (full : FullHead) (arrays : List ℕ)
     (x : toFull (r .config) pic list ≡ accept (full, arrays)) where
   abbrev c : CompactVvcConfig
   c = r .config
@@ -102,7 +101,7 @@ module _ (C : List ℕ) (all : Bytes C) (r : CompactParsed) (list : List ℕ) (e
     is-ready = ready c (full .head) arrays (record { compact-list = list; from = from; picture = pic; full = full; expands = x; head = refl })
 
     -- full write and restore accepted
-    restored : (item : List ℕ) × (accept (length item) ≡ countFound (itemBehind c (full .head) arrays S))
+    restored : (item : List ℕ) × (accept (length item) ≡ countFound (itemAfter c (full .head) arrays S))
     restored =
         let p = then-accept (serializeFull (full .head) arrays) (λ _. andThen (restore c S) (λ item. assemble (full .head) arrays item tols)) b (sym (is-ready .steps S tols) ∙ f) in
         let q = then-accept (restore c S) (λ item. assemble (full .head) arrays item tols) b (p .2) in
@@ -129,7 +128,7 @@ module _ (C : List ℕ) (all : Bytes C) (r : CompactParsed) (list : List ℕ) (e
         go true s = layers-long s
         go false s = plain-long s
 
-module _ (C : List ℕ) (all : Bytes C) where
+module _ (C : List ℕ) (all : AllBytes C) where
   pub record-suffices : (pic : Picture) → Suffices (recordRoom C) (stillRecord C pic)
   unfolding stillRecord
   record-suffices pic = suffices (recordRoom C) (stillRecord C pic) (record-not-short C pic) (λ b e.

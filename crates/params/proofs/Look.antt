@@ -3,8 +3,8 @@ use mathlib.Core.Path.{_≡_, ap, _∙_}
 use mathlib.Core.List.{List}
 use Prim.Native.Nat.{ℕ}
 use lib.ListN.{length, take}
-use Rattle.error.specs.Parse.{Parser}
-use Rattle.rbsp.specs.Front.{Front}
+use Rattle.parse.specs.Parse.{Parser}
+use Rattle.rbsp.specs.inner.Front.{Front}
 use Rattle.rbsp.proofs.Filling.{front-part}
 
 -- a head of what a fill left at the front of m bytes is the head of the whole

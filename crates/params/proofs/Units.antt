@@ -8,13 +8,13 @@ use lib.Dec.{leb, eqb}
 use lib.ListN.{length, take, drop, length-drop}
 use lib.Seq.{take-all}
 use borrow.Author.Tests.{leb-true, eqb-true, le-leb, lt-leb, eq-eqb, ne-eqb}
-use Rattle.error.specs.Logic.{if_then_else_}
-use Rattle.error.specs.Outcome.{accept, refuse, handsBack}
-use Rattle.error.specs.Parse.{Parsed, value, refused, Parser, outcome}
+use Rattle.parse.specs.Logic.{if_then_else_}
+use Rattle.parse.specs.Outcome.{accept, refuse, handsBack}
+use Rattle.parse.specs.Parse.{Parsed, value, refused, Parser, outcome}
 use Rattle.nal.specs.Header.{typeOr31}
 use Rattle.rbsp.specs.Rbsp.{rbsp}
 use Rattle.params.specs.OfUnit.{ofUnit}
-use Rattle.params.specs.Answers.{readOr}
+use Rattle.params.specs.inner.Answers.{readOr}
 
 -- a unit of a type below 31 has its header
 pub unit-header : (unit : List ℕ) (t : ℕ) → typeOr31 unit ≡ t → t < 31 → 2 ≤ length unit
@@ -23,8 +23,8 @@ unit-header (a ∷ []) t e h = absurd (omega arith)
 unit-header (a ∷ b ∷ r) t e h = omega arith
 
 -- what follows the header, as a part of the unit
-pub behind-header : (unit : List ℕ) → take (length unit - 2) (drop 2 unit) ≡ drop 2 unit
-behind-header unit = take-all (length unit - 2) (drop 2 unit) (omega (arith, length-drop 2 unit))
+pub after-header : (unit : List ℕ) → take (length unit - 2) (drop 2 unit) ≡ drop 2 unit
+after-header unit = take-all (length unit - 2) (drop 2 unit) (omega (arith, length-drop 2 unit))
 
 module _ {A : Type 0} (zeros : A) (t : ℕ) (P : Parser A) (unit : List ℕ) where
   pub unit-long : 2 ^ 30 < length unit → (refuse 23, zeros) ≡ handsBack (λ a. a) zeros (ofUnit t P unit)
@@ -35,7 +35,7 @@ module _ {A : Type 0} (zeros : A) (t : ℕ) (P : Parser A) (unit : List ℕ) whe
 
   pub unit-read : length unit ≤ 2 ^ 30 → typeOr31 unit ≡ t
       → readOr zeros (P (rbsp (take (length unit - 2) (drop 2 unit))) 0) ≡ handsBack (λ a. a) zeros (ofUnit t P unit)
-  unit-read h e = rw (behind-header unit, le-leb (length unit) (2 ^ 30) h, eq-eqb (typeOr31 unit) t e)
+  unit-read h e = rw (after-header unit, le-leb (length unit) (2 ^ 30) h, eq-eqb (typeOr31 unit) t e)
 
 -- A unit is accepted exactly where it is no longer than 2^30, is of the type, and its bits read.
 pub record Accepted {A : Type 0} (t : ℕ) (P : Parser A) (unit : List ℕ) (a : A) : Type 0 where

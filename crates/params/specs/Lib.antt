@@ -1,2 +1,3 @@
 pub mod OfUnit
 pub mod Answers
+pub mod inner

@@ -3,9 +3,9 @@ use mathlib.Core.List.{List}
 use Prim.Native.Nat.{ℕ}
 use lib.Dec.{eqb}
 use lib.ListN.{drop}
-use Rattle.error.specs.Logic.{if_then_else_}
-use Rattle.error.specs.Outcome.{Outcome, refuse, lentInput}
-use Rattle.error.specs.Parse.{Parser, outcome}
+use Rattle.parse.specs.Logic.{if_then_else_}
+use Rattle.parse.specs.Outcome.{Outcome, refuse, lentInput}
+use Rattle.parse.specs.Parse.{Parser, outcome}
 use Rattle.nal.specs.Header.{typeOr31}
 use Rattle.rbsp.specs.Rbsp.{rbsp}
 

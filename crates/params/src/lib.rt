@@ -1,4 +1,4 @@
-// For the crates further down: what the parameter sets' reads share.
+// Internal: what the parameter sets' reads share.
 use error::Refusal;
 
 // Whether a parameter set was read; what was read stands beside it.

@@ -8,15 +8,15 @@ use mathlib.Core.List.{List, [], _∷_, _++_, map}
 use lib.ListN.{length, getD, length-append, length-map, List·getD-append, List·getD-map}
 use lib.Seq.{getD-at}
 use borrow.Author.Tests.{le-leb, lt-leb, ne-eqb, le-ltb}
-use Rattle.error.specs.Outcome.{accept}
-use Rattle.boxes.specs.Bytes.{toChunk}
+use Rattle.parse.specs.Outcome.{accept}
+use Rattle.boxes.specs.Bytes.{toChunk, outside}
 use Rattle.boxes.specs.Parts.{held, nowhere}
 use Rattle.boxes.specs.declared.Span.{Span}
 use Rattle.nal.proofs.Checks.{Splittable}
 use Rattle.unit_list.specs.UnitList.{unitsOf, encode}
 use Rattle.unit_list.proofs.Encode.{held-encode, decode-encode, units-encode, length-toChunk}
-use Rattle.split.specs.Item.{outside, splitItem}
-use Rattle.split.specs.Stream.{annexB, unitsFrom, splitStream}
+use Rattle.split.specs.Item.{splitItem}
+use Rattle.split.specs.Stream.{annexB, streamUnitsFrom, splitStream}
 use Rattle.split.proofs.RoundTrip.{four, split-assembled, split-one, held-one}
 use Rattle.ptl.specs.declared.VvcPtlRecord.{VvcPtlRecord}
 use Rattle.ptl_record.specs.AsWritten.{asWritten}
@@ -170,23 +170,23 @@ module _ (c : CompactVvcConfig) (pic : Picture) (ptl : VvcPtlRecord) (us : List 
       let s = k .short in
       omega (arith, annexB-long (unitsOf (grouped us)) (0 ∷ 65 ∷ S) (every-grouped us (λ u. length u ≤ 255) (k .units .short)), grouped-count us)
 
-  pub splits : splitStream stream ≡ accept (unitsFrom stream 0)
+  pub splits : splitStream stream ≡ accept (streamUnitsFrom stream 0)
   unfolding splitStream
   splits = rw (le-leb (length stream) (2 ^ 30) stream-long)
 
-  pub split-units : map (held stream) (unitsFrom stream 0) ≡ carried
+  pub split-units : map (held stream) (streamUnitsFrom stream 0) ≡ carried
   split-units = split-assembled startCode four carried all-splits
 
-  pub split-count : length (unitsFrom stream 0) ≡ length us + 1
+  pub split-count : length (streamUnitsFrom stream 0) ≡ length us + 1
   split-count =
       let e = ap length split-units in
-      omega (arith, e, length-map (unitsFrom stream 0) (held stream), length-append (unitsOf (grouped us)) ((0 ∷ 65 ∷ S) ∷ []), grouped-count us)
+      omega (arith, e, length-map (streamUnitsFrom stream 0) (held stream), length-append (unitsOf (grouped us)) ((0 ∷ 65 ∷ S) ∷ []), grouped-count us)
 
-  unit-held : (j : ℕ) → held stream (getD (unitsFrom stream 0) j nowhere) ≡ getD carried j []
-  unit-held j = sym (List·getD-map (held stream) (unitsFrom stream 0) j nowhere) ∙ ap (λ (l : List (List ℕ)). getD l j []) split-units
+  unit-held : (j : ℕ) → held stream (getD (streamUnitsFrom stream 0) j nowhere) ≡ getD carried j []
+  unit-held j = sym (List·getD-map (held stream) (streamUnitsFrom stream 0) j nowhere) ∙ ap (λ (l : List (List ℕ)). getD l j []) split-units
 
-  pub unit-below : (j : ℕ) → j < length us → held stream (getD (unitsFrom stream 0) j nowhere) ≡ getD (unitsOf (grouped us)) j []
+  pub unit-below : (j : ℕ) → j < length us → held stream (getD (streamUnitsFrom stream 0) j nowhere) ≡ getD (unitsOf (grouped us)) j []
   unit-below j h = unit-held j ∙ List·getD-append (unitsOf (grouped us)) ((0 ∷ 65 ∷ S) ∷ []) [] j (omega (arith, grouped-count us))
 
-  pub unit-last : held stream (getD (unitsFrom stream 0) (length us) nowhere) ≡ 0 ∷ 65 ∷ S
+  pub unit-last : held stream (getD (streamUnitsFrom stream 0) (length us) nowhere) ≡ 0 ∷ 65 ∷ S
   unit-last = unit-held (length us) ∙ getD-at (unitsOf (grouped us)) (0 ∷ 65 ∷ S) [] [] (length us) (grouped-count us)

@@ -5,7 +5,7 @@ use native.Mathlib.Omega.{arith}
 use mathlib.Core.Path.{_≡_, refl, _∙_}
 use mathlib.Core.Option.{Option}
 use mathlib.Core.List.{List, [], _∷_, _++_}
-use Rattle.error.specs.Parse.{times, many, manyUpTo}
+use Rattle.parse.specs.Parse.{times, many, manyUpTo}
 use Rattle.boxes.specs.Bytes.{be, toBe, uint, bytes, chunk, toChunk, inside}
 use Rattle.nal.specs.StartCode.{isStartCode, scan, endsInZero, unitChecked}
 use Rattle.nal.proofs.Checks.{checked-splittable}

@@ -1,11 +1,11 @@
--- How long few short units are, behind their lengths and in a full record.
+-- How long few short units are, after their lengths and in a full record.
 use Prim.Native.Nat.{ℕ, _+_, _*_, _≤_}
 use native.Mathlib.Omega.{arith}
 use mathlib.Core.Path.{_≡_}
 use mathlib.Core.Bool.{Bool, true, false}
 use mathlib.Core.List.{List, [], _∷_, _++_}
 use lib.ListN.{length, length-append}
-use Rattle.error.specs.Logic.{if_then_else_}
+use Rattle.parse.specs.Logic.{if_then_else_}
 use Rattle.boxes.specs.Bytes.{toBe, toChunk}
 use Rattle.boxes.proofs.Numbers.{length-toBe}
 use Rattle.unit_list.specs.UnitList.{Array, unitsOf, encodeUnits}
@@ -20,7 +20,7 @@ use Rattle.full.specs.Write.{headBytes, ptlPart}
 use Rattle.full.specs.declared.VvcConfig.{VvcConfig}
 use Rattle.expand.specs.Expand.{Picture, expandedHead}
 
--- units one behind the other
+-- units one after the other
 encoded-append : (w : ℕ) (us vs : List (List ℕ)) → length (encodeUnits w (us ++ vs)) ≡ length (encodeUnits w us) + length (encodeUnits w vs)
 unfolding encodeUnits
 encoded-append w [] vs = omega arith

@@ -6,11 +6,11 @@ use mathlib.Core.Option.{Option}
 use mathlib.Core.List.{List, []}
 use lib.ListN.{length, getD, drop, length-map}
 use lib.Seq.{ext-getD}
-use Rattle.error.specs.Outcome.{Outcome, accept}
+use Rattle.parse.specs.Outcome.{Outcome, accept}
 use Rattle.boxes.specs.Parts.{held, nowhere}
 use Rattle.boxes.specs.declared.Span.{Span}
 use Rattle.unit_list.specs.UnitList.{unitsOf}
-use Rattle.split.specs.Stream.{unitsFrom, splitStream}
+use Rattle.split.specs.Stream.{streamUnitsFrom, splitStream}
 use Rattle.grouping.specs.Grouping.{grouped}
 use Rattle.grouping.proofs.Grouping.{grouped-as}
 use Rattle.expand.specs.Expand.{Picture}
@@ -41,7 +41,7 @@ module _ (C S : List ℕ) (still : Still C S) (pic : Picture) (chroma : pic .chr
         restores = counts-of _ _ (is-restored C S still pic chroma depth);
         stream = streamOf C S still;
         assembles = counts-of _ _ (is-assembled C S still pic chroma depth tols);
-        spans = unitsFrom (streamOf C S still) 0;
+        spans = streamUnitsFrom (streamOf C S still) 0;
         splits = splits (config C S still) pic p (unitsIn C) S k;
         grouped = unitsOf (grouped (unitsIn C));
         order = grouped-as (unitsIn C);

@@ -7,11 +7,10 @@ use mathlib.Core.List.{List, [], _∷_}
 use lib.Dec.{eqb, ltb}
 use lib.ListN.{length, getD}
 use borrow.Author.Tests.{ltb-true, eq-eqb}
-use Rattle.error.specs.Logic.{if_then_else_}
-use Rattle.error.specs.Outcome.{accept}
+use Rattle.parse.specs.Logic.{if_then_else_}
+use Rattle.parse.specs.Outcome.{accept}
 use Rattle.nal.specs.Header.{typeOr31}
 use Rattle.nal.specs.StartCode.{unitChecked}
-use Rattle.nal.proofs.StartCodes.{and-true}
 use Rattle.nal.proofs.Checks.{Splittable, checked-splittable}
 use Rattle.unit_list.specs.UnitList.{encode}
 use Rattle.compact.specs.Compact.{CompactParsed, oneArray, parseCompact}
@@ -20,13 +19,15 @@ use Rattle.grouping.specs.Grouping.{havingType, grouped}
 use Rattle.grouping.specs.Order.{typeAt}
 use Rattle.expand.specs.Expand.{Picture, FullHead, expandedHead, withList, toFull}
 use Rattle.ptl.proofs.Examples.{ptlOfP}
-use Rattle.path.specs.Still.{Bytes, Clean, AtMostOne, unitsIn, Still}
+use Rattle.path.specs.Still.{Clean, AtMostOne, unitsIn, Still}
+use Rattle.boxes.specs.Bytes.{AllBytes}
+use Rattle.parse.proofs.General.{and-true}
 
 unfoldable pub allBytes : List ℕ → Bool
 allBytes [] = true
 allBytes (x ∷ s) = ltb x 256 && allBytes s
 
-bytes-of : (s : List ℕ) → allBytes s ≡ true → Bytes s
+bytes-of : (s : List ℕ) → allBytes s ≡ true → AllBytes s
 unfolding allBytes
 bytes-of [] e i = omega arith
 bytes-of (x ∷ s) e zero = ltb-true x 256 (and-true (ltb x 256) (allBytes s) e .0)

@@ -5,7 +5,7 @@ use mathlib.Core.Path.{_≡_}
 use mathlib.Core.Bool.{true}
 use mathlib.Core.List.{List}
 use borrow.Author.Tests.{le-leb}
-use Rattle.error.specs.Outcome.{accept}
+use Rattle.parse.specs.Outcome.{accept}
 use Rattle.ptl.specs.declared.VvcPtlRecord.{VvcPtlRecord}
 use Rattle.ptl.proofs.Bounds.{Fits}
 use Rattle.ptl_record.specs.Write.{ptlFits}
@@ -15,7 +15,7 @@ use Rattle.vps.specs.Vps.{vpsFirstPtl}
 use Rattle.sps.specs.declared.SpsHead.{SpsHead}
 use Rattle.sps.proofs.Bounds.{sps-unit-fits}
 use Rattle.vps.proofs.Bounds.{vps-unit-fits}
-use Rattle.path.specs.Still.{Bytes}
+use Rattle.boxes.specs.Bytes.{AllBytes}
 
 writable : (m : ℕ) (r : VvcPtlRecord) → m ≤ 7 → Fits m r → P.Writable r
 unfolding ptlFits
@@ -30,8 +30,8 @@ writable m r h f =
       subs-small = f .subs-below;
     }
 
-pub sps-ptl : (u : List ℕ) (h : SpsHead) → Bytes u → parseSps u ≡ accept h → h .«ptl_present_flag» ≡ true → P.Writable (h .ptl)
+pub sps-ptl : (u : List ℕ) (h : SpsHead) → AllBytes u → parseSps u ≡ accept h → h .«ptl_present_flag» ≡ true → P.Writable (h .ptl)
 sps-ptl u h b e f = let k = sps-unit-fits u h b e in writable (h .«max_sublayers_minus1») (h .ptl) (k .sublayers) (k .ptl-there f)
 
-pub vps-ptl : (u : List ℕ) (p : VvcPtlRecord) → Bytes u → vpsFirstPtl u ≡ accept p → P.Writable p
+pub vps-ptl : (u : List ℕ) (p : VvcPtlRecord) → AllBytes u → vpsFirstPtl u ≡ accept p → P.Writable p
 vps-ptl u p b e = let k = vps-unit-fits u p b e in writable (p .«num_sublayer_levels») p (k .0) (k .1)

@@ -4,8 +4,8 @@ use mathlib.Core.Path.{_≡_, sym, ap, subst}
 use mathlib.Core.List.{List, map}
 use lib.ListN.{length, length-map}
 use borrow.Author.Tests.{le-leb}
-use Rattle.error.specs.Outcome.{accept}
-use Rattle.error.specs.Parse.{value}
+use Rattle.parse.specs.Outcome.{accept}
+use Rattle.parse.specs.Parse.{value}
 use Rattle.boxes.specs.Parts.{held}
 use Rattle.boxes.specs.declared.Span.{Span}
 use Rattle.unit_list.specs.Answers.{listUnits}
@@ -13,18 +13,19 @@ use Rattle.unit_list.proofs.Encode.{UnitsRead}
 use Rattle.compact.specs.Compact.{CompactParsed, compactRecord, oneArray, parsedWith, parseCompact}
 use Rattle.compact.proofs.Facts.{CompactFacts, compact-facts}
 use Rattle.grouping.proofs.GroupedFits.{Every}
-use Rattle.path.specs.Still.{Bytes, unitsIn}
+use Rattle.path.specs.Still.{unitsIn}
 use Rattle.path.proofs.Units.{every-of}
+use Rattle.boxes.specs.Bytes.{AllBytes}
 
 pub record Facts (us : List (List ℕ)) (read : CompactParsed) (list : List ℕ) : Type 0 where
   pub few : length us ≤ 33
   pub short : Every (λ u. length u ≤ 255) us
-  pub all-bytes : Every Bytes us
+  pub all-bytes : Every AllBytes us
   pub size-low : 1 ≤ read .config .«length_size»
   pub size-high : read .config .«length_size» ≤ 4
   pub units : UnitsRead list (listUnits list) us
 
--- what reading hands back: the count is that of the units, the length is the list's
+-- what reading returns: the count is that of the units, the length is the list's
 module _ (C : List ℕ) (read : CompactParsed) (list : List ℕ) (spans : List Span) (lent : length C ≤ 2 ^ 30)
     (whole : compactRecord C 0 ≡ value (read .config, spans) (length C)) (reads : parseCompact C ≡ accept (read, list)) where
   given : parseCompact C ≡ accept (parsedWith C (read .config, spans))
@@ -37,7 +38,7 @@ module _ (C : List ℕ) (read : CompactParsed) (list : List ℕ) (spans : List S
       let z : oneArray (map (held C) spans) ≡ list = ap (λ (y : CompactParsed × List ℕ). y .1) x in
       rw (← z, whole, length-map spans (held C)) given
 
-module _ (C : List ℕ) (bytes : Bytes C) (read : CompactParsed) (list : List ℕ) (reads : parseCompact C ≡ accept (read, list)) where
+module _ (C : List ℕ) (bytes : AllBytes C) (read : CompactParsed) (list : List ℕ) (reads : parseCompact C ≡ accept (read, list)) where
   known : CompactFacts C read list
   known = compact-facts C bytes read list reads
 
@@ -50,7 +51,7 @@ module _ (C : List ℕ) (bytes : Bytes C) (read : CompactParsed) (list : List �
       (record {
         few = known .most;
         short = every-of (λ u. length u ≤ 255) (known .units) (λ k h. known .short k);
-        all-bytes = every-of Bytes (known .units) (λ k h. known .bytes k);
+        all-bytes = every-of AllBytes (known .units) (λ k h. known .bytes k);
         size-low = known .size-some;
         size-high = known .size-four;
         units = known .read;

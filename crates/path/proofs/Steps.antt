@@ -8,7 +8,7 @@ use mathlib.Core.List.{List, [], _∷_, _++_}
 use lib.Dec.{eqb}
 use lib.ListN.{length, getD}
 use borrow.Author.Tests.{eqb-true}
-use Rattle.error.specs.Outcome.{accept}
+use Rattle.parse.specs.Outcome.{accept}
 use Rattle.nal.specs.Header.{largestUnitType, typeOr31}
 use Rattle.nal.proofs.Checks.{Splittable}
 use Rattle.unit_list.specs.UnitList.{unitsOf, encode}
@@ -26,11 +26,12 @@ use Rattle.expand.specs.Expand.{Picture, expandedHead, withList, expandUnits, t
 use Rattle.expand.proofs.Expansion.{list-expanded}
 use Rattle.expand.proofs.WrittenGroups.{Groupable}
 use Rattle.access_unit.specs.AccessUnit.{startCode, assemble}
-use Rattle.path.specs.Still.{Bytes, Still, unitsIn}
+use Rattle.path.specs.Still.{Still, unitsIn}
 use Rattle.path.proofs.Units.{every-of, every-at, one-of, type-small, clean-splits}
 use Rattle.path.proofs.Record.{Facts, facts, is-read}
 use Rattle.path.proofs.Expansion.{Expansion, expansion, of-units}
 use Rattle.path.proofs.Carried.{Expanded, back, item, written, read-back, restored, assembles}
+use Rattle.boxes.specs.Bytes.{AllBytes}
 
 module _ (C S : List ℕ) (still : Still C S) where
   abbrev pub us : List (List ℕ)
@@ -55,7 +56,7 @@ module _ (C S : List ℕ) (still : Still C S) where
   groupable = record {
     count = omega (arith, known .few);
     short = known .short;
-    types = every-of (λ u. typeOr31 u ≤ largestUnitType) us (λ k h. type-small (getD us k []) (every-at Bytes us (known .all-bytes) k h));
+    types = every-of (λ u. typeOr31 u ≤ largestUnitType) us (λ k h. type-small (getD us k []) (every-at AllBytes us (known .all-bytes) k h));
     single = single;
   }
 

@@ -9,7 +9,7 @@ use lib.ListN.{length, getD, length-append, List·getD-append}
 use lib.Seq.{getD-at}
 use native.Mathlib.Decide.{decLe}
 use borrow.Author.Tests.{eqb-true}
-use Rattle.error.specs.Logic.{if_then_else_}
+use Rattle.parse.specs.Logic.{if_then_else_}
 use Rattle.nal.specs.Header.{largestUnitType, typeOr31}
 use Rattle.nal.proofs.StartCodes.{CodeAt}
 use Rattle.nal.proofs.Checks.{Splittable}
@@ -17,7 +17,8 @@ use Rattle.split.proofs.RoundTrip.{AllSplittable}
 use Rattle.grouping.specs.Grouping.{havingType}
 use Rattle.grouping.specs.Order.{typeAt}
 use Rattle.grouping.proofs.GroupedFits.{Every}
-use Rattle.path.specs.Still.{Bytes, Clean, AtMostOne}
+use Rattle.path.specs.Still.{Clean, AtMostOne}
+use Rattle.boxes.specs.Bytes.{AllBytes}
 
 -- what holds at every place holds of every unit, and back
 pub every-of : (P : List ℕ → Type 0) (us : List (List ℕ)) → ((k : ℕ) → k < length us → P (getD us k [])) → Every P us
@@ -49,7 +50,7 @@ one-of t (u ∷ us) f = go (eqb (typeOr31 u) t) refl (one-of t us (λ i j h k. f
     go false e r = r
 
 -- a type is below 32
-pub type-small : (u : List ℕ) → Bytes u → typeOr31 u ≤ largestUnitType
+pub type-small : (u : List ℕ) → AllBytes u → typeOr31 u ≤ largestUnitType
 type-small [] b = omega arith
 type-small (x ∷ []) b = omega arith
 type-small (x ∷ y ∷ u) b = omega (arith, b 1)
@@ -80,7 +81,7 @@ last-byte (x ∷ S) c e = c .ends (omega arith) (subst (λ (n : ℕ). getD (0 �
 pub still-splits : (S : List ℕ) → Clean S → Splittable (0 ∷ 65 ∷ S)
 still-splits S c = record { some = omega arith; free = no-code S c; ends = last-byte S c }
 
--- units with one more behind them
+-- units with one more after them
 pub all-split : (gs : List (List ℕ)) (u : List ℕ) → Every Splittable gs → Splittable u → AllSplittable (gs ++ (u ∷ []))
 all-split gs u e s k h =
     elim (decLe (suc k) (length gs)) [

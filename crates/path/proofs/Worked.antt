@@ -4,8 +4,8 @@ use mathlib.Core.Path.{_≡_, refl}
 use mathlib.Core.Bool.{false}
 use mathlib.Core.List.{List, [], _∷_, _++_}
 use lib.ListN.{length}
-use Rattle.error.specs.Outcome.{Outcome, accept, refuse, andThen}
-use Rattle.error.specs.Parse.{value, refused, times, many, manyUpTo}
+use Rattle.parse.specs.Outcome.{Outcome, accept, refuse, andThen}
+use Rattle.parse.specs.Parse.{value, refused, times, many, manyUpTo}
 use Rattle.boxes.specs.Bytes.{be, toBe, uint, bytes, chunk, toChunk, inside}
 use Rattle.unit_list.specs.UnitList.{arrayRest, array, unitList, decode, unitsOf, unitsOfType, encodeUnits, encodeArray, encodeArrays, encode}
 use Rattle.rbsp.specs.Rbsp.{drops, nextZeros, unescape, rbsp}
@@ -18,7 +18,7 @@ use Rattle.compact.specs.Compact.{CompactParsed, atEnd, compactRecord, oneArray
 use Rattle.compact.specs.ItemData.{restore}
 use Rattle.compact.specs.declared.CompactVvcConfig.{CompactVvcConfig}
 use Rattle.ptl_record.specs.Read.{octets, vvcPtlRecord}
-use Rattle.ptl_record.specs.Write.{withFlags, flagByte, levelBytes, subProfiles, ptlBytes, ptlFits}
+use Rattle.ptl_record.specs.Write.{withFlags, flagByte, levelBytes, subProfileBytes, ptlBytes, ptlFits}
 use Rattle.full.specs.Read.{FullParsed, headWithPtl, vvcHead, vvcRecord, parseFull}
 use Rattle.record_arrays.specs.Read.{recordArray}
 use Rattle.full.specs.Write.{ptlPart, headBytes, fullBytes, ptlPartFits, headFits, recordFits, writeFull, serializeFull}
@@ -76,7 +76,7 @@ pub record Worked : Type 0 where
   pub extracted : rbsp (0x00 ∷ 0x00 ∷ 0x03 ∷ 0x00 ∷ 0x00 ∷ 0x03 ∷ []) ≡ 0x00 ∷ 0x00 ∷ 0x00 ∷ 0x00 ∷ []
 
 pub worked : Worked
-unfolding times many manyUpTo be toBe uint bytes chunk toChunk inside arrayRest array unitList decode unitsOf unitsOfType encodeUnits encodeArray encodeArrays encode drops nextZeros unescape bitsAt u skip align zerosBeforeOne ue presentFlags levels withoutFlags constraintBits generalConstraintsInfo constraintBytes profileTierLevel window spsHead vpsPtl parseSps vpsFirstPtl atEnd compactRecord parseCompact restore octets vvcPtlRecord headWithPtl vvcHead recordArray vvcRecord parseFull withFlags flagByte levelBytes subProfiles ptlBytes ptlPart headBytes arrayBytes arraysBytes fullBytes ptlFits ptlPartFits headFits unitsFit arrayFits arraysFit recordFits writeFull serializeFull havingType without firsts grouped multiLayerVps ptlOfSets expandUnits toFull
+unfolding times many manyUpTo be toBe uint bytes chunk toChunk inside arrayRest array unitList decode unitsOf unitsOfType encodeUnits encodeArray encodeArrays encode drops nextZeros unescape bitsAt u skip align zerosBeforeOne ue presentFlags levels withoutFlags constraintBits generalConstraintsInfo constraintBytes profileTierLevel window spsHead vpsPtl parseSps vpsFirstPtl atEnd compactRecord parseCompact restore octets vvcPtlRecord headWithPtl vvcHead recordArray vvcRecord parseFull withFlags flagByte levelBytes subProfileBytes ptlBytes ptlPart headBytes arrayBytes arraysBytes fullBytes ptlFits ptlPartFits headFits unitsFit arrayFits arraysFit recordFits writeFull serializeFull havingType without firsts grouped multiLayerVps ptlOfSets expandUnits toFull
 worked = record {
   compact-reads = refl;
   sps-head = refl;

@@ -7,7 +7,7 @@ use mathlib.Core.List.{List}
 use lib.ListN.{length, drop, getD, replicate, length-replicate, getD-replicate, List·getD-append}
 use lib.Seq.{ext-getD, getD-append-add, getD-drop}
 use borrow.Author.Tests.{le-leb}
-use Rattle.error.specs.Outcome.{Outcome, accept, refuse, overlay, counted}
+use Rattle.parse.specs.Outcome.{Outcome, accept, refuse, overlay, counted}
 use Rattle.path.specs.Path.{Writes}
 
 pub writes-of : {A : Type 0} (o : Outcome (A × List ℕ)) (a : A) (b : List ℕ) → o ≡ accept (a, b) → Writes o a b
@@ -18,12 +18,12 @@ counts-of o b e out h = rw e (rw (le-leb (length b) (length out) h))
 
 -- bytes that stand at the front of an output of n zeros and of one of n ones
 module _ (n : ℕ) (b c : List ℕ) (long : length b + length c ≤ n) (same : (v : ℕ) → overlay c (replicate n v) ≡ overlay b (replicate n v)) where
-  -- behind them stands what the output held
+  -- after them stands what the output held
   not-longer : length b < length c → ⊥
-  not-longer h = let z = behind 0 in let o = behind 1 in omega arith
+  not-longer h = let z = after 0 in let o = after 1 in omega arith
     where
-      behind : (v : ℕ) → getD c (length b + 0) 0 ≡ v
-      behind v =
+      after : (v : ℕ) → getD c (length b + 0) 0 ≡ v
+      after v =
           sym (List·getD-append c (drop (length c) (replicate n v)) 0 (length b + 0) (omega arith)) ∙ ap (λ (l : List ℕ). getD l (length b + 0) 0) (same v)
           ∙ getD-append-add b (drop (length b) (replicate n v)) 0 0 ∙ getD-drop (length b) (replicate n v) 0 0 ∙ getD-replicate n (length b + 0) v 0 (omega arith)
 

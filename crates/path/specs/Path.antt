@@ -5,7 +5,7 @@ use mathlib.Core.Logic.{_↔_}
 use mathlib.Core.Option.{Option}
 use mathlib.Core.List.{List, [], _∷_, _++_}
 use lib.ListN.{length, getD}
-use Rattle.error.specs.Outcome.{Outcome, accept, overlay, lentOutput, counted}
+use Rattle.parse.specs.Outcome.{Outcome, accept, overlay, lentOutput, counted}
 use Rattle.boxes.specs.Parts.{held, nowhere}
 use Rattle.boxes.specs.declared.Span.{Span}
 use Rattle.split.specs.Stream.{annexB, splitStream}
@@ -20,7 +20,7 @@ use Rattle.grouping.specs.Order.{GroupedAs}
 use Rattle.access_unit.specs.AccessUnit.{assemble}
 use Rattle.path.specs.Still.{unitsIn, Still}
 
--- A call that writes is accepted with any output that is long enough: it hands back a, and its bytes stand at the front.
+-- A call that writes is accepted with any output that is long enough: it returns a, and its bytes stand at the front.
 abbrev pub Writes : {A : Type 0} → Outcome (A × List ℕ) → A → List ℕ → Type 0
 Writes o a bytes = (out : List ℕ) → length bytes ≤ length out → lentOutput o out ≡ (accept a, overlay bytes out)
 
@@ -54,7 +54,7 @@ pub record Path (C S : List ℕ) (pic : Picture) (tols : Option ℕ) : Type 0 wh
   pub count : length spans ≡ length (unitsIn C) + 1
   pub unit : (k : ℕ) → k < length (unitsIn C) → held stream (getD spans k nowhere) ≡ getD grouped k []
   pub last : held stream (getD spans (length (unitsIn C)) nowhere) ≡ 0x00 ∷ 0x41 ∷ S
-  -- the stream's bytes: each of these units behind 00 00 00 01
+  -- the stream's bytes: each of these units after 00 00 00 01
   pub is-stream : stream ≡ annexB (0x00 ∷ 0x00 ∷ 0x00 ∷ 0x01 ∷ []) (grouped ++ ((0x00 ∷ 0x41 ∷ S) ∷ []))
 
 -- Two stills, each with a record, picture bytes, chroma, depth, dimensions and target of its own: both paths, and "the streams are the same

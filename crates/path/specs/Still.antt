@@ -4,18 +4,15 @@ use mathlib.Core.Path.{_≡_}
 use mathlib.Core.Bool.{false}
 use mathlib.Core.List.{List, [], map}
 use lib.ListN.{length, getD}
-use Rattle.error.specs.Outcome.{accept}
-use Rattle.error.specs.Parse.{Parsed, value, refused}
+use Rattle.parse.specs.Outcome.{accept}
+use Rattle.parse.specs.Parse.{Parsed, value, refused}
 use Rattle.boxes.specs.Parts.{held}
 use Rattle.boxes.specs.declared.Span.{Span}
 use Rattle.compact.specs.Compact.{CompactParsed, compactRecord, parseCompact}
 use Rattle.compact.specs.declared.CompactVvcConfig.{CompactVvcConfig}
 use Rattle.expand.specs.Expand.{Picture, FullHead, toFull}
 use Rattle.grouping.specs.Order.{typeAt}
-
--- a list of bytes
-abbrev pub Bytes : List ℕ → Type 0
-Bytes s = (i : ℕ) → getD s i 0 < 256
+use Rattle.boxes.specs.Bytes.{AllBytes}
 
 -- contains no 00 00 01, and does not end in 00
 pub record Clean (u : List ℕ) : Type 0 where
@@ -36,7 +33,7 @@ unitsIn C = unitsRead C (compactRecord C 0)
 
 -- A compact record C that reads and expands, and picture bytes S, "as the mission describes".
 pub record Still (C S : List ℕ) : Type 0 where
-  pub bytes : Bytes C
+  pub bytes : AllBytes C
   -- C reads
   pub read : CompactParsed
   pub list : List ℕ

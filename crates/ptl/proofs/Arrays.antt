@@ -17,13 +17,13 @@ module _ {A : Type 0} where
   drop-replicate (suc m) zero a = rw (zero-sub (suc m))
   drop-replicate (suc m) (suc n) a = rw (suc-sub-suc n m) (drop-replicate m n a)
 
-  -- one value more behind those that stand
+  -- one value more after those that stand
   pub padded-more : (N : ℕ) (z : A) (xs : List A) (v : A) (k : ℕ) → length xs ≡ k → k < N → set (padded N z xs) k v ≡ padded N z (xs ++ (v ∷ []))
   padded-more N z xs v k e h =
       let m : N - length xs ≡ suc (N - length (xs ++ (v ∷ []))) = omega (arith, length-append xs (v ∷ [])) in
       rw m (set-at xs z (replicate (N - length (xs ++ (v ∷ []))) z) v k e ∙ sym (append-assoc xs (v ∷ []) (replicate (N - length (xs ++ (v ∷ []))) z)))
 
-  -- a store at j, seen from behind
+  -- a store at j, seen from after
   drop-set-at : (j : ℕ) (l : List A) (v : A) → j < length l → drop j (set l j v) ≡ v ∷ drop (suc j) l
   drop-set-at j [] v h = absurd (not-suc-le-zero h)
   drop-set-at zero (x ∷ l) v h = refl

@@ -7,14 +7,14 @@ use native.Mathlib.Omega.{arith}
 use lib.Dec.{ltb, lit<}
 use lib.ListN.{length, getD, take, drop, replicate, length-append, length-drop}
 use lib.Seq.{getD-drop, length-take-le}
-use Rattle.error.specs.Logic.{if_then_else_}
-use Rattle.error.specs.Parse.{value, Parser, give, times}
+use Rattle.parse.specs.Logic.{if_then_else_}
+use Rattle.parse.specs.Parse.{value, Parser, give, times}
 use Rattle.bit_reader.specs.Bits.{u, isSet}
 use Rattle.rbsp.proofs.Below.{Below}
-use Rattle.bit_reader.proofs.Binds.{first}
+use Rattle.parse.proofs.Binds.{first-read}
 use Rattle.bit_reader.proofs.Numbers.{u-read}
 use Rattle.ptl.specs.Ptl.{padded, presentFlags, levels, withoutFlags, generalConstraintsInfo, constraintBytes, profileTierLevel}
-use Rattle.ptl.specs.Sections.{general, constraints, sublayers, subProfiles, joined}
+use Rattle.ptl.specs.inner.Sections.{general, constraints, sublayers, subProfiles, ptlOfSections}
 use Rattle.ptl.specs.declared.VvcPtlRecord.{VvcPtlRecord}
 use Rattle.ptl.specs.declared.constraints.Constraints.{Constraints}
 use Rattle.ptl.specs.declared.sublayers.Sublayers.{Sublayers}
@@ -89,7 +89,7 @@ constrained s l n c g e h k i j =
 pub constraints-read : (s : List ℕ) (p : ℕ) (c : Constraints) (q : ℕ) → Below 256 s → constraints s p ≡ value c q → Constrained c
 unfolding constraints constraintBytes
 constraints-read s p c q g h =
-    first (u 1 s p) _ h (λ f a e j. first (u 1 s a) _ j (λ m b k l. first (generalConstraintsInfo s b) _ l (λ _ t i o.
+    first-read (u 1 s p) _ h (λ f a e j. first-read (u 1 s a) _ j (λ m b k l. first-read (generalConstraintsInfo s b) _ l (λ _ t i o.
     let x = u-read 1 s p f a e in
     let y = u-read 1 s a m b k in
     let z = info-read s b t i in
@@ -133,8 +133,8 @@ module _ (L : Parser ℕ) (s : List ℕ) (low : (p v q : ℕ) → L s p ≡ valu
   unfolding levels presentFlags
   levels-read zero byte p ls q e = let z : [] ≡ ls = cc in rw (← z) (record { count = refl; below = λ i. lit< tt; absent = λ i f. refl })
   levels-read (suc m) byte p ls q e =
-      first ((if isSet (byte / 128) then L else give 0) s p) _ e (λ v a g f.
-      first (levels L m (byte % 128 * 2) s a) _ f (λ below t h k.
+      first-read ((if isSet (byte / 128) then L else give 0) s p) _ e (λ v a g f.
+      first-read (levels L m (byte % 128 * 2) s a) _ f (λ below t h k.
       let z : below ++ (v ∷ []) ≡ ls = cc in
       let r = levels-read m (byte % 128 * 2) a below t h in
       let w = level-read (isSet (byte / 128)) p v a g in
@@ -168,7 +168,7 @@ layered m byte ls l h r e f =
 pub sublayers-read : (s : List ℕ) (m p : ℕ) (l : Sublayers) (q : ℕ) → m ≤ 7 → sublayers m s p ≡ value l q → Layered m l
 unfolding sublayers
 sublayers-read s m p l q g h =
-    first (byteIf (ltb 0 m) s p) _ h (λ byte a e f. first (levels (u 8) m byte s a) _ f (λ ls t k j.
+    first-read (byteIf (ltb 0 m) s p) _ h (λ byte a e f. first-read (levels (u 8) m byte s a) _ f (λ ls t k j.
     layered m byte ls l g (levels-read (u 8) s (λ b v d o. u-read 8 s b v d o .low) m byte a ls t k) (cc) (cc)))
 
 -- ---- the sub-profiles
@@ -181,7 +181,7 @@ pub times-read : (P : Parser ℕ) (s : List ℕ) → ((p v q : ℕ) → P s p �
 unfolding times
 times-read P s low zero p vs q e = let z : [] ≡ vs = cc in rw (← z) (record { count = refl; below = λ i. lit< tt })
 times-read P s low (suc n) p vs q e =
-    first (P s p) _ e (λ v a g f. first (times n P s a) _ f (λ rest t h k.
+    first-read (P s p) _ e (λ v a g f. first-read (times n P s a) _ f (λ rest t h k.
     let z : v ∷ rest ≡ vs = cc in
     let r = times-read P s low n a rest t h in
     rw (← z) (record { count = ap suc (r .count); below = append-below (2 ^ 32) (lit< tt) (v ∷ []) rest (one-below (2 ^ 32) (lit< tt) v (low p v a g)) (r .below) })))
@@ -203,7 +203,7 @@ profiled n vs v h r e f = record {
 pub sub-profiles-read : (s : List ℕ) (p : ℕ) (v : SubProfiles) (q : ℕ) → subProfiles s p ≡ value v q → Profiled v
 unfolding subProfiles
 sub-profiles-read s p v q h =
-    first (u 8 s p) _ h (λ n a e f. first (times n (u 32) s a) _ f (λ vs t k j.
+    first-read (u 8 s p) _ h (λ n a e f. first-read (times n (u 32) s a) _ f (λ vs t k j.
     profiled n vs v (u-read 8 s p n a e .low) (times-read (u 32) s (λ b x d o. u-read 32 s b x d o .low) n a vs t k) (cc) (cc)))
 
 -- ---- the whole
@@ -229,8 +229,8 @@ pub record Fits (m : ℕ) (r : VvcPtlRecord) : Type 0 where
 
 pub ptl-fits : (m : ℕ) (s : List ℕ) (p : ℕ) (r : VvcPtlRecord) (q : ℕ) → m ≤ 7 → Below 256 s → profileTierLevel m s p ≡ value r q → Fits m r
 ptl-fits m s p r q h k e =
-    first (general s p) _ (sym (sections m s p) ∙ e) (λ g a ge f. first (constraints s a) _ f (λ c b ce j. first (sublayers m s b) _ j (λ l d le i. first (subProfiles s d) _ i (λ v t ve o.
-    let z : joined m g c l v ≡ r = cc in
+    first-read (general s p) _ (sym (sections m s p) ∙ e) (λ g a ge f. first-read (constraints s a) _ f (λ c b ce j. first-read (sublayers m s b) _ j (λ l d le i. first-read (subProfiles s d) _ i (λ v t ve o.
+    let z : ptlOfSections m g c l v ≡ r = cc in
     let w = general-read s p g a ge in
     let x = constraints-read s a c b k ce in
     let y = sublayers-read s m b l d h le in

@@ -4,5 +4,5 @@ pub mod SublayerLevels
 pub mod SubProfileValues
 pub mod Whole
 pub mod Bounds
-pub mod Local
 pub mod Examples
+pub mod Looks

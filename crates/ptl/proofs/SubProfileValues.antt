@@ -7,17 +7,17 @@ use native.Mathlib.Numerals.{add-one}
 use native.Mathlib.Omega.{arith}
 use lib.ListN.{length, take, drop, set, replicate, length-set, take-append-drop}
 use lib.Seq.{take-suc-set, drop-set-lt, drop-drop, append-snoc, length-take-le}
-use Rattle.error.specs.Parse.{Parsed, value, refused, bind, Parser, times}
+use Rattle.parse.specs.Parse.{Parsed, value, refused, bind, Parser, times}
 use Rattle.bit_reader.specs.Bits.{u}
-use Rattle.bit_reader.specs.Answers.{parsed, numberIn, partBehind}
+use Rattle.bit_reader.specs.inner.Answers.{parsed, numberIn, partAfter}
 use Rattle.bit_reader.specs.declared.BitsRead.{BitsRead}
-use Rattle.bit_reader.proofs.Binds.{bind-bind, same}
-use Rattle.bit_reader.proofs.Chain.{onward}
+use Rattle.parse.proofs.Binds.{bind-bind, same-first}
+use Rattle.bit_reader.proofs.Chain.{bind-next}
 use Rattle.ptl.specs.Ptl.{padded}
-use Rattle.ptl.specs.Sections.{subProfiles}
+use Rattle.ptl.specs.inner.Sections.{subProfiles}
 use Rattle.ptl.specs.declared.sub_profiles.SubProfiles.{SubProfiles}
 
--- ---- the loop: k values stand, and the rest is still to be read behind the last answer
+-- ---- the loop: k values stand, and the rest is still to be read after the last answer
 abbrev pub toCome : Parser ℕ → List ℕ → BitsRead → ℕ → List ℕ → Parsed (List ℕ)
 toCome P s last g l = bind (parsed last) (λ _ q. bind (times g P s q) (λ rest t. value (l ++ rest) t))
 
@@ -32,20 +32,20 @@ bind-value (value a q) = refl
 bind-value (refused e) = refl
 
 pub going-start : (P : Parser ℕ) (s : List ℕ) (n : ℕ) (prior : BitsRead) → Going P s n prior (replicate 255 0) prior 0
-going-start P s n prior = record { within = omega arith; long = refl; done = rw (sub-zero n) (same (parsed prior) _ _ (λ _ q. bind-value (times n P s q))); clear = refl }
+going-start P s n prior = record { within = omega arith; long = refl; done = rw (sub-zero n) (same-first (parsed prior) _ _ (λ _ q. bind-value (times n P s q))); clear = refl }
 
 regroup : (x : Parsed (List ℕ)) (l l′ : List ℕ) (v : ℕ) → l′ ≡ l ++ (v ∷ [])
     → bind (bind x (λ rest t. value (v ∷ rest) t)) (λ rest t. value (l ++ rest) t) ≡ bind x (λ rest t. value (l′ ++ rest) t)
 regroup (value a q) l l′ v e = rw (e, append-snoc l v a)
 regroup (refused r) l l′ v e = refl
 
--- one value more, by the answer r behind the last one
+-- one value more, by the answer r after the last one
 value-on : (P : Parser ℕ) (s : List ℕ) (last r : BitsRead) (g : ℕ) (l l′ : List ℕ) → l′ ≡ l ++ (numberIn r ∷ []) → parsed r ≡ bind (parsed last) (λ _ q. P s q) → toCome P s last (suc g) l ≡ toCome P s r g l′
 unfolding times
 value-on P s last r g l l′ e h =
-    same (parsed last) _ _ (λ _ q. bind-bind (P s q) _ _)
-    ∙ onward last r _ (λ v q. bind (bind (times g P s q) (λ rest t. value (v ∷ rest) t)) (λ rest t. value (l ++ rest) t)) h
-    ∙ same (parsed r) _ _ (λ _ q. regroup (times g P s q) l l′ (numberIn r) e)
+    same-first (parsed last) _ _ (λ _ q. bind-bind (P s q) _ _)
+    ∙ bind-next last r _ (λ v q. bind (bind (times g P s q) (λ rest t. value (v ∷ rest) t)) (λ rest t. value (l ++ rest) t)) h
+    ∙ same-first (parsed r) _ _ (λ _ q. regroup (times g P s q) l l′ (numberIn r) e)
 
 -- the section's value for n sub-profiles
 abbrev pub profiles : ℕ → List ℕ → SubProfiles
@@ -71,7 +71,7 @@ module _ (P : Parser ℕ) (s : List ℕ) (n : ℕ) (prior : BitsRead) (values : 
       more : 255 - k ≡ suc (255 - (k + 1))
       more = omega arith
 
-  pub going-end : n ≤ k → partBehind last (profiles n values) ≡ bind (parsed prior) (λ _ q. counted n (times n P s q))
+  pub going-end : n ≤ k → partAfter last (profiles n values) ≡ bind (parsed prior) (λ _ q. counted n (times n P s q))
   unfolding times
   going-end h =
       let e : n - k ≡ 0 = omega arith in
@@ -82,7 +82,7 @@ module _ (P : Parser ℕ) (s : List ℕ) (n : ℕ) (prior : BitsRead) (values : 
       ∙ ap (λ (l : List ℕ). bind (parsed last) (λ _ q. value (profiles n l) q)) w)
 
 -- ---- the section
-pub profiles-behind : (s : List ℕ) (n : ℕ) (prior r : BitsRead) → n ≡ numberIn r → parsed r ≡ bind (parsed prior) (λ _ q. u 8 s q)
+pub profiles-after : (s : List ℕ) (n : ℕ) (prior r : BitsRead) → n ≡ numberIn r → parsed r ≡ bind (parsed prior) (λ _ q. u 8 s q)
     → bind (parsed r) (λ _ q. counted n (times n (u 32) s q)) ≡ bind (parsed prior) (λ _ q. subProfiles s q)
 unfolding subProfiles
-profiles-behind s n prior r e h = rw e (sym (onward prior r _ _ h))
+profiles-after s n prior r e h = rw e (sym (bind-next prior r _ _ h))

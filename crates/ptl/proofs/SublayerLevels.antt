@@ -2,19 +2,19 @@
 use mathlib.Core.Path.{_≡_, refl, ap, sym, _∙_}
 use mathlib.Core.Bool.{Bool, false}
 use mathlib.Core.List.{List, [], _∷_, _++_}
-use Prim.Native.Nat.{ℕ, zero, suc, _-_, _*_, _/_, _%_, _≤_, _<_}
+use Prim.Native.Nat.{ℕ, zero, suc, _*_, _/_, _%_, _≤_, _<_}
 use native.Mathlib.Omega.{arith}
 use lib.Dec.{ltb}
 use lib.ListN.{length, drop, set, replicate, length-set, length-append}
-use Rattle.error.specs.Logic.{if_then_else_}
-use Rattle.error.specs.Parse.{Parsed, value, refused, bind, Parser, give}
+use Rattle.parse.specs.Logic.{if_then_else_}
+use Rattle.parse.specs.Parse.{Parsed, value, refused, bind, Parser, give}
 use Rattle.bit_reader.specs.Bits.{u, isSet}
-use Rattle.bit_reader.specs.Answers.{parsed, numberIn, partBehind}
+use Rattle.bit_reader.specs.inner.Answers.{parsed, numberIn, partAfter}
 use Rattle.bit_reader.specs.declared.BitsRead.{BitsRead}
-use Rattle.bit_reader.proofs.Binds.{bind-bind, first, same}
-use Rattle.bit_reader.proofs.Chain.{onward, part-in}
+use Rattle.parse.proofs.Binds.{bind-bind, first-read, same-first}
+use Rattle.bit_reader.proofs.Chain.{bind-next, part-in}
 use Rattle.ptl.specs.Ptl.{padded, presentFlags, levels}
-use Rattle.ptl.specs.Sections.{sublayers}
+use Rattle.ptl.specs.inner.Sections.{sublayers}
 use Rattle.ptl.specs.declared.sublayers.Sublayers.{Sublayers}
 use Rattle.ptl.proofs.Arrays.{drop-replicate, snoc-store}
 
@@ -61,8 +61,8 @@ pub levels-length : (L : Parser ℕ) (s : List ℕ) (m byte p : ℕ) (ls : List 
 unfolding levels
 levels-length L s zero byte p ls q e = let z : [] ≡ ls = cc in ap length (sym z)
 levels-length L s (suc m) byte p ls q e =
-    first ((if isSet (byte / 128) then L else give 0) s p) _ e (λ v a g f.
-    first (levels L m (byte % 128 * 2) s a) _ f (λ below t h k.
+    first-read ((if isSet (byte / 128) then L else give 0) s p) _ e (λ v a g f.
+    first-read (levels L m (byte % 128 * 2) s a) _ f (λ below t h k.
     let z : below ++ (v ∷ []) ≡ ls = cc in
     let n = levels-length L s m (byte % 128 * 2) a below t h in
     ap length (sym z) ∙ rw (length-append, n) (omega arith)))
@@ -74,7 +74,7 @@ asArray x = bind x (λ ls q. value (padded 7 0 ls) q)
 abbrev pub inFrontOf : List ℕ → Parsed (List ℕ) → Parsed (List ℕ)
 inFrontOf l x = bind x (λ below t. value (below ++ l) t)
 
--- the levels of the flags in byte behind an answer, i of them, in front of those that stand
+-- the levels of the flags in byte after an answer, i of them, in front of those that stand
 abbrev pub toCome : Parser ℕ → List ℕ → BitsRead → ℕ → ℕ → List ℕ → Parsed (List ℕ)
 toCome L s last i byte l = bind (parsed last) (λ _ q. inFrontOf l (levels L i byte s q))
 
@@ -85,13 +85,13 @@ pub record Levelled (L : Parser ℕ) (s : List ℕ) (prior : BitsRead) (flags m 
   pub done : bind (parsed prior) (λ _ q. asArray (levels L m flags s q)) ≡ toCome L s last i byte (drop i part)
 
 pub levels-start : (L : Parser ℕ) (s : List ℕ) (prior : BitsRead) (flags m i : ℕ) → flags < 256 → i ≡ m → Levelled L s prior flags m (replicate 7 0) prior flags i
-levels-start L s prior flags m i h n = rw n (record { low = omega arith; small = h; long = refl; done = same (parsed prior) _ _ (λ _ q. go q (levels L m flags s q) refl) })
+levels-start L s prior flags m i h n = rw n (record { low = omega arith; small = h; long = refl; done = same-first (parsed prior) _ _ (λ _ q. go q (levels L m flags s q) refl) })
   where
     go : (p : ℕ) (x : Parsed (List ℕ)) → levels L m flags s p ≡ x → asArray x ≡ inFrontOf (drop m (replicate 7 0)) x
     go p (value ls q) e = rw (drop-replicate {A = ℕ} m 7 0, levels-length L s m flags p ls q e)
     go p (refused r) e = refl
 
--- one level more, by the answer r behind the last one
+-- one level more, by the answer r after the last one
 regroup : (x : Parsed (List ℕ)) (v : ℕ) (l l′ : List ℕ) → ((xs : List ℕ) → (xs ++ (v ∷ [])) ++ l ≡ xs ++ l′)
     → inFrontOf l (inFrontOf (v ∷ []) x) ≡ inFrontOf l′ x
 regroup (value a q) v l l′ h = ap (λ (k : List ℕ). value k q) (h a)
@@ -101,9 +101,9 @@ level-on : (L : Parser ℕ) (s : List ℕ) (last r : BitsRead) (byte j : ℕ) (p
     → toCome L s last (suc j) byte (drop (suc j) part) ≡ toCome L s r j (byte % 128 * 2) (drop j (set part j (numberIn r)))
 unfolding levels
 level-on L s last r byte j part k h =
-    same (parsed last) _ _ (λ _ q. bind-bind ((if isSet (byte / 128) then L else give 0) s q) _ _)
-    ∙ onward last r _ (λ v q. inFrontOf (drop (suc j) part) (inFrontOf (v ∷ []) (levels L j (byte % 128 * 2) s q))) h
-    ∙ same (parsed r) _ _ (λ _ q. regroup (levels L j (byte % 128 * 2) s q) (numberIn r) _ _ (λ xs. snoc-store xs j part (numberIn r) k))
+    same-first (parsed last) _ _ (λ _ q. bind-bind ((if isSet (byte / 128) then L else give 0) s q) _ _)
+    ∙ bind-next last r _ (λ v q. inFrontOf (drop (suc j) part) (inFrontOf (v ∷ []) (levels L j (byte % 128 * 2) s q))) h
+    ∙ same-first (parsed r) _ _ (λ _ q. regroup (levels L j (byte % 128 * 2) s q) (numberIn r) _ _ (λ xs. snoc-store xs j part (numberIn r) k))
 
 module _ (L : Parser ℕ) (s : List ℕ) (prior : BitsRead) (flags m : ℕ) (part : List ℕ) (last : BitsRead) (byte i : ℕ) (f : Levelled L s prior flags m part last byte i) (few : m ≤ 7) where
   pub levels-on : (r : BitsRead) (v j j′ : ℕ) → v ≡ numberIn r → i ≡ suc j → j′ ≡ j → parsed r ≡ bind (parsed last) (λ _ q. (if isSet (byte / 128) then L else give 0) s q)
@@ -117,21 +117,21 @@ module _ (L : Parser ℕ) (s : List ℕ) (prior : BitsRead) (flags m : ℕ) (par
         done = f .done ∙ ap (λ (k : ℕ). toCome L s last k byte (drop k part)) e ∙ level-on L s last r byte j part (omega arith) h;
       })
 
-  pub levels-end : i ≡ 0 → partBehind last part ≡ bind (parsed prior) (λ _ q. asArray (levels L m flags s q))
+  pub levels-end : i ≡ 0 → partAfter last part ≡ bind (parsed prior) (λ _ q. asArray (levels L m flags s q))
   unfolding levels
   levels-end e = sym (f .done ∙ ap (λ (k : ℕ). toCome L s last k byte (drop k part)) e)
 
 -- ---- the section: the flags as an array, beside the answer for the levels
-pub sublayers-behind : (s : List ℕ) (m byte : ℕ) (prior r d : BitsRead) (present : List Bool) (idcs : List ℕ) → byte ≡ numberIn r → parsed r ≡ bind (parsed prior) (λ _ q. byteIf (ltb 0 m) s q)
-    → present ≡ padded 7 false (presentFlags m byte) → partBehind d idcs ≡ bind (parsed r) (λ _ q. asArray (levels (u 8) m byte s q))
-    → _≡_ {A = Parsed Sublayers} (partBehind d (record { «sublayer_level_present_flag» = present; «sublayer_level_idc» = idcs })) (bind (parsed prior) (λ _ q. sublayers m s q))
+pub sublayers-after : (s : List ℕ) (m byte : ℕ) (prior r d : BitsRead) (present : List Bool) (idcs : List ℕ) → byte ≡ numberIn r → parsed r ≡ bind (parsed prior) (λ _ q. byteIf (ltb 0 m) s q)
+    → present ≡ padded 7 false (presentFlags m byte) → partAfter d idcs ≡ bind (parsed r) (λ _ q. asArray (levels (u 8) m byte s q))
+    → _≡_ {A = Parsed Sublayers} (partAfter d (record { «sublayer_level_present_flag» = present; «sublayer_level_idc» = idcs })) (bind (parsed prior) (λ _ q. sublayers m s q))
 unfolding sublayers
-sublayers-behind s m byte prior r d present idcs n h p k =
+sublayers-after s m byte prior r d present idcs n h p k =
     part-in beside d idcs
     ∙ ap (λ x. bind x (λ l t. value (beside l) t)) k
     ∙ bind-bind (parsed r) _ _
-    ∙ same (parsed r) _ _ (λ _ q. bind-bind (levels (u 8) m byte s q) _ _)
-    ∙ rw (p, n) (sym (onward prior r _ _ h))
+    ∙ same-first (parsed r) _ _ (λ _ q. bind-bind (levels (u 8) m byte s q) _ _)
+    ∙ rw (p, n) (sym (bind-next prior r _ _ h))
   where
     beside : List ℕ → Sublayers
     beside l = record { «sublayer_level_present_flag» = present; «sublayer_level_idc» = l }

@@ -1,3 +1,3 @@
 pub mod Ptl
 pub mod Answers
-pub mod Sections
+pub mod inner

@@ -4,8 +4,8 @@ use mathlib.Core.List.{List, [], _∷_, _++_}
 use Prim.Native.Nat.{ℕ, zero, suc, _-_, _*_, _/_, _%_}
 use lib.Dec.{ltb}
 use lib.ListN.{length, take, drop, replicate}
-use Rattle.error.specs.Logic.{if_then_else_}
-use Rattle.error.specs.Parse.{value, Parser, _>>=_, _>>_, give, here, times}
+use Rattle.parse.specs.Logic.{if_then_else_}
+use Rattle.parse.specs.Parse.{value, Parser, _>>=_, _>>_, give, here, times}
 use Rattle.bit_reader.specs.Bits.{u, isSet, skip, align}
 use Rattle.ptl.specs.declared.VvcPtlRecord.{VvcPtlRecord}
 

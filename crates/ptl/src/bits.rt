@@ -1,4 +1,4 @@
-// For the crates further down: profile_tier_level( 1, s ) from the bits of a parameter set.
+// Internal: profile_tier_level( 1, s ) from the bits of a parameter set.
 use super::PtlBits;
 use super::VvcPtlRecord;
 use super::constraints;
@@ -8,15 +8,15 @@ use super::sub_profiles::SubProfiles;
 use super::sublayers;
 use super::sublayers::Sublayers;
 use bit_reader::BitsRead;
-use bit_reader::behind;
+use bit_reader::then;
 ghost use mathlib.Core.Path.{_≡_};
 ghost use Prim.Native.Nat.{_%_, _≤_, _^_};
 ghost use lib.ListN.{length};
-ghost use Rattle.error.specs.Parse.{bind};
-ghost use Rattle.bit_reader.specs.Answers.{parsed, placeIn, partBehind};
+ghost use Rattle.parse.specs.Parse.{bind};
+ghost use Rattle.bit_reader.specs.inner.Answers.{parsed, placeIn, partAfter};
 ghost use Rattle.ptl.specs.Ptl.{profileTierLevel, zeroPtl};
-ghost use Rattle.ptl.specs.Answers.{ptlOf, orZeroPtl};
-ghost use Rattle.ptl.specs.Sections.{general, joined};
+ghost use Rattle.ptl.specs.inner.Sections.{general, ptlOfSections};
+ghost use Rattle.ptl.specs.inner.Answers.{ptlBitsOf, orZeroPtl};
 
 // Profile, tier and level of the whole stream.
 pub struct General {
@@ -33,15 +33,15 @@ pub struct GeneralRead {
 // Profile 7 bits, tier 1, level 8. Refusals: the read's before, then 11.
 fn read_general(rbsp: &[u8], prior: BitsRead) -> GeneralRead
     requires { ⌜ length (now rbsp) ≤ 2 ^ 20 ⌝ }
-    ensures { λ r. ⌜ partBehind (r .answer) (r .part) ≡ bind (parsed prior) (λ _ q. general (now (rbsp .entry)) q) ⌝ }
+    ensures { λ r. ⌜ partAfter (r .answer) (r .part) ≡ bind (parsed prior) (λ _ q. general (now (rbsp .entry)) q) ⌝ }
 {
-    let profile = behind::read_bits(rbsp, prior, 7);
-    let tier = behind::read_bits(rbsp, profile, 1);
-    let level = behind::read_bits(rbsp, tier, 8);
+    let profile = then::read_bits(rbsp, prior, 7);
+    let tier = then::read_bits(rbsp, profile, 1);
+    let level = then::read_bits(rbsp, tier, 8);
     let part = General {
-        general_profile_idc: behind::number(profile) as u8,
-        general_tier_flag: behind::number(tier) == 1,
-        general_level_idc: behind::number(level) as u8,
+        general_profile_idc: then::number(profile) as u8,
+        general_tier_flag: then::number(tier) == 1,
+        general_level_idc: then::number(level) as u8,
     };
     GeneralRead {
         answer: level,
@@ -51,7 +51,7 @@ fn read_general(rbsp: &[u8], prior: BitsRead) -> GeneralRead
 
 // The record of the four sections.
 fn joined(m: usize, g: General, c: Constraints, l: Sublayers, s: SubProfiles) -> VvcPtlRecord
-    ensures { λ r. ⌜ r ≡ joined m g c l s ⌝ }
+    ensures { λ r. ⌜ r ≡ ptlOfSections m g c l s ⌝ }
 {
     let info = c.general_constraint_info;
     let present = l.sublayer_level_present_flag;
@@ -101,19 +101,19 @@ fn no_ptl(answer: BitsRead) -> PtlBits
     PtlBits { answer, ptl }
 }
 
-// profile_tier_level( 1, max_sublayers_minus1 ) behind a read that ends at a whole byte. Refusals: that read's, then 11.
+// profile_tier_level( 1, max_sublayers_minus1 ) after a read that ends at a whole byte. Refusals: that read's, then 11.
 pub fn parse_ptl(rbsp: &[u8], prior: BitsRead, max_sublayers_minus1: u8) -> PtlBits
     requires { ⌜ (length (now rbsp) ≤ 2 ^ 20) × (placeIn prior % 8 ≡ 0) × («max_sublayers_minus1» ≤ 7) ⌝ }
-    ensures { λ r. ⌜ ptlOf r ≡ orZeroPtl (bind (parsed prior) (λ _ q. profileTierLevel «max_sublayers_minus1» (now (rbsp .entry)) q)) ⌝ }
+    ensures { λ r. ⌜ ptlBitsOf r ≡ orZeroPtl (bind (parsed prior) (λ _ q. profileTierLevel «max_sublayers_minus1» (now (rbsp .entry)) q)) ⌝ }
 {
     let m = max_sublayers_minus1 as usize;
     let g = read_general(rbsp, prior);
-    let behind_general = g.answer;
-    let c = constraints::read_constraints(rbsp, behind_general);
-    let behind_constraints = c.answer;
-    let l = sublayers::read_sublayers(rbsp, behind_constraints, m);
-    let behind_sublayers = l.answer;
-    let s = sub_profiles::read_sub_profiles(rbsp, behind_sublayers);
+    let after_general = g.answer;
+    let c = constraints::read_constraints(rbsp, after_general);
+    let after_constraints = c.answer;
+    let l = sublayers::read_sublayers(rbsp, after_constraints, m);
+    let after_sublayers = l.answer;
+    let s = sub_profiles::read_sub_profiles(rbsp, after_sublayers);
     let answer = s.answer;
     let BitsRead::Value(_, _) = answer else {
         return no_ptl(answer);

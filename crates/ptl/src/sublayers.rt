@@ -1,15 +1,15 @@
-// For the crates further down: the sublayers' present flags and levels.
+// Internal: the sublayers' present flags and levels.
 use bit_reader::BitsRead;
-use bit_reader::behind;
+use bit_reader::then;
 ghost use mathlib.Core.Path.{_≡_};
 ghost use mathlib.Core.Bool.{false};
 ghost use Prim.Native.Nat.{_≤_, _<_, _^_};
 ghost use lib.ListN.{length};
-ghost use Rattle.error.specs.Parse.{value, bind};
+ghost use Rattle.parse.specs.Parse.{value, bind};
 ghost use Rattle.bit_reader.specs.Bits.{u};
-ghost use Rattle.bit_reader.specs.Answers.{parsed, partBehind};
+ghost use Rattle.bit_reader.specs.inner.Answers.{parsed, partAfter};
 ghost use Rattle.ptl.specs.Ptl.{padded, presentFlags, levels};
-ghost use Rattle.ptl.specs.Sections.{sublayers};
+ghost use Rattle.ptl.specs.inner.Sections.{sublayers};
 
 // The present flags and the levels of the sublayers.
 pub struct Sublayers {
@@ -48,7 +48,7 @@ pub fn present_flags(flags: u32, m: usize) -> [bool; 7]
 // The levels whose flag is set, from the highest of m sublayers down; 0 where not. Refusals: the read's before, then 11.
 fn read_levels(rbsp: &[u8], prior: BitsRead, flags: u32, m: usize) -> LevelsRead
     requires { ⌜ (length (now rbsp) ≤ 2 ^ 20) × (m ≤ 7) × (flags < 256) ⌝ }
-    ensures { λ r. ⌜ partBehind (r .answer) (r .part) ≡ bind (parsed prior) (λ _ q. bind (levels (u 8) m flags (now (rbsp .entry)) q) (λ ls t. value (padded 7 0 ls) t)) ⌝ }
+    ensures { λ r. ⌜ partAfter (r .answer) (r .part) ≡ bind (parsed prior) (λ _ q. bind (levels (u 8) m flags (now (rbsp .entry)) q) (λ ls t. value (padded 7 0 ls) t)) ⌝ }
 {
     let mut part = [0u8; 7];
     let mut last = prior;
@@ -56,8 +56,8 @@ fn read_levels(rbsp: &[u8], prior: BitsRead, flags: u32, m: usize) -> LevelsRead
     let mut done: usize = 0;
     while done < m {
         let i = m - 1 - done;
-        last = behind::read_bits_if(rbsp, last, 8, byte / 128 == 1);
-        part[i] = behind::number(last) as u8;
+        last = then::read_bits_if(rbsp, last, 8, byte / 128 == 1);
+        part[i] = then::number(last) as u8;
         byte = byte % 128 * 2;
         done += 1;
     }
@@ -67,10 +67,10 @@ fn read_levels(rbsp: &[u8], prior: BitsRead, flags: u32, m: usize) -> LevelsRead
 // The present flags, no bits without sublayers, and the levels of m sublayers. Refusals: the read's before, then 11.
 pub fn read_sublayers(rbsp: &[u8], prior: BitsRead, m: usize) -> SublayersRead
     requires { ⌜ (length (now rbsp) ≤ 2 ^ 20) × (m ≤ 7) ⌝ }
-    ensures { λ r. ⌜ partBehind (r .answer) (r .part) ≡ bind (parsed prior) (λ _ q. sublayers m (now (rbsp .entry)) q) ⌝ }
+    ensures { λ r. ⌜ partAfter (r .answer) (r .part) ≡ bind (parsed prior) (λ _ q. sublayers m (now (rbsp .entry)) q) ⌝ }
 {
-    let flags = behind::read_bits_if(rbsp, prior, 8, 0 < m);
-    let byte = behind::number(flags);
+    let flags = then::read_bits_if(rbsp, prior, 8, 0 < m);
+    let byte = then::number(flags);
     let levels = read_levels(rbsp, flags, byte, m);
     let idcs = levels.part;
     let part = Sublayers {

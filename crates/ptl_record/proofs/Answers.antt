@@ -7,20 +7,20 @@ use native.Mathlib.Omega.{arith}
 use native.Mathlib.Decide.{decLe}
 use lib.Dec.{ltb, eqb}
 use lib.ListN.{length}
-use Rattle.error.specs.Logic.{if_then_else_}
-use Rattle.error.specs.Parse.{Parsed, value, refused, bind, give, times, refuseIf}
+use Rattle.parse.specs.Logic.{if_then_else_}
+use Rattle.parse.specs.Parse.{Parsed, value, refused, bind, give, times, refuseIf}
 use Rattle.error.specs.Refusals.{numberOf}
 use Rattle.error.specs.declared.Refusal.{Refusal}
-use Rattle.boxes.specs.Bytes.{uint, bytes}
+use Rattle.boxes.specs.Bytes.{uint}
 use Rattle.boxes.proofs.Fields.{uint-there, uint-short, bytes-there, bytes-short}
 use Rattle.bit_reader.specs.Bits.{isSet}
 use Rattle.ptl.specs.Ptl.{levels, zeroPtl}
-use Rattle.ptl.specs.Answers.{orZeroPtl}
 use Rattle.ptl.specs.declared.VvcPtlRecord.{VvcPtlRecord}
-use Rattle.ptl_record.specs.Answers.{readOf, ptlOf}
+use Rattle.ptl_record.specs.inner.Answers.{ptlRecordRead, ptlRecordOf}
 use Rattle.ptl_record.specs.Read.{octets, vvcPtlRecord}
 use Rattle.ptl_record.specs.declared.PtlRecordRead.{PtlRecordRead}
 use Rattle.ptl_record.specs.declared.PtlRecordAnswer.the-variants as A
+use Rattle.ptl.specs.inner.Answers.{orZeroPtl}
 
 first-of : (x : Parsed VvcPtlRecord) → orZeroPtl x .0 ≡ x
 first-of (value p q) = refl
@@ -30,24 +30,24 @@ zeros-of : (x : Parsed VvcPtlRecord) (e : ℕ) → x ≡ refused e → orZeroPtl
 zeros-of (value p q) e h = let z : _≡_ {A = ℕ} 0 1 = cc in absurd (omega arith)
 zeros-of (refused n) e h = refl
 
-module _ (x : Parsed VvcPtlRecord) (r : PtlRecordRead) (says : ptlOf r ≡ orZeroPtl x) where
-  told : readOf (r .answer) (r .ptl) ≡ x
+module _ (x : Parsed VvcPtlRecord) (r : PtlRecordRead) (says : ptlRecordOf r ≡ orZeroPtl x) where
+  told : ptlRecordRead (r .answer) (r .ptl) ≡ x
   told = ap (λ y. y .0) says ∙ first-of x
 
   -- a PTL was read
   pub told-read : (q : ℕ) → r .answer ≡ A.Read q → x ≡ value (r .ptl) q
-  told-read q e = sym told ∙ ap (λ a. readOf a (r .ptl)) e
+  told-read q e = sym told ∙ ap (λ a. ptlRecordRead a (r .ptl)) e
 
   -- it was refused, and zeros stand beside that
   pub told-refused : (e : Refusal) → r .answer ≡ A.Refused e → x ≡ refused (numberOf e)
-  told-refused e h = sym told ∙ ap (λ a. readOf a (r .ptl)) h
+  told-refused e h = sym told ∙ ap (λ a. ptlRecordRead a (r .ptl)) h
 
   pub told-zeros : (e : Refusal) → r .answer ≡ A.Refused e → r .ptl ≡ zeroPtl
   told-zeros e h = ap (λ y. y .1) says ∙ zeros-of x (numberOf e) (told-refused e h)
 
 -- ---- where reading ends
 
--- what is read from p on ends behind p and within the bytes
+-- what is read from p on ends after p and within the bytes
 abbrev Within : {A : Type 0} → ℕ → ℕ → Parsed A → Type 0
 Within {A} end p x = (a : A) (q : ℕ) → x ≡ value a q → (p ≤ q) × (q ≤ end)
 
@@ -98,7 +98,7 @@ module _ (s : List ℕ) where
   within-words (suc n) p h =
       within-bind (length s) p _ _ (within-uint 4 p) (λ a q k. within-bind (length s) q _ _ (within-words n q k) (λ b r l. within-value (length s) r _ l))
 
-  -- a PTL that is read ends behind its place and within the bytes
+  -- a PTL that is read ends after its place and within the bytes
   pub ptl-within : (sublayers at : ℕ) (p : VvcPtlRecord) (q : ℕ) → vvcPtlRecord sublayers s at ≡ value p q → (at ≤ q) × (q ≤ length s)
   unfolding vvcPtlRecord
   ptl-within sublayers at =

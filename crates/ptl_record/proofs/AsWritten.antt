@@ -10,12 +10,12 @@ use native.Mathlib.Decide.{decLe}
 use lib.ListN.{length, getD, take, replicate, length-append, getD-replicate, List·getD-append}
 use lib.Seq.{length-take-le, getD-take, getD-at, getD-append-add, ext-getD, take-suc, take-at}
 use borrow.Author.Tests.{ne-eqb, lt-ltb}
-use Rattle.error.specs.Logic.{if_then_else_}
+use Rattle.parse.specs.Logic.{if_then_else_, bit}
 use Rattle.ptl.specs.Ptl.{padded, withoutFlags}
 use Rattle.ptl.specs.declared.VvcPtlRecord.{VvcPtlRecord}
 use Rattle.ptl.proofs.Arrays.{length-padded}
-use Rattle.ptl_record.specs.Write.{bit, constraintInfo, withFlags, hasLevel, flagByte, levelBytes, levelPart, subProfiles, ptlBytes, ptlFits}
-use Rattle.ptl_record.specs.Places.{oneLevel}
+use Rattle.ptl_record.specs.Write.{constraintInfo, withFlags, hasLevel, flagByte, levelBytes, levelPart, subProfileBytes, ptlBytes, ptlFits}
+use Rattle.ptl_record.specs.inner.Places.{oneLevel}
 use Rattle.ptl_record.specs.AsWritten.{upTo, levelOf, asWritten}
 use Rattle.ptl_record.proofs.Writing.{info-long, levels-split, fitting}
 
@@ -144,7 +144,7 @@ module _ (p : VvcPtlRecord) (fits : ptlFits p ≡ true) (info-is : length (p .«
       ++ w i
       ++ part-again i
       ++ (p .«num_sub_profiles» ∷ [])
-      ++ subProfiles (subs-again i)
+      ++ subProfileBytes (subs-again i)
 
 -- ---- kept whole
 

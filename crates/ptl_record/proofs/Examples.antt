@@ -6,7 +6,7 @@ use mathlib.Core.List.{[], _∷_}
 use native.Mathlib.Omega.{arith}
 use lib.ListN.{getD, replicate}
 use Rattle.ptl.proofs.Examples.{ptlOfP}
-use Rattle.ptl_record.specs.Write.{withFlags, subProfiles, ptlBytes, ptlFits}
+use Rattle.ptl_record.specs.Write.{withFlags, subProfileBytes, ptlBytes, ptlFits}
 use Rattle.ptl_record.proofs.AsWritten.{Canonical}
 use Rattle.ptl_record.proofs.RoundTrip.{Writable}
 
@@ -42,5 +42,5 @@ worked-canonical = record {
 
 -- 01 02 33 80 00
 pub worked-bytes : ptlBytes ptlOfP 1 ≡ 1 ∷ 2 ∷ 51 ∷ 128 ∷ 0 ∷ []
-unfolding ptlBytes withFlags subProfiles
+unfolding ptlBytes withFlags subProfileBytes
 worked-bytes = refl

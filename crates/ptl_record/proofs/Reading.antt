@@ -1,4 +1,4 @@
--- What the definition of a PTL record gives: where the place behind it is within the bytes its fields, else refusal 1, but for refusal 2.
+-- What the definition of a PTL record gives: where the place after it is within the bytes its fields, else refusal 1, but for refusal 2.
 use Prim.Native.Nat.{ℕ, zero, suc, _+_, _-_, _*_, _/_, _%_, _≤_, _<_}
 use mathlib.Core.Path.{_≡_, refl, ap, _∙_}
 use mathlib.Core.Bool.{Bool, true, false}
@@ -9,14 +9,14 @@ use lib.Dec.{ltb}
 use lib.ListN.{length, getD, take, drop}
 use lib.Seq.{getD-take, getD-drop}
 use borrow.Author.Tests.{eq-eqb, ne-eqb, eqb-true, eqb-false}
-use Rattle.error.specs.Logic.{if_then_else_}
-use Rattle.error.specs.Parse.{Parsed, value, refused, bind, give, times}
-use Rattle.boxes.specs.Bytes.{be, uint, bytes}
+use Rattle.parse.specs.Logic.{if_then_else_}
+use Rattle.parse.specs.Parse.{Parsed, value, refused, bind, give, times}
+use Rattle.boxes.specs.Bytes.{be, uint}
 use Rattle.boxes.proofs.Fields.{uint-there, uint-short, bytes-there, bytes-short}
 use Rattle.bit_reader.specs.Bits.{isSet}
 use Rattle.ptl.specs.Ptl.{padded, presentFlags, levels}
 use Rattle.ptl_record.specs.Read.{octets, vvcPtlRecord}
-use Rattle.ptl_record.specs.Places.{words, levelsLen, levelIf, levelsAt, flagsAt, levelsStart, countPlace, ptlEnd, ptlFields}
+use Rattle.ptl_record.specs.inner.Places.{words, levelsLen, levelIf, levelsAt, flagsAt, levelsStart, countPlace, ptlEnd, ptlFields}
 
 -- x is a value that ends at q where q is within the bytes, and refusal 1 where it is not
 pub record Reach {A : Type 0} (end : ℕ) (x : Parsed A) (a : A) (q : ℕ) : Type 0 where
@@ -24,7 +24,7 @@ pub record Reach {A : Type 0} (end : ℕ) (x : Parsed A) (a : A) (q : ℕ) : Typ
   pub short : end < q → x ≡ refused 1
 
 module _ {A B : Type 0} {end : ℕ} {x : Parsed A} {a : A} {q : ℕ} (f : A → ℕ → Parsed B) {b : B} {r : ℕ} where
-  -- one read behind another
+  -- one read after another
   pub reach-bind : Reach end x a q → q ≤ r → (q ≤ end → Reach end (f a q) b r) → Reach end (bind x f) b r
   reach-bind m h n = record {
     there = λ l. let k : q ≤ end = omega arith in ap (λ (y : Parsed A). bind y f) (m .there k) ∙ n k .there l;
@@ -78,7 +78,7 @@ module _ (s : List ℕ) where
       go true = reach-byte p
       go false = reach-value 0 p h
 
-  -- the level behind a flag
+  -- the level after a flag
   reach-level : (f p : ℕ) → f < 256 → p ≤ length s → Reach (length s) ((if isSet (f / 128) then uint 1 else give 0) s p) (levelIf (f / 128) s p) (p + f / 128)
   reach-level f p h k = go (isSet (f / 128)) refl
     where
@@ -116,17 +116,17 @@ module _ (sublayers : ℕ) (s : List ℕ) (at : ℕ) where
     reads-zero e = rw (first, eq-eqb (getD s at 0 % 64) 0 e)
 
     module _ (n : ℕ) (is : n ≡ getD s at 0 % 64) (some : 0 < n) (byte : flagsAt sublayers s (at + 3 + n) < 256) where
-      abbrev behind : ℕ
-      behind = at + 3 + n
+      abbrev after : ℕ
+      after = at + 3 + n
 
       abbrev m : ℕ
       m = sublayers - 1
 
       abbrev flags : ℕ
-      flags = flagsAt sublayers s behind
+      flags = flagsAt sublayers s after
 
       abbrev from : ℕ
-      from = levelsStart sublayers behind
+      from = levelsStart sublayers after
 
       abbrev count : ℕ
       count = countPlace s at n sublayers
@@ -135,16 +135,16 @@ module _ (sublayers : ℕ) (s : List ℕ) (at : ℕ) where
       start-near true p = omega arith
       start-near false p = omega arith
 
-      pub reads-behind : Reach (length s) (vvcPtlRecord sublayers s at)
+      pub reads-after : Reach (length s) (vvcPtlRecord sublayers s at)
           (ptlFields s at n m (padded 7 false (presentFlags m flags)) (padded 7 0 (levelsAt m flags s from)) count) (ptlEnd s count)
       unfolding vvcPtlRecord
-      reads-behind =
-          let l = start-near (ltb 1 sublayers) behind in
+      reads-after =
+          let l = start-near (ltb 1 sublayers) after in
           rw (first, ← is, ne-eqb n 0 (λ e. omega arith), ← first-is s (at + 3) n some)
           (reach-bind _ (reach-byte-to s (at + 1) (at + 2) (omega arith)) (omega arith)
           (λ _. reach-bind _ (reach-byte-to s (at + 2) (at + 3) (omega arith)) (omega arith)
           (λ _. reach-bind _ (reach-octets s n (at + 3)) (omega arith)
-          (λ k. reach-bind _ (reach-flags s sublayers behind k) (omega arith)
+          (λ k. reach-bind _ (reach-flags s sublayers after k) (omega arith)
           (λ k. reach-bind _ (reach-levels s m flags from byte k) (omega arith)
           (λ _. reach-bind _ (reach-byte s count) (omega arith)
           (λ k. reach-bind _ (reach-words s (getD s count 0) (count + 1) k) (omega arith)

@@ -1,4 +1,4 @@
--- A PTL record read after writing, behind and in front of other bytes.
+-- A PTL record read after writing, after and in front of other bytes.
 use Prim.Native.Nat.{ℕ, _+_, _-_, _*_, _/_, _%_, _^_, _≤_, _<_}
 use mathlib.Core.Path.{_≡_, refl, sym, ap, _∙_}
 use mathlib.Core.Bool.{Bool, true, false}
@@ -8,18 +8,19 @@ use lib.Dec.{ltb}
 use lib.ListN.{length, getD, take, drop, length-append}
 use lib.Seq.{length-take-le, getD-take, getD-set-same}
 use borrow.Author.Tests.{eq-eqb, ne-eqb, ltb-false}
-use Rattle.error.specs.Parse.{value}
+use Rattle.parse.specs.Parse.{value}
 use Rattle.bit_reader.specs.Bits.{isSet}
 use Rattle.ptl.specs.Ptl.{padded, presentFlags, withoutFlags}
 use Rattle.ptl.specs.declared.VvcPtlRecord.{VvcPtlRecord}
 use Rattle.ptl_record.specs.Read.{vvcPtlRecord}
-use Rattle.ptl_record.specs.Write.{bit, constraintInfo, withFlags, hasLevel, flagByte, levelBytes, levelPart, subProfiles, ptlBytes, ptlFits}
-use Rattle.ptl_record.specs.Places.{words, levelsLen, levelsAt, flagsAt, levelsStart, countPlace, ptlEnd, ptlFields, frontBytes}
+use Rattle.ptl_record.specs.Write.{constraintInfo, withFlags, hasLevel, flagByte, levelBytes, levelPart, subProfileBytes, ptlBytes, ptlFits}
+use Rattle.ptl_record.specs.inner.Places.{words, levelsLen, levelsAt, flagsAt, levelsStart, countPlace, ptlEnd, ptlFields, frontBytes}
 use Rattle.ptl_record.specs.AsWritten.{upTo, levelOf, asWritten}
-use Rattle.ptl_record.proofs.Reading.{reads-behind}
+use Rattle.ptl_record.proofs.Reading.{reads-after}
 use Rattle.ptl_record.proofs.Writing.{Fitting, fitting, flagged, with-first, info-long, length-withFlags, length-front, length-ptl}
 use Rattle.ptl_record.proofs.AsWritten.{Canonical, kept, bytes-again}
 use Rattle.ptl_record.proofs.Standing.{Stands, stands-left, stands-right, stands-between, stands-head, stands-take, bit-le, isSet-bit, flags-cleared, flag-small, len-back, flags-back, levels-back, words-back}
+use Rattle.parse.specs.Logic.{bit}
 
 -- a PTL whose fields fit their places and whose arrays are as the struct has them
 pub record Writable (p : VvcPtlRecord) : Type 0 where
@@ -52,7 +53,7 @@ module _ (p : VvcPtlRecord) (ok : Writable p) (sublayers : ℕ) (few : sublayers
   vs = take (p .«num_sub_profiles») (p .«general_sub_profile_idc»)
 
   abbrev S : List ℕ
-  S = subProfiles vs
+  S = subProfileBytes vs
 
   plain : Fitting p
   plain = fitting p (ok .fits)
@@ -74,14 +75,14 @@ module _ (p : VvcPtlRecord) (ok : Writable p) (sublayers : ℕ) (few : sublayers
   stW : Stands s (at + 3) W
   stW = stands-right s at (length ci ∷ (p .«general_profile_idc» * 2 + bit (p .«general_tier_flag»)) ∷ p .«general_level_idc» ∷ []) W stF
 
-  abbrev behind : ℕ
-  behind = at + 3 + length ci
+  abbrev after : ℕ
+  after = at + 3 + length ci
 
   abbrev count : ℕ
-  count = behind + length L
+  count = after + length L
 
-  stL : Stands s behind L
-  stL = let e : at + length F ≡ behind = omega (arith, length-front p) in rw e at (stands-right s at F L stFL)
+  stL : Stands s after L
+  stL = let e : at + length F ≡ after = omega (arith, length-front p) in rw e at (stands-right s at F L stFL)
 
   stN : Stands s count N
   stN =
@@ -142,26 +143,26 @@ module _ (p : VvcPtlRecord) (ok : Writable p) (sublayers : ℕ) (few : sublayers
   m = sublayers - 1
 
   abbrev flags : ℕ
-  flags = flagsAt sublayers s behind
+  flags = flagsAt sublayers s after
 
   record Levelled : Type 0 where
     pub byte : flags < 256
-    pub end-is : levelsStart sublayers behind + levelsLen m flags ≡ count
+    pub end-is : levelsStart sublayers after + levelsLen m flags ≡ count
     pub flags-are : presentFlags m flags ≡ upTo m (hasLevel p)
-    pub levels-are : levelsAt m flags s (levelsStart sublayers behind) ≡ upTo m (levelOf p)
+    pub levels-are : levelsAt m flags s (levelsStart sublayers after) ≡ upTo m (levelOf p)
 
   levelled : (b : Bool) → ltb 1 sublayers ≡ b → Levelled
   unfolding levelsLen presentFlags levelsAt upTo
   levelled true e =
-      let x : Stands s behind (flagByte p m ∷ levelBytes p m) = rw e at stL in
-      let f = stands-head s behind (flagByte p m) (levelBytes p m) x in
-      let y = stands-right s behind (flagByte p m ∷ []) (levelBytes p m) x in
+      let x : Stands s after (flagByte p m ∷ levelBytes p m) = rw e at stL in
+      let f = stands-head s after (flagByte p m) (levelBytes p m) x in
+      let y = stands-right s after (flagByte p m ∷ []) (levelBytes p m) x in
       let small : m < 7 = omega arith in
       record {
         byte = rw (e, f) (flag-small p m);
         end-is = rw (e, f, len-back p m small) (omega arith);
         flags-are = rw (e, f, flags-back p m small);
-        levels-are = rw (e, f, levels-back p m small s (behind + 1) y);
+        levels-are = rw (e, f, levels-back p m small s (after + 1) y);
       }
   levelled false e =
       let z : m ≡ 0 = omega (arith, ltb-false 1 sublayers e) in
@@ -190,7 +191,7 @@ module _ (p : VvcPtlRecord) (ok : Writable p) (sublayers : ℕ) (few : sublayers
   end-is = omega (arith, count-is, length-ptl p sublayers subs-fit, length-front p)
 
   abbrev read : VvcPtlRecord
-  read = ptlFields s at (length ci) m (padded 7 false (presentFlags m flags)) (padded 7 0 (levelsAt m flags s (levelsStart sublayers behind))) count
+  read = ptlFields s at (length ci) m (padded 7 false (presentFlags m flags)) (padded 7 0 (levelsAt m flags s (levelsStart sublayers after))) count
 
   fields : read ≡ asWritten p sublayers
   fields = λ i. record {
@@ -214,13 +215,13 @@ module _ (p : VvcPtlRecord) (ok : Writable p) (sublayers : ℕ) (few : sublayers
       let l = length-ptl p sublayers subs-fit in
       let h : at < length s = omega (arith, st .room) in
       let n : length ci ≡ getD s at 0 % 64 = omega (arith, b0, long) in
-      let r = reads-behind sublayers s at h (length ci) n (long .0) (facts .byte) in
+      let r = reads-after sublayers s at h (length ci) n (long .0) (facts .byte) in
       let c : countPlace s at (length ci) sublayers ≡ count = facts .end-is in
       let q = rw c at r in
       let k : ptlEnd s count ≤ length s = omega (arith, end-is, st .room) in
       q .there k ∙ rw (fields, end-is)
 
--- a PTL that was written is read again, whatever stands in front and behind
+-- a PTL that was written is read again, whatever stands in front and after
 pub round-trip : (p : VvcPtlRecord) → Writable p → (sublayers : ℕ) → sublayers ≤ 7 → (xs ys : List ℕ)
     → vvcPtlRecord sublayers (xs ++ (ptlBytes p sublayers ++ ys)) (length xs) ≡ value (asWritten p sublayers) (length xs + length (ptlBytes p sublayers))
 round-trip p ok sublayers few xs ys =

@@ -1,4 +1,4 @@
--- Where the bytes of a PTL record stand in a list, its parts stand there one behind the other, and their values are those that were written.
+-- Where the bytes of a PTL record stand in a list, its parts stand there one after the other, and their values are those that were written.
 use Prim.Native.Nat.{ℕ, zero, suc, _+_, _*_, _/_, _%_, _^_, _≤_, _<_}
 use mathlib.Core.Path.{_≡_, refl, sym, ap, _∙_}
 use mathlib.Core.Bool.{Bool, true, false}
@@ -7,14 +7,14 @@ use native.Mathlib.Nat.{add-zero, add-assoc}
 use native.Mathlib.Omega.{arith}
 use lib.ListN.{length, getD, take, drop, length-append, length-take, length-drop, List·getD-append}
 use lib.Seq.{getD-append-add, getD-take, getD-drop, ext-getD}
-use Rattle.error.specs.Logic.{if_then_else_}
+use Rattle.parse.specs.Logic.{if_then_else_, bit}
 use Rattle.boxes.specs.Bytes.{be, toBe}
 use Rattle.boxes.proofs.Numbers.{be-same, be-toBe, length-toBe}
 use Rattle.bit_reader.specs.Bits.{isSet}
 use Rattle.ptl.specs.Ptl.{presentFlags, withoutFlags}
 use Rattle.ptl.specs.declared.VvcPtlRecord.{VvcPtlRecord}
-use Rattle.ptl_record.specs.Write.{bit, withFlags, hasLevel, flagByte, levelBytes, subProfiles}
-use Rattle.ptl_record.specs.Places.{words, levelsLen, levelIf, levelsAt, oneLevel}
+use Rattle.ptl_record.specs.Write.{withFlags, hasLevel, flagByte, levelBytes, subProfileBytes}
+use Rattle.ptl_record.specs.inner.Places.{words, levelsLen, levelIf, levelsAt, oneLevel}
 use Rattle.ptl_record.specs.AsWritten.{upTo, levelOf}
 use Rattle.ptl_record.proofs.Writing.{levels-split}
 
@@ -141,13 +141,13 @@ module _ (p : VvcPtlRecord) where
 
 -- ---- the sub-profiles
 
-pub words-back : (s : List ℕ) (i : ℕ) (vs : List ℕ) → ((k : ℕ) → k < length vs → getD vs k 0 < 256 ^ 4) → Stands s i (subProfiles vs) → words (length vs) s i ≡ vs
-unfolding words subProfiles
+pub words-back : (s : List ℕ) (i : ℕ) (vs : List ℕ) → ((k : ℕ) → k < length vs → getD vs k 0 < 256 ^ 4) → Stands s i (subProfileBytes vs) → words (length vs) s i ≡ vs
+unfolding words subProfileBytes
 words-back s i [] small st = refl
 words-back s i (v ∷ vs) small st =
-    let l = stands-left s i (toBe 4 v) (subProfiles vs) st in
+    let l = stands-left s i (toBe 4 v) (subProfileBytes vs) st in
     let n = length-toBe 4 v in
-    let r = rw n at (stands-right s i (toBe 4 v) (subProfiles vs) st) in
+    let r = rw n at (stands-right s i (toBe 4 v) (subProfileBytes vs) st) in
     let a : be s i 4 ≡ be (toBe 4 v) 0 4 = be-same s (toBe 4 v) i 0 4 (λ k h. l .same k (omega arith) ∙ ap (λ (j : ℕ). getD (toBe 4 v) j 0) (omega arith)) in
     let b : be (toBe 4 v) 0 4 ≡ v = rw (append-nil (toBe 4 v)) at (be-toBe 4 v [] (small 0 (omega arith))) in
     rw (a, b, words-back s (i + 4) vs (λ k h. small (suc k) (omega arith)) r)

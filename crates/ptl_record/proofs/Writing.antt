@@ -9,14 +9,14 @@ use lib.Dec.{leb, ltb}
 use lib.ListN.{length, getD, set, take, length-append}
 use lib.Seq.{sets, length-take-le}
 use borrow.Author.Tests.{leb-true, eq-eqb, ne-eqb}
-use Rattle.error.specs.Logic.{if_then_else_}
+use Rattle.parse.specs.Logic.{if_then_else_, bit}
 use Rattle.boxes.proofs.Numbers.{length-toBe}
 use Rattle.boxes.proofs.Sets.{sets-append}
 use Rattle.ptl.specs.declared.VvcPtlRecord.{VvcPtlRecord}
-use Rattle.ptl_record.specs.Write.{bit, constraintInfo, withFlags, hasLevel, flagByte, levelBytes, levelPart, subProfiles, ptlBytes, ptlFits}
-use Rattle.ptl_record.specs.Places.{oneLevel, frontBytes}
+use Rattle.ptl_record.specs.Write.{constraintInfo, withFlags, hasLevel, flagByte, levelBytes, levelPart, subProfileBytes, ptlBytes, ptlFits}
+use Rattle.ptl_record.specs.inner.Places.{oneLevel, frontBytes}
 
--- one run behind another, its place given
+-- one run after another, its place given
 pub sets-then : (d : List ℕ) (i k : ℕ) (xs ys : List ℕ) → k ≡ i + length xs → sets (sets d i xs) k ys ≡ sets d i (xs ++ ys)
 sets-then d i k xs ys e = rw e (sets-append d i xs ys)
 
@@ -48,8 +48,8 @@ module _ (p : VvcPtlRecord) where
 
 -- ---- the sub-profiles
 
-pub length-subs : (xs : List ℕ) → length (subProfiles xs) ≡ length xs * 4
-unfolding subProfiles
+pub length-subs : (xs : List ℕ) → length (subProfileBytes xs) ≡ length xs * 4
+unfolding subProfileBytes
 length-subs [] = refl
 length-subs (v ∷ vs) = rw (length-append, length-toBe 4 v, length-subs vs) (omega arith)
 
@@ -119,7 +119,7 @@ module _ (p : VvcPtlRecord) (sublayers : ℕ) where
   N = p .«num_sub_profiles» ∷ []
 
   abbrev S : List ℕ
-  S = subProfiles (take (p .«num_sub_profiles») (p .«general_sub_profile_idc»))
+  S = subProfileBytes (take (p .«num_sub_profiles») (p .«general_sub_profile_idc»))
 
   pub length-ptl : p .«num_sub_profiles» ≤ length (p .«general_sub_profile_idc»)
       → length (ptlBytes p sublayers) ≡ length F + length L + 1 + p .«num_sub_profiles» * 4

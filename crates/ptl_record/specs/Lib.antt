@@ -1,5 +1,4 @@
 pub mod Read
 pub mod Write
-pub mod Answers
-pub mod Places
 pub mod AsWritten
+pub mod inner

@@ -4,8 +4,8 @@ use mathlib.Core.Bool.{false}
 use mathlib.Core.List.{List}
 use lib.Dec.{ltb, eqb}
 use lib.ListN.{getD}
-use Rattle.error.specs.Logic.{if_then_else_}
-use Rattle.error.specs.Parse.{Parsed, value, refused, bind, Parser, _>>=_, _>>_, give, refuseIf, times}
+use Rattle.parse.specs.Logic.{if_then_else_}
+use Rattle.parse.specs.Parse.{value, bind, Parser, _>>=_, _>>_, give, refuseIf, times}
 use Rattle.boxes.specs.Bytes.{uint, bytes}
 use Rattle.boxes.specs.Parts.{held}
 use Rattle.bit_reader.specs.Bits.{isSet}

@@ -4,13 +4,9 @@ use mathlib.Core.Bool.{Bool, false, _&&_}
 use mathlib.Core.List.{List, [], _∷_, _++_}
 use lib.Dec.{leb, ltb, eqb}
 use lib.ListN.{length, getD, take}
-use Rattle.error.specs.Logic.{if_then_else_}
+use Rattle.parse.specs.Logic.{if_then_else_, bit}
 use Rattle.boxes.specs.Bytes.{toBe}
 use Rattle.ptl.specs.declared.VvcPtlRecord.{VvcPtlRecord}
-
--- 1 for a flag that is set
-abbrev pub bit : Bool → ℕ
-bit b = if b then 1 else 0
 
 -- the constraint bytes as written: "0 is written as one zero byte"
 abbrev pub constraintInfo : VvcPtlRecord → List ℕ
@@ -40,9 +36,9 @@ levelBytes p (suc m) = if hasLevel p m then getD (p .«sublayer_level_idc») m 0
 abbrev pub levelPart : VvcPtlRecord → ℕ → List ℕ
 levelPart p sublayers = if ltb 1 sublayers then flagByte p (sublayers - 1) ∷ levelBytes p (sublayers - 1) else []
 
-unfoldable pub subProfiles : List ℕ → List ℕ
-subProfiles [] = []
-subProfiles (v ∷ vs) = toBe 4 v ++ subProfiles vs
+unfoldable pub subProfileBytes : List ℕ → List ℕ
+subProfileBytes [] = []
+subProfileBytes (v ∷ vs) = toBe 4 v ++ subProfileBytes vs
 
 -- VvcPTLRecord( num_sublayers )
 unfoldable pub ptlBytes : VvcPtlRecord → ℕ → List ℕ
@@ -53,7 +49,7 @@ ptlBytes p sublayers =
     ++ withFlags p (constraintInfo p)
     ++ levelPart p sublayers
     ++ (p .«num_sub_profiles» ∷ [])
-    ++ subProfiles (take (p .«num_sub_profiles») (p .«general_sub_profile_idc»))
+    ++ subProfileBytes (take (p .«num_sub_profiles») (p .«general_sub_profile_idc»))
 
 -- every field of a PTL fits its place; "a level count above 7" is refused though it is not written
 unfoldable pub ptlFits : VvcPtlRecord → Bool

@@ -1,4 +1,4 @@
-// For the crates further down: the sublayers' levels, counted.
+// Internal: the sublayers' levels, counted.
 ghost use mathlib.Core.Path.{_≡_};
 ghost use Prim.Native.Nat.{_-_, _≤_};
 

@@ -4,7 +4,7 @@ pub mod levels;
 use error::Refusal;
 use ptl::VvcPtlRecord;
 
-// A PTL and the place behind it, or a refusal with a PTL of zeros.
+// A PTL and the place after it, or a refusal with a PTL of zeros.
 pub enum PtlRecordAnswer {
     Read(usize),
     Refused(Refusal),

@@ -10,7 +10,7 @@ use lib.ListN.{length, set, drop, replicate, length-append, length-set}
 use Rattle.boxes.specs.Bytes.{be}
 use Rattle.ptl.specs.Ptl.{padded, presentFlags}
 use Rattle.ptl.proofs.Arrays.{padded-more, snoc-store, drop-replicate}
-use Rattle.ptl_record.specs.Places.{words, levelsLen, levelIf, levelsAt}
+use Rattle.ptl_record.specs.inner.Places.{words, levelsLen, levelIf, levelsAt}
 
 pub length-flags : (m f : ℕ) → length (presentFlags m f) ≡ m
 unfolding presentFlags

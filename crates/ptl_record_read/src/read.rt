@@ -1,4 +1,4 @@
-// For the crates further down: the PTL record at a place of lent bytes.
+// Internal: the PTL record at a place of lent bytes.
 use boxes::Span;
 use boxes::place;
 use error::Refusal;
@@ -10,15 +10,15 @@ ghost use mathlib.Core.Bool.{false};
 ghost use mathlib.Core.Path.{_≡_};
 ghost use Prim.Native.Nat.{_+_, _*_, _%_, _^_, _≤_, _<_};
 ghost use lib.ListN.{length, getD, take, drop};
-ghost use Rattle.error.specs.Parse.{refused as refusedBy};
+ghost use Rattle.parse.specs.Parse.{refused as refusedBy};
 ghost use Rattle.error.specs.Refusals.{numberOf};
 ghost use Rattle.ptl.specs.Ptl.{padded, presentFlags, withoutFlags};
-ghost use Rattle.ptl.specs.Answers.{orZeroPtl};
-ghost use Rattle.ptl_record.specs.Answers.{ptlOf};
+ghost use Rattle.ptl_record.specs.inner.Answers.{ptlRecordOf};
 ghost use Rattle.ptl_record.specs.Read.{vvcPtlRecord};
-ghost use Rattle.ptl_record.specs.Places.{words, levelsLen, levelIf, levelsAt, flagsAt, levelsStart, ptlEnd, ptlFields};
+ghost use Rattle.ptl_record.specs.inner.Places.{words, levelsLen, levelIf, levelsAt, flagsAt, levelsStart, ptlEnd, ptlFields};
+ghost use Rattle.ptl.specs.inner.Answers.{orZeroPtl};
 
-// The levels of the sublayers with their flags, and the place behind them.
+// The levels of the sublayers with their flags, and the place after them.
 pub struct SublayerLevels {
     pub next: usize,
     pub present: [bool; 7],
@@ -94,7 +94,7 @@ fn flags_at(sublayers: u8, s: &[u8], at: usize) -> u8
     if 1 < sublayers { place::byte(s, at) } else { 0 }
 }
 
-// The place behind those flags.
+// The place after those flags.
 fn levels_start(sublayers: u8, at: usize) -> usize
     requires { ⌜ at ≤ 2 ^ 31 ⌝ }
     ensures { λ r. ⌜ (r ≡ levelsStart sublayers at) × (at ≤ r) × (r ≤ at + 1) ⌝ }
@@ -133,7 +133,7 @@ fn ptl_fields(s: &[u8], at: usize, n: usize, m: usize, levels: SublayerLevels) -
 
 // A refusal, with zeros.
 fn refused(e: Refusal) -> PtlRecordRead
-    ensures { λ r. ⌜ ptlOf r ≡ orZeroPtl (refusedBy (numberOf e)) ⌝ }
+    ensures { λ r. ⌜ ptlRecordOf r ≡ orZeroPtl (refusedBy (numberOf e)) ⌝ }
 {
     let ptl = bits::zero_ptl();
     let answer = PtlRecordAnswer::Refused(e);
@@ -144,13 +144,13 @@ fn refused(e: Refusal) -> PtlRecordRead
 }
 
 // What follows the first byte of the record at a place, which told of n constraint bytes. Refusal: 1.
-fn read_behind(s: &[u8], at: usize, n: usize, sublayers: u8) -> PtlRecordRead
+fn read_after(s: &[u8], at: usize, n: usize, sublayers: u8) -> PtlRecordRead
     requires { ⌜ (length (now s) ≤ 2 ^ 30) × (at < length (now s)) × (sublayers ≤ 7) × (n ≡ getD (now s) at 0 % 64) × (0 < n) ⌝ }
-    ensures { λ r. ⌜ ptlOf r ≡ orZeroPtl (vvcPtlRecord sublayers (now (s .entry)) at) ⌝ }
+    ensures { λ r. ⌜ ptlRecordOf r ≡ orZeroPtl (vvcPtlRecord sublayers (now (s .entry)) at) ⌝ }
 {
-    let behind = at + 3 + n;
-    let flags = flags_at(sublayers, s, behind);
-    let from = levels_start(sublayers, behind);
+    let after = at + 3 + n;
+    let flags = flags_at(sublayers, s, after);
+    let from = levels_start(sublayers, after);
     let m = ptl_record::levels::level_count(sublayers);
     let levels = read_levels(s, from, flags, m);
     let next = levels.next;
@@ -170,7 +170,7 @@ fn read_behind(s: &[u8], at: usize, n: usize, sublayers: u8) -> PtlRecordRead
 // The PTL record at a place, for so many sublayers. Refusals in byte order: 1, 2 for a constraint length of 0.
 pub fn read_ptl(s: &[u8], at: usize, sublayers: u8) -> PtlRecordRead
     requires { ⌜ (length (now s) ≤ 2 ^ 30) × (sublayers ≤ 7) ⌝ }
-    ensures { λ r. ⌜ ptlOf r ≡ orZeroPtl (vvcPtlRecord sublayers (now (s .entry)) at) ⌝ }
+    ensures { λ r. ⌜ ptlRecordOf r ≡ orZeroPtl (vvcPtlRecord sublayers (now (s .entry)) at) ⌝ }
 {
     if s.len() <= at {
         return refused(Refusal::Truncated);
@@ -179,5 +179,5 @@ pub fn read_ptl(s: &[u8], at: usize, sublayers: u8) -> PtlRecordRead
     if n == 0 {
         return refused(Refusal::ConstraintLengthZero);
     }
-    read_behind(s, at, n, sublayers)
+    read_after(s, at, n, sublayers)
 }

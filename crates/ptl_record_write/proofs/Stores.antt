@@ -1,5 +1,5 @@
--- Laws of the bytes of a PTL record as they are stored: one part behind the other, and in the parts one element behind the other.
-use Prim.Native.Nat.{ℕ, suc, _+_, _-_, _*_, _/_, _≤_, _<_}
+-- Laws of the bytes of a PTL record as they are stored: one part after the other, and in the parts one element after the other.
+use Prim.Native.Nat.{ℕ, suc, _+_, _*_, _/_, _≤_, _<_}
 use mathlib.Core.Path.{_≡_, refl, sym, ap, _∙_}
 use mathlib.Core.List.{List, [], _∷_, _++_, append-assoc, append-nil}
 use native.Mathlib.Numerals.{add-one}
@@ -11,11 +11,12 @@ use borrow.Author.Tests.{eq-eqb, ne-eqb}
 use Rattle.boxes.specs.Bytes.{toBe}
 use Rattle.boxes.proofs.Sets.{sets-append}
 use Rattle.ptl.specs.declared.VvcPtlRecord.{VvcPtlRecord}
-use Rattle.ptl_record.specs.Write.{bit, constraintInfo, withFlags, hasLevel, flagByte, levelBytes, levelPart, subProfiles, ptlBytes}
-use Rattle.ptl_record.specs.Places.{oneLevel, frontBytes}
+use Rattle.ptl_record.specs.Write.{constraintInfo, withFlags, hasLevel, flagByte, levelBytes, levelPart, subProfileBytes, ptlBytes}
+use Rattle.ptl_record.specs.inner.Places.{oneLevel, frontBytes}
 use Rattle.ptl_record.proofs.Writing.{sets-then, flagged, with-first, length-subs, levels-split}
 use Rattle.ptl_record.proofs.Standing.{length-one}
-use Rattle.ptl_record_write.specs.Places.{firstByte}
+use Rattle.ptl_record_write.specs.inner.Places.{firstConstraintByte}
+use Rattle.parse.specs.Logic.{bit}
 
 -- ---- the constraint bytes
 
@@ -29,7 +30,7 @@ module _ (p : VvcPtlRecord) where
 
   -- the constraint bytes are those of the array with its first byte replaced
   pub info-stored : length (p .«general_constraint_info») ≡ 63 → p .«num_bytes_constraint_info» ≤ 63
-      → withFlags p (constraintInfo p) ≡ take (length (constraintInfo p)) (set (p .«general_constraint_info») 0 (firstByte p))
+      → withFlags p (constraintInfo p) ≡ take (length (constraintInfo p)) (set (p .«general_constraint_info») 0 (firstConstraintByte p))
   unfolding withFlags
   info-stored l h =
       elim (decLe 1 (p .«num_bytes_constraint_info»)) [
@@ -39,7 +40,7 @@ module _ (p : VvcPtlRecord) where
       ]
     where
       some : 1 ≤ p .«num_bytes_constraint_info»
-          → withFlags p (constraintInfo p) ≡ take (length (constraintInfo p)) (set (p .«general_constraint_info») 0 (firstByte p))
+          → withFlags p (constraintInfo p) ≡ take (length (constraintInfo p)) (set (p .«general_constraint_info») 0 (firstConstraintByte p))
       some s =
           let m = p .«num_bytes_constraint_info» in
           let a = p .«general_constraint_info» in
@@ -50,20 +51,20 @@ module _ (p : VvcPtlRecord) where
 
 -- ---- the sub-profiles
 
-subs-append : (xs ys : List ℕ) → subProfiles (xs ++ ys) ≡ subProfiles xs ++ subProfiles ys
-unfolding subProfiles
+subs-append : (xs ys : List ℕ) → subProfileBytes (xs ++ ys) ≡ subProfileBytes xs ++ subProfileBytes ys
+unfolding subProfileBytes
 subs-append [] ys = refl
-subs-append (v ∷ vs) ys = rw (subs-append vs ys) (sym (append-assoc (toBe 4 v) (subProfiles vs) (subProfiles ys)))
+subs-append (v ∷ vs) ys = rw (subs-append vs ys) (sym (append-assoc (toBe 4 v) (subProfileBytes vs) (subProfileBytes ys)))
 
--- one sub-profile more of an array, stored behind those before it
+-- one sub-profile more of an array, stored after those before it
 pub subs-more : (d : List ℕ) (at k : ℕ) (a : List ℕ) → k < length a
-    → sets (sets d at (subProfiles (take k a))) (at + k * 4) (toBe 4 (getD a k 0)) ≡ sets d at (subProfiles (take (k + 1) a))
-unfolding subProfiles
+    → sets (sets d at (subProfileBytes (take k a))) (at + k * 4) (toBe 4 (getD a k 0)) ≡ sets d at (subProfileBytes (take (k + 1) a))
+unfolding subProfileBytes
 subs-more d at k a h =
     let l = length-take-le k a (omega arith) in
     let m = length-subs (take k a) in
     rw (add-one k, take-suc a k 0 h, subs-append (take k a) (getD a k 0 ∷ []), append-nil (toBe 4 (getD a k 0)))
-    (sets-then d at (at + k * 4) (subProfiles (take k a)) (toBe 4 (getD a k 0)) (omega arith))
+    (sets-then d at (at + k * 4) (subProfileBytes (take k a)) (toBe 4 (getD a k 0)) (omega arith))
 
 -- ---- the levels
 
@@ -109,9 +110,9 @@ module _ (p : VvcPtlRecord) (sublayers : ℕ) where
   N = p .«num_sub_profiles» ∷ []
 
   abbrev S : List ℕ
-  S = subProfiles (take (p .«num_sub_profiles») (p .«general_sub_profile_idc»))
+  S = subProfileBytes (take (p .«num_sub_profiles») (p .«general_sub_profile_idc»))
 
-  -- the parts, stored one behind the other
+  -- the parts, stored one after the other
   pub ptl-stored : (d : List ℕ) (at : ℕ)
       → sets (set (sets (sets d at F) (at + length F) L) (at + length F + length L) (p .«num_sub_profiles»)) (at + length F + length L + 1) S
       ≡ sets d at (ptlBytes p sublayers)

@@ -1,4 +1,4 @@
-// For the crates further down: the bytes of a PTL record measured, and stored at a place of lent memory that has room for them.
+// Internal: the bytes of a PTL record measured, and stored at a place of lent memory that has room for them.
 use boxes::place;
 use ptl::VvcPtlRecord;
 ghost use mathlib.Core.Bool.{true};
@@ -6,9 +6,10 @@ ghost use mathlib.Core.Path.{_≡_};
 ghost use Prim.Native.Nat.{_+_, _*_, _≤_, _<_};
 ghost use lib.ListN.{length, take};
 ghost use lib.Seq.{sets};
-ghost use Rattle.ptl_record.specs.Write.{bit, constraintInfo, withFlags, hasLevel, flagByte, levelBytes, levelPart, subProfiles, ptlBytes, ptlFits};
-ghost use Rattle.ptl_record.specs.Places.{oneLevel, frontBytes};
-ghost use Rattle.ptl_record_write.specs.Places.{firstByte};
+ghost use Rattle.ptl_record.specs.Write.{constraintInfo, withFlags, hasLevel, flagByte, levelBytes, levelPart, subProfileBytes, ptlBytes, ptlFits};
+ghost use Rattle.ptl_record.specs.inner.Places.{oneLevel, frontBytes};
+ghost use Rattle.ptl_record_write.specs.inner.Places.{firstConstraintByte};
+ghost use Rattle.parse.specs.Logic.{bit};
 
 // Whether every field fits its place.
 pub fn ptl_fits(p: VvcPtlRecord) -> bool
@@ -93,7 +94,7 @@ pub fn ptl_len(p: VvcPtlRecord, sublayers: u8) -> usize
 
 // The first constraint byte, its top two bits frame-only and multilayer; without constraint bytes it is 0 but for them.
 fn first_byte(p: VvcPtlRecord) -> u8
-    ensures { λ r. ⌜ r ≡ firstByte p ⌝ }
+    ensures { λ r. ⌜ r ≡ firstConstraintByte p ⌝ }
 {
     let n = p.num_bytes_constraint_info;
     let frame_only = bit_of(p.ptl_frame_only_constraint_flag);
@@ -116,7 +117,7 @@ fn put_info(out: &mut [u8], at: usize, p: VvcPtlRecord, n: usize)
     place::copy(&info[0..n], out, at);
 }
 
-// Stores what stands in front of the levels, and gives the place behind it.
+// Stores what comes before the levels, and gives the place after it.
 fn put_front(out: &mut [u8], at: usize, p: VvcPtlRecord) -> usize
     requires { ⌜ (p .«general_profile_idc» ≤ 127) × (p .«num_bytes_constraint_info» ≤ 63) × (at + length (frontBytes p) ≤ length (now out)) ⌝ }
     ensures { λ r. ⌜ (r ≡ at + length (frontBytes p)) × (now (out .exit) ≡ sets (now (out .entry)) at (frontBytes p)) × (r ≤ at + 66) ⌝ }
@@ -144,7 +145,7 @@ fn flag_byte(p: VvcPtlRecord, m: usize) -> u8
     f
 }
 
-// Stores a level, where it is there, and gives the place behind it.
+// Stores a level, where it is there, and gives the place after it.
 fn put_level(out: &mut [u8], at: usize, present: bool, level: u8) -> usize
     requires { ⌜ at + length (oneLevel present level) ≤ length (now out) ⌝ }
     ensures { λ r. ⌜ (r ≡ at + length (oneLevel present level)) × (now (out .exit) ≡ sets (now (out .entry)) at (oneLevel present level)) ⌝ }
@@ -156,7 +157,7 @@ fn put_level(out: &mut [u8], at: usize, present: bool, level: u8) -> usize
     at
 }
 
-// Stores the levels that are there, from the highest sublayer below m down, and gives the place behind them.
+// Stores the levels that are there, from the highest sublayer below m down, and gives the place after them.
 fn put_levels(out: &mut [u8], at: usize, p: VvcPtlRecord, m: usize) -> usize
     requires { ⌜ (m ≤ 7) × (at + length (levelBytes p m) ≤ length (now out)) ⌝ }
     ensures { λ r. ⌜ (r ≡ at + length (levelBytes p m)) × (now (out .exit) ≡ sets (now (out .entry)) at (levelBytes p m)) ⌝ }
@@ -171,7 +172,7 @@ fn put_levels(out: &mut [u8], at: usize, p: VvcPtlRecord, m: usize) -> usize
     w
 }
 
-// Stores the flag byte and the levels, above one sublayer, and gives the place behind them.
+// Stores the flag byte and the levels, above one sublayer, and gives the place after them.
 fn put_level_part(out: &mut [u8], at: usize, p: VvcPtlRecord, sublayers: u8) -> usize
     requires { ⌜ (sublayers ≤ 7) × (at + length (levelPart p sublayers) ≤ length (now out)) ⌝ }
     ensures { λ r. ⌜ (r ≡ at + length (levelPart p sublayers)) × (now (out .exit) ≡ sets (now (out .entry)) at (levelPart p sublayers)) ⌝ }
@@ -188,7 +189,7 @@ fn put_level_part(out: &mut [u8], at: usize, p: VvcPtlRecord, sublayers: u8) -> 
 // Stores the first n sub-profiles of an array.
 fn put_sub_profiles(out: &mut [u8], at: usize, a: [u32; 255], n: usize)
     requires { ⌜ (n ≤ 255) × (at + n * 4 ≤ length (now out)) ⌝ }
-    ensures { λ _. ⌜ now (out .exit) ≡ sets (now (out .entry)) at (subProfiles (take n a)) ⌝ }
+    ensures { λ _. ⌜ now (out .exit) ≡ sets (now (out .entry)) at (subProfileBytes (take n a)) ⌝ }
 {
     let mut k: usize = 0;
     while k < n {
@@ -197,7 +198,7 @@ fn put_sub_profiles(out: &mut [u8], at: usize, a: [u32; 255], n: usize)
     }
 }
 
-// Stores the bytes of a PTL record for so many sublayers from a place on, and gives the place behind them.
+// Stores the bytes of a PTL record for so many sublayers from a place on, and gives the place after them.
 pub fn put_ptl(out: &mut [u8], at: usize, p: VvcPtlRecord, sublayers: u8) -> usize
     requires { ⌜ (ptlFits p ≡ true) × (sublayers ≤ 7) × (at + length (ptlBytes p sublayers) ≤ length (now out)) ⌝ }
     ensures { λ r. ⌜ (r ≡ at + length (ptlBytes p sublayers)) × (now (out .exit) ≡ sets (now (out .entry)) at (ptlBytes p sublayers)) × (r ≤ at + 1094) ⌝ }

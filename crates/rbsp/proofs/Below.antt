@@ -3,9 +3,9 @@ use Prim.Native.Nat.{ℕ, zero, suc, _+_, _<_}
 use mathlib.Core.List.{List, [], _∷_}
 use lib.ListN.{getD, drop}
 use lib.Seq.{getD-drop}
-use Rattle.error.specs.Logic.{if_then_else_}
+use Rattle.parse.specs.Logic.{if_then_else_}
 use Rattle.rbsp.specs.Rbsp.{drops, nextZeros, unescape, rbsp}
-use Rattle.rbsp.proofs.Choice.{if-elim}
+use Rattle.parse.proofs.General.{if-elim}
 
 abbrev pub Below : ℕ → List ℕ → Type 0
 Below b l = (i : ℕ) → getD l i 0 < b

@@ -8,12 +8,12 @@ use native.Mathlib.Omega.{arith}
 use lib.ListN.{length, getD, take, drop, set, length-append, length-take, length-set, take-append-drop, drop-of-length-le}
 use lib.Seq.{take-suc-set, drop-set-lt, drop-drop, take-all, length-take-le, take-at, append-snoc}
 use borrow.Author.Tests.{le-leb, lt-leb}
-use Rattle.error.specs.Outcome.{accept, refuse, overlay}
+use Rattle.parse.specs.Outcome.{accept, refuse, overlay}
 use Rattle.rbsp.specs.Rbsp.{drops, nextZeros, unescape, rbsp, extractRbsp}
-use Rattle.rbsp.specs.Front.{Front}
+use Rattle.rbsp.specs.inner.Front.{Front}
 use Rattle.rbsp.proofs.Removal.{step-dropped, step-kept, step-end, zeros-le}
 
--- The loop that writes: n bytes of the RBSP of p stand at the front of o, and what is behind i is left to do.
+-- The loop that writes: n bytes of the RBSP of p stand at the front of o, and what is after i is left to do.
 pub record Filled (p o₀ o : List ℕ) (z n i : ℕ) : Type 0 where
   pub within : i ≤ length p
   pub few : z ≤ i
@@ -92,7 +92,7 @@ module _ (p o : List ℕ) where
       let long : n ≡ length (rbsp p) = omega (arith, f .count) in
       rw (le-leb (length p) (2 ^ 30) h, le-leb (length (rbsp p)) (length o) (omega arith), ← front-fits (rbsp p) o (omega arith), ← f .stands, long)
 
--- For the crates further down: what a fill left at the front is as much of the bytes as there was room for.
+-- Internal: what a fill left at the front is as much of the bytes as there was room for.
 pub front-part : (bytes o₀ o : List ℕ) (k n : ℕ) → length o₀ ≡ k → Front bytes o₀ o n → take n o ≡ take k bytes
 front-part bytes o₀ o k n e f =
     let h : length (take (length o₀) bytes) ≡ n = omega (arith, length-take (length o₀) bytes, f .count) in

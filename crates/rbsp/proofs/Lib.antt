@@ -1,4 +1,3 @@
-pub mod Choice
 pub mod Removal
 pub mod Below
 pub mod Filling

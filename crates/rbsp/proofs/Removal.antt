@@ -9,9 +9,9 @@ use lib.Dec.{eqb}
 use lib.ListN.{length, getD, drop, drop-of-length-le}
 use lib.Seq.{drop-cons}
 use Rattle.rbsp.specs.Rbsp.{drops, nextZeros, unescape}
-use Rattle.rbsp.proofs.Choice.{if-elim}
+use Rattle.parse.proofs.General.{if-elim}
 
--- the byte at i, behind z zeros
+-- the byte at i, after z zeros
 module _ (z i : ℕ) (l : List ℕ) (h : i < length l) where
   pub step-dropped : drops z (getD l i 0) ≡ true → unescape z (drop i l) ≡ unescape (nextZeros z (getD l i 0)) (drop (i + 1) l)
   unfolding unescape

@@ -1,2 +1,2 @@
 pub mod Rbsp
-pub mod Front
+pub mod inner

@@ -4,14 +4,14 @@ use mathlib.Core.Bool.{Bool, _&&_}
 use mathlib.Core.List.{List, [], _∷_}
 use Prim.Native.Nat.{ℕ, _+_}
 use lib.Dec.{leb, eqb}
-use Rattle.error.specs.Logic.{if_then_else_}
-use Rattle.error.specs.Outcome.{Outcome, accept, lentInput, lentOutput, counted}
+use Rattle.parse.specs.Logic.{if_then_else_}
+use Rattle.parse.specs.Outcome.{Outcome, accept, lentInput, lentOutput, counted}
 
--- "a 03 behind two or more zeros is dropped": zeros is how many stand in a row before b
+-- "a 03 after two or more zeros is dropped": zeros is how many stand in a row before b
 unfoldable pub drops : ℕ → ℕ → Bool
 drops zeros b = leb 2 zeros && eqb b 3
 
--- the zeros in a row once b is passed; "the zero count restarts" behind a dropped 03
+-- the zeros in a row once b is passed; "the zero count restarts" after a dropped 03
 unfoldable pub nextZeros : ℕ → ℕ → ℕ
 nextZeros zeros b = if eqb b 0 then zeros + 1 else 0
 

@@ -1,11 +1,11 @@
-// For the crates further down: as much of a payload's RBSP as a buffer has room for, and the RBSP's length.
+// Internal: as much of a payload's RBSP as a buffer has room for, and the RBSP's length.
 ghost use mathlib.Core.Path.{_≡_};
 ghost use Prim.Native.Nat.{_<_, _^_};
 ghost use lib.ListN.{length};
 ghost use Rattle.rbsp.specs.Rbsp.{drops, nextZeros, rbsp};
-ghost use Rattle.rbsp.specs.Front.{Front};
+ghost use Rattle.rbsp.specs.inner.Front.{Front};
 
-// Whether a byte is dropped: a 03 behind two or more zeros.
+// Whether a byte is dropped: a 03 after two or more zeros.
 fn is_dropped(zeros: usize, b: u8) -> bool
     ensures { λ r. ⌜ r ≡ drops zeros b ⌝ }
 {

@@ -5,7 +5,7 @@ use error::LARGEST_INPUT;
 use error::Refusal;
 use error::Written;
 ghost use mathlib.Core.Path.{_≡_};
-ghost use Rattle.error.specs.Answers.{writtenOf};
+ghost use Rattle.parse.specs.Answers.{writtenOf};
 ghost use Rattle.rbsp.specs.Rbsp.{extractRbsp};
 
 // The RBSP of a payload at the front of `out`, and its length. Refusals: 23, 20.

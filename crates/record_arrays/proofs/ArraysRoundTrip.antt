@@ -8,28 +8,28 @@ use lib.Dec.{leb, eqb}
 use lib.ListN.{length, length-append}
 use lib.Seq.{getD-at}
 use borrow.Author.Tests.{leb-true, eqb-true}
-use Rattle.error.specs.Logic.{if_then_else_}
-use Rattle.error.specs.Parse.{value, times, give}
+use Rattle.parse.specs.Logic.{if_then_else_}
+use Rattle.parse.specs.Parse.{value, times, give}
 use Rattle.boxes.specs.Bytes.{toBe, uint, chunk, toChunk}
 use Rattle.boxes.specs.Parts.{held}
 use Rattle.boxes.specs.declared.Span.{Span}
 use Rattle.boxes.proofs.Numbers.{length-toBe, be-toBe-at}
-use Rattle.boxes.proofs.Many.{times-nil, times-step}
+use Rattle.parse.proofs.Many.{times-nil, times-step}
 use Rattle.boxes.proofs.Fields.{uint-there, chunk-toChunk, held-toChunk}
-use Rattle.nal.proofs.StartCodes.{and-true}
 use Rattle.unit_list.specs.UnitList.{Array, largestType, encodeUnits, heldArray, heldArrays}
 use Rattle.unit_list.proofs.Arrays.{Sound, sound-none, sound-more, be-one}
 use Rattle.unit_list.proofs.Encode.{placedUnits, length-toChunk}
 use Rattle.record_arrays.specs.Read.{holdsOne, recordArray}
 use Rattle.record_arrays.specs.Write.{arrayBytes, arraysBytes, unitsFit, arrayFits, arraysFit}
+use Rattle.parse.proofs.General.{and-true}
 
--- one byte that stands behind others
+-- one byte that follows others
 pub byte-there : (s pre post : List ℕ) (b p : ℕ) → s ≡ pre ++ (b ∷ post) → length pre ≡ p → uint 1 s p ≡ value b (p + 1)
 byte-there s pre post b p e l =
     let n = ap length e ∙ length-append pre (b ∷ post) in
     uint-there 1 s p (omega arith) ∙ ap (λ v. value v (p + 1)) (be-one s p ∙ rw e (getD-at pre b post 0 p l))
 
--- a number of w bytes that stands behind others
+-- a number of w bytes that follows others
 pub number-there : (w : ℕ) (s pre post : List ℕ) (n p : ℕ) → s ≡ pre ++ (toBe w n ++ post) → length pre ≡ p → n < 256 ^ w → uint w s p ≡ value n (p + w)
 number-there w s pre post n p e l f =
     let m = ap length e ∙ length-append pre (toBe w n ++ post) in
@@ -37,16 +37,16 @@ number-there w s pre post n p e l f =
     let j = length-toBe w n in
     uint-there w s p (omega arith) ∙ ap (λ v. value v (p + w)) (rw (e, ← l) (be-toBe-at pre w n post f))
 
--- units that stand behind others, each of which fits its length
+-- units that follow others, each of which fits its length
 module _ (w : ℕ) (s : List ℕ) where
   abbrev pub Below : List (List ℕ) → Type 0
   Below [] = Unit {0}
   Below (u ∷ us) = (length u < 256 ^ w) × Below us
 
-  behind-unit : (u : List ℕ) (us : List (List ℕ)) (pre post : List ℕ) → s ≡ pre ++ (encodeUnits w (u ∷ us) ++ post)
+  after-unit : (u : List ℕ) (us : List (List ℕ)) (pre post : List ℕ) → s ≡ pre ++ (encodeUnits w (u ∷ us) ++ post)
       → s ≡ pre ++ (toChunk w u ++ (encodeUnits w us ++ post))
   unfolding encodeUnits
-  behind-unit u us pre post e = e ∙ ap (λ (x : List ℕ). pre ++ x) (append-assoc (toChunk w u) (encodeUnits w us) post)
+  after-unit u us pre post e = e ∙ ap (λ (x : List ℕ). pre ++ x) (append-assoc (toChunk w u) (encodeUnits w us) post)
 
   past-unit : (u : List ℕ) (pre : List ℕ) (p : ℕ) → length pre ≡ p → length (pre ++ toChunk w u) ≡ p + w + length u
   past-unit u pre p l = omega (arith, length-append pre (toChunk w u), length-toChunk w u)
@@ -56,7 +56,7 @@ module _ (w : ℕ) (s : List ℕ) where
   unfolding encodeUnits placedUnits
   units-read [] pre post p e l f = times-nil (chunk w) s p ∙ ap (value []) (omega arith)
   units-read (u ∷ us) pre post p e l f =
-      let g = behind-unit u us pre post e in
+      let g = after-unit u us pre post e in
       let c : chunk w s p ≡ value (record { start = p + w; len = length u }) (p + w + length u) =
       rw (g, ← l) (chunk-toChunk w pre u (encodeUnits w us ++ post) (f .0)) in
       times-step (chunk w) s (length us) p (record { start = p + w; len = length u }) (p + w + length u) c
@@ -70,7 +70,7 @@ module _ (w : ℕ) (s : List ℕ) where
   unfolding placedUnits
   units-held [] pre post p e l f = refl
   units-held (u ∷ us) pre post p e l f =
-      let g = behind-unit u us pre post e in
+      let g = after-unit u us pre post e in
       let h : held s (record { start = p + w; len = length u }) ≡ u = rw (g, ← l) (held-toChunk w pre u (encodeUnits w us ++ post) (f .0)) in
       rw (h, units-held us (pre ++ toChunk w u) post (p + w + length u) (g ∙ sym (append-assoc pre (toChunk w u) (encodeUnits w us ++ post))) (past-unit u pre p l) (f .1))
 
@@ -80,7 +80,7 @@ unfolding unitsFit
 fits-below [] e = tt
 fits-below (u ∷ us) e = let r = and-true _ _ e in (omega (arith, leb-true (length u) 65535 (r .0)), fits-below us (r .1))
 
--- what stands before an array's units
+-- what comes before an array's units
 abbrev countPart : Array (List ℕ) → List ℕ
 countPart a = if holdsOne (a .unitType) then [] else toBe 2 (length (a .units))
 
@@ -141,7 +141,7 @@ module _ (s : List ℕ) (a : Array (List ℕ)) (pre post : List ℕ) (p : ℕ) (
       ap (λ (us : List (List ℕ)). record { complete = a .complete; unitType = a .unitType; units = us })
       (units-held 2 s (a .units) (pre ++ (firstByte a ∷ countPart a)) post (p + 1 + length (countPart a)) split-units before-units (fits-below (a .units) (all-fit .1)))
 
--- Arrays one behind the other.
+-- Arrays one after the other.
 module _ (s : List ℕ) where
   next-arrays : (a : Array (List ℕ)) (xs : List (Array (List ℕ))) (pre post : List ℕ) → s ≡ pre ++ (arraysBytes (a ∷ xs) ++ post)
       → s ≡ pre ++ (arrayBytes a ++ (arraysBytes xs ++ post))

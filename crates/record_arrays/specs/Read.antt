@@ -2,8 +2,8 @@
 use Prim.Native.Nat.{ℕ, _/_, _%_}
 use mathlib.Core.Bool.{Bool, _||_}
 use lib.Dec.{eqb}
-use Rattle.error.specs.Logic.{if_then_else_}
-use Rattle.error.specs.Parse.{Parser, _>>=_, give, times}
+use Rattle.parse.specs.Logic.{if_then_else_}
+use Rattle.parse.specs.Parse.{Parser, _>>=_, give, times}
 use Rattle.boxes.specs.Bytes.{uint, chunk}
 use Rattle.boxes.specs.declared.Span.{Span}
 use Rattle.unit_list.specs.UnitList.{Array}
@@ -11,10 +11,6 @@ use Rattle.unit_list.specs.UnitList.{Array}
 -- OPI and DCI arrays have no count: they hold one unit
 abbrev pub holdsOne : ℕ → Bool
 holdsOne t = eqb t 12 || eqb t 13
-
--- how many bytes the count of units takes in an array of a type
-abbrev pub countLen : ℕ → ℕ
-countLen t = if holdsOne t then 0 else 2
 
 -- one array of the record
 unfoldable pub recordArray : Parser (Array Span)

@@ -4,7 +4,7 @@ use mathlib.Core.Bool.{Bool, true, _&&_}
 use mathlib.Core.List.{List, [], _∷_, _++_}
 use lib.Dec.{leb, eqb}
 use lib.ListN.{length}
-use Rattle.error.specs.Logic.{if_then_else_}
+use Rattle.parse.specs.Logic.{if_then_else_}
 use Rattle.boxes.specs.Bytes.{toBe}
 use Rattle.unit_list.specs.UnitList.{Array, encodeUnits}
 use Rattle.record_arrays.specs.Read.{holdsOne}

@@ -1,10 +1,11 @@
-// For the crates further down: what stands in the first byte of an array, and which have no count.
+// Internal: what stands in the first byte of an array, and which have no count.
 use nal::NAL_DCI;
 use nal::NAL_OPI;
 ghost use mathlib.Core.Path.{_≡_};
 ghost use Prim.Native.Nat.{_+_, _*_, _/_, _%_, _≤_};
 ghost use Rattle.unit_list.specs.UnitList.{largestType};
-ghost use Rattle.record_arrays.specs.Read.{holdsOne, countLen};
+ghost use Rattle.record_arrays.specs.Read.{holdsOne};
+ghost use Rattle.record_arrays.specs.inner.Counts.{countLen};
 
 // Whether an array of the type has no count of units: OPI and DCI arrays hold one unit.
 pub fn holds_one(unit_type: u8) -> bool

@@ -5,14 +5,14 @@ use mathlib.Core.List.{List}
 use native.Mathlib.Omega.{arith}
 use lib.ListN.{length, getD, set, length-set}
 use lib.Seq.{sets}
-use Rattle.error.specs.Outcome.{Outcome, accept, refuse, lentOutput}
-use Rattle.error.specs.Parse.{Parsed, value, refused, times}
+use Rattle.parse.specs.Outcome.{Outcome, accept, refuse, lentOutput}
+use Rattle.parse.specs.Parse.{Parsed, value, refused, times}
 use Rattle.boxes.specs.declared.Span.{Span}
 use Rattle.boxes.proofs.Fields.{uint-short}
 use Rattle.boxes.proofs.Output.{output-short, output-fits}
 use Rattle.unit_list.specs.UnitList.{Array, encode, heldArrays}
 use Rattle.record_arrays.specs.Read.{recordArray}
-use Rattle.record_arrays_read.specs.Inside.{countedArrays, listGiven, arraysInList, roomTaken, storedBytes, Stores}
+use Rattle.record_arrays_read.specs.inner.Arrays.{countedArrays, listGiven, arraysInList, roomTaken, storedBytes, Stores}
 use Rattle.record_arrays_read.proofs.Repeated.{RoomFound, room-found, room-refused}
 use Rattle.record_arrays_read.proofs.RecordArrays.{byte-read}
 
@@ -22,12 +22,12 @@ module _ (s : List ℕ) (at : ℕ) where
   arrays-absent h = rw (uint-short 1 s at (omega arith))
 
   module _ (some : at < length s) (n : ℕ) (is : n ≡ getD s at 0) where
-    arrays-behind : countedArrays s at ≡ times n recordArray s (at + 1)
+    arrays-after : countedArrays s at ≡ times n recordArray s (at + 1)
     unfolding countedArrays
-    arrays-behind = rw (byte-read s at some, is)
+    arrays-after = rw (byte-read s at some, is)
 
     pub arrays-refused : (e : ℕ) → refused e ≡ roomTaken arraysInList s 0 (times n recordArray s (at + 1)) → listGiven s (countedArrays s at) ≡ refuse e
-    arrays-refused e w = ap (listGiven s) (arrays-behind ∙ room-refused arraysInList s (times n recordArray s (at + 1)) e w)
+    arrays-refused e w = ap (listGiven s) (arrays-after ∙ room-refused arraysInList s (times n recordArray s (at + 1)) e w)
 
     -- the arrays, once they are measured
     module _ (room q : ℕ) (w : value room q ≡ roomTaken arraysInList s 0 (times n recordArray s (at + 1))) where
@@ -42,7 +42,7 @@ module _ (s : List ℕ) (at : ℕ) where
       list-long = let l = found .long in omega arith
 
       given : listGiven s (countedArrays s at) ≡ accept ((q, 1 + room), list)
-      given = ap (listGiven s) (arrays-behind ∙ found .read) ∙ ap (λ (l : ℕ). accept ((q, l), list)) list-long
+      given = ap (listGiven s) (arrays-after ∙ found .read) ∙ ap (λ (l : ℕ). accept ((q, l), list)) list-long
 
       module _ (out : List ℕ) where
         pub list-too-long : length out < 1 + room → _≡_ {A = Outcome (ℕ × ℕ) × List ℕ} (refuse 20, out) (lentOutput (listGiven s (countedArrays s at)) out)
@@ -53,7 +53,7 @@ module _ (s : List ℕ) (at : ℕ) where
           arrays-fit d e =
               let k = ap length e ∙ length-set out 0 1 in
               let l = found .long in
-              record { what = found .what; behind = q; read = found .read; fits = omega arith }
+              record { what = found .what; ends = q; read = found .read; fits = omega arith }
 
           stored : (d e : List ℕ) → d ≡ set out 0 1 → e ≡ sets d 1 (storedBytes arraysInList s (times n recordArray s (at + 1))) → e ≡ sets out 0 list
           unfolding encode

@@ -1,4 +1,4 @@
--- Laws of the arrays of a record and of their units: what stands before the units, one array measured and stored, and the bytes of many.
+-- Laws of the arrays of a record and of their units: what comes before the units, one array measured and stored, and the bytes of many.
 use Prim.Native.Nat.{ℕ, suc, _+_, _-_, _/_, _%_, _≤_, _<_}
 use mathlib.Core.Path.{_≡_, refl, sym, ap, _∙_, subst}
 use mathlib.Core.Bool.{Bool, true, false}
@@ -6,8 +6,8 @@ use mathlib.Core.List.{List, [], _∷_, _++_, append-assoc}
 use native.Mathlib.Omega.{arith}
 use lib.ListN.{length, getD, take, set, length-append}
 use lib.Seq.{sets, length-sets, take-length}
-use Rattle.error.specs.Logic.{if_then_else_}
-use Rattle.error.specs.Parse.{Parsed, value, refused, bind, give, times}
+use Rattle.parse.specs.Logic.{if_then_else_}
+use Rattle.parse.specs.Parse.{Parsed, value, refused, bind, give, times}
 use Rattle.boxes.specs.Bytes.{be, uint, chunk, toBe, toChunk}
 use Rattle.boxes.specs.Parts.{held}
 use Rattle.boxes.specs.declared.Span.{Span}
@@ -15,19 +15,20 @@ use Rattle.boxes.proofs.Numbers.{length-toBe}
 use Rattle.boxes.proofs.Sets.{sets-append, set-before}
 use Rattle.boxes.proofs.Fields.{uint-there, uint-short, chunk-read}
 use Rattle.unit_list.specs.UnitList.{Array, encodeUnits, encodeArray, encodeArrays}
-use Rattle.unit_list.specs.Walk.{chunkStepped}
+use Rattle.unit_list.specs.inner.Walk.{chunkStepped}
 use Rattle.unit_list.specs.declared.ChunkRead.{ChunkRead}
 use Rattle.unit_list.specs.declared.ChunkRead.the-variants as C
 use Rattle.unit_list.proofs.Arrays.{be-one}
 use Rattle.unit_list.proofs.Encode.{length-toChunk}
 use Rattle.unit_list.proofs.Accepted.{held-long}
 use Rattle.unit_list.proofs.Steps.{chunk-bytes, chunk-refused}
-use Rattle.record_arrays.specs.Read.{holdsOne, countLen, recordArray}
-use Rattle.record_arrays_read.specs.Inside.{arrayHead, arrayHeadOf, ArrayHeadFits, unitsInList, arrayInList, arraysInList, roomTaken, storedBytes, Stores, StoredAt}
+use Rattle.record_arrays.specs.Read.{holdsOne, recordArray}
+use Rattle.record_arrays_read.specs.inner.Arrays.{arrayHead, arrayHeadOf, ArrayHeadFits, unitsInList, arrayInList, arraysInList, roomTaken, storedBytes, Stores, StoredAt}
 use Rattle.record_arrays_read.specs.declared.ArrayHead.{ArrayHead}
 use Rattle.record_arrays_read.specs.declared.ArrayHeadRead.{ArrayHeadRead}
 use Rattle.record_arrays_read.specs.declared.ArrayHeadRead.the-variants as A
 use Rattle.record_arrays_read.specs.declared.list.Stored.{Stored}
+use Rattle.record_arrays.specs.inner.Counts.{countLen}
 
 -- a byte that is there
 pub byte-read : (s : List ℕ) (p : ℕ) → p < length s → uint 1 s p ≡ value (getD s p 0) (p + 1)
@@ -64,7 +65,7 @@ module _ (s : List ℕ) (p : ℕ) (r : ChunkRead) (said : chunkStepped r ≡ chu
       let w = chunk-read 2 s p a (a .start + a .len) g in
       record { read = g; start = w .start; inside = w .fits; room = length-toChunk 4 (held s a) ∙ ap (λ (n : ℕ). 4 + n) (held-long s a (w .fits)) }
 
--- ### what stands before the units of an array
+-- ### what comes before the units of an array
 
 abbrev headWith : ℕ → ℕ → ArrayHead
 headWith b n = record { complete = b / 128; «unit_type» = b % 32; count = n }
@@ -125,26 +126,26 @@ abbrev withUnits : ArrayHead → List Span → Array Span
 withUnits h us = record { complete = h .complete; unitType = h .«unit_type»; units = us }
 
 -- an array is its head and its units
-abbrev behind-head : (s : List ℕ) → ArrayHead → ℕ → Parsed (Array Span)
-behind-head s h q = bind (times (h .count) (chunk 2) s q) (λ us r. value (withUnits h us) r)
+abbrev after-head : (s : List ℕ) → ArrayHead → ℕ → Parsed (Array Span)
+after-head s h q = bind (times (h .count) (chunk 2) s q) (λ us r. value (withUnits h us) r)
 
 counted : (s : List ℕ) (b : ℕ) (x : Parsed ℕ)
-    → bind x (λ n r. bind (times n (chunk 2) s r) (λ us t. value (withUnits (headWith b n) us) t)) ≡ bind (bind x (λ n r. value (headWith b n) r)) (behind-head s)
+    → bind x (λ n r. bind (times n (chunk 2) s r) (λ us t. value (withUnits (headWith b n) us) t)) ≡ bind (bind x (λ n r. value (headWith b n) r)) (after-head s)
 unfolding times
 counted s b (value n r) = refl
 counted s b (refused e) = refl
 
-array-split : (s : List ℕ) (p : ℕ) → recordArray s p ≡ bind (arrayHead s p) (behind-head s)
+array-split : (s : List ℕ) (p : ℕ) → recordArray s p ≡ bind (arrayHead s p) (after-head s)
 unfolding recordArray arrayHead
 array-split s p = go (uint 1 s p)
   where
     go : (x : Parsed ℕ)
         → bind x (λ b q. bind ((if holdsOne (b % 32) then give 1 else uint 2) s q) (λ n r. bind (times n (chunk 2) s r) (λ us t. value (withUnits (headWith b n) us) t)))
-        ≡ bind (bind x (λ b q. bind ((if holdsOne (b % 32) then give 1 else uint 2) s q) (λ n r. value (headWith b n) r))) (behind-head s)
+        ≡ bind (bind x (λ b q. bind ((if holdsOne (b % 32) then give 1 else uint 2) s q) (λ n r. value (headWith b n) r))) (after-head s)
     go (value b q) = counted s b ((if holdsOne (b % 32) then give 1 else uint 2) s q)
     go (refused e) = refl
 
--- what stands before the units in a list
+-- what comes before the units in a list
 abbrev headBytes : ArrayHead → ℕ → List ℕ
 headBytes h rest = toBe 4 rest ++ (h .complete ∷ h .«unit_type» ∷ [])
 
@@ -162,7 +163,7 @@ array-long s h us =
     let l = head-long h (2 + length (unitsInList s us)) in
     ap length (array-bytes s h us) ∙ length-append (headBytes h (2 + length (unitsInList s us))) (unitsInList s us) ∙ omega arith
 
--- a run behind another may be stored before it
+-- a run after another may be stored before it
 sets-before : (d : List ℕ) (i j : ℕ) (xs ys : List ℕ) → i + length xs ≤ j → sets (sets d j ys) i xs ≡ sets (sets d i xs) j ys
 sets-before d i j xs [] h = refl
 sets-before d i j xs (y ∷ ys) h =
@@ -170,11 +171,11 @@ sets-before d i j xs (y ∷ ys) h =
 
 module _ (s : List ℕ) (p : ℕ) where
   pub array-refused : (e : ℕ) → arrayHead s p ≡ refused e → recordArray s p ≡ refused e
-  array-refused e w = array-split s p ∙ ap (λ (x : Parsed ArrayHead). bind x (behind-head s)) w
+  array-refused e w = array-split s p ∙ ap (λ (x : Parsed ArrayHead). bind x (after-head s)) w
 
   module _ (h : ArrayHead) (q : ℕ) (w : arrayHead s p ≡ value h q) where
     pub array-units : recordArray s p ≡ bind (times (h .count) (chunk 2) s q) (λ us r. value (withUnits h us) r)
-    array-units = array-split s p ∙ ap (λ (x : Parsed ArrayHead). bind x (behind-head s)) w
+    array-units = array-split s p ∙ ap (λ (x : Parsed ArrayHead). bind x (after-head s)) w
 
     -- measured
     array-measured : (x : Parsed (List Span)) (m : Parsed ℕ) → m ≡ roomTaken unitsInList s 0 x
@@ -188,13 +189,13 @@ module _ (s : List ℕ) (p : ℕ) where
 
     -- stored
     module _ (out : List ℕ) (to : ℕ) (stores : Stores arrayInList s (recordArray s p) out to) where
-      units-of : (x : Parsed (List Span)) → bind x (λ us r. value (withUnits h us) r) ≡ value (stores .what) (stores .behind) → Stores unitsInList s x out (to + 6)
+      units-of : (x : Parsed (List Span)) → bind x (λ us r. value (withUnits h us) r) ≡ value (stores .what) (stores .ends) → Stores unitsInList s x out (to + 6)
       units-of (value us r) g =
           let u : withUnits h us ≡ stores .what = cc in
           let b = ap (λ (a : Array Span). length (arrayInList s a)) u in
           let l = array-long s h us in
           let f = stores .fits in
-          record { what = us; behind = r; read = refl; fits = omega arith }
+          record { what = us; ends = r; read = refl; fits = omega arith }
       units-of (refused e) g = absurd (let z : _≡_ {A = ℕ} 0 1 = cc in omega arith)
 
       pub stores-units : Stores unitsInList s (times (h .count) (chunk 2) s q) out (to + 6)

@@ -1,4 +1,4 @@
--- Laws of a parser repeated n times whose values are measured and stored one behind the other: what is done and what is left make the
+-- Laws of a parser repeated n times whose values are measured and stored one after the other: what is done and what is left make the
 -- whole. One set of laws for the units of an array and for the arrays of a record.
 use Prim.Native.Nat.{ℕ, zero, suc, _+_, _-_, _*_, _≤_, _<_}
 use mathlib.Core.Path.{_≡_, refl, sym, ap, _∙_, subst}
@@ -6,10 +6,10 @@ use mathlib.Core.List.{List, [], _∷_, _++_}
 use native.Mathlib.Omega.{arith}
 use lib.ListN.{length, length-append}
 use lib.Seq.{sets, length-sets}
-use Rattle.error.specs.Parse.{Parsed, value, refused, bind, Parser, times}
+use Rattle.parse.specs.Parse.{Parsed, value, refused, bind, Parser, times}
 use Rattle.boxes.proofs.Sets.{sets-append}
-use Rattle.boxes.proofs.Many.{times-nil, times-step, times-bad}
-use Rattle.record_arrays_read.specs.Inside.{roomOf, RoomFits, roomTaken, storedBytes, placeBehind, Stores, StoredAt}
+use Rattle.parse.proofs.Many.{times-nil, times-step, times-bad}
+use Rattle.record_arrays_read.specs.inner.Arrays.{listRoomOf, RoomFits, roomTaken, storedBytes, placeAfter, Stores, StoredAt}
 use Rattle.record_arrays_read.specs.declared.room.ListRoom.{ListRoom}
 use Rattle.record_arrays_read.specs.declared.room.ListRoom.the-variants as M
 use Rattle.record_arrays_read.specs.declared.list.Stored.{Stored}
@@ -38,13 +38,13 @@ pub record RoomAt (s : List ℕ) (p : ℕ) (x : Parsed ℕ) (n q : ℕ) : Type 0
   pub inside : q ≤ length s
   pub few : p * 6 + n ≤ q * 6
 
-module _ (s : List ℕ) (p : ℕ) (x : Parsed ℕ) (r : ListRoom) (f : (roomOf r ≡ x) × RoomFits s p r) where
+module _ (s : List ℕ) (p : ℕ) (x : Parsed ℕ) (r : ListRoom) (f : (listRoomOf r ≡ x) × RoomFits s p r) where
   pub room-short : r ≡ M.Short → refused 1 ≡ x
-  room-short e = sym (ap roomOf e) ∙ f .0
+  room-short e = sym (ap listRoomOf e) ∙ f .0
 
   pub room-at : (n q : ℕ) → r ≡ M.Room n q → RoomAt s p x n q
   room-at n q e =
-      let g = subst (λ (r : ListRoom). (roomOf r ≡ x) × RoomFits s p r) e f in
+      let g = subst (λ (r : ListRoom). (listRoomOf r ≡ x) × RoomFits s p r) e f in
       record { read = g .0; inside = g .1 .0; few = g .1 .1 }
 
 -- P's values, the bytes of one and those of many
@@ -88,7 +88,7 @@ module _ {A : Type 0} (P : Parser A) (f : List ℕ → A → List ℕ) (F : List
     pub stores : Stores F s (times n P s p) out to
     pub same : length out ≡ length out₀
     pub whole : sets out to (storedBytes F s (times n P s p)) ≡ sets out₀ start (storedBytes F s x₀)
-    pub place : placeBehind (times n P s p) ≡ placeBehind x₀
+    pub place : placeAfter (times n P s p) ≡ placeAfter x₀
     pub ends : to + length (storedBytes F s (times n P s p)) ≡ start + length (storedBytes F s x₀)
 
   pub storing-start : (n p : ℕ) (out : List ℕ) (to : ℕ) → Stores F s (times n P s p) out to → Storing out to (times n P s p) n p out to
@@ -104,7 +104,7 @@ module _ {A : Type 0} (P : Parser A) (f : List ℕ → A → List ℕ) (F : List
         let j = i .ends in
         record {
           written = ap (sets out to) (sym b) ∙ i .whole;
-          from = sym (ap placeBehind e) ∙ i .place;
+          from = sym (ap placeAfter e) ∙ i .place;
           to = omega arith;
         }
 
@@ -117,11 +117,11 @@ module _ {A : Type 0} (P : Parser A) (f : List ℕ → A → List ℕ) (F : List
           let z : _≡_ {A = ℕ} 0 1 = cc in omega arith
 
       module _ (a : A) (q : ℕ) (w : P s p ≡ value a q) where
-        -- what is left behind one more
-        rest-of : (x : Parsed (List A)) → bind x (λ rest r. value (a ∷ rest) r) ≡ value (i .stores .what) (i .stores .behind)
+        -- what is left after one more
+        rest-of : (x : Parsed (List A)) → bind x (λ rest r. value (a ∷ rest) r) ≡ value (i .stores .what) (i .stores .ends)
             → (d : List ℕ) → d ≡ sets out to (f s a) → (t : ℕ) → t ≡ to + length (f s a)
             → Stores F s x d t × (sets d t (storedBytes F s x) ≡ sets out to (storedBytes F s (bind x (λ rest r. value (a ∷ rest) r))))
-            × (placeBehind x ≡ placeBehind (bind x (λ rest r. value (a ∷ rest) r)))
+            × (placeAfter x ≡ placeAfter (bind x (λ rest r. value (a ∷ rest) r)))
             × (t + length (storedBytes F s x) ≡ to + length (storedBytes F s (bind x (λ rest r. value (a ∷ rest) r))))
         rest-of (refused j) g d e t v = absurd (let z : _≡_ {A = ℕ} 0 1 = cc in omega arith)
         rest-of (value xs r) g d e t v =
@@ -130,7 +130,7 @@ module _ {A : Type 0} (P : Parser A) (f : List ℕ → A → List ℕ) (F : List
             let l = room-more a xs in
             let h = i .stores .fits in
             let k = ap length e ∙ length-sets out to (f s a) in (
-              record { what = xs; behind = r; read = refl; fits = omega arith },
+              record { what = xs; ends = r; read = refl; fits = omega arith },
               rw (e, v, more s a xs) (sets-append out to (f s a) (F s xs)),
               refl,
               omega arith,
@@ -144,7 +144,7 @@ module _ {A : Type 0} (P : Parser A) (f : List ℕ → A → List ℕ) (F : List
               stores = r .0;
               same = ap length e ∙ length-sets out to (f s a) ∙ i .same;
               whole = r .1 ∙ ap (λ (x : Parsed (List A)). sets out to (storedBytes F s x)) (sym m) ∙ i .whole;
-              place = r .2 ∙ ap placeBehind (sym m) ∙ i .place;
+              place = r .2 ∙ ap placeAfter (sym m) ∙ i .place;
               ends = r .3 ∙ ap (λ (x : Parsed (List A)). to + length (storedBytes F s x)) (sym m) ∙ i .ends;
             }
 
@@ -156,7 +156,7 @@ module _ {A : Type 0} (P : Parser A) (f : List ℕ → A → List ℕ) (F : List
             omega arith
 
       one-of : (x : Parsed A) → P s p ≡ x → Stores f s (P s p) out to
-      one-of (value a q) w = record { what = a; behind = q; read = w; fits = storing-room a q w }
+      one-of (value a q) w = record { what = a; ends = q; read = w; fits = storing-room a q w }
       one-of (refused e) w = absurd (storing-not-short e w)
 
       -- and has room
@@ -168,6 +168,6 @@ module _ {A : Type 0} (P : Parser A) (f : List ℕ → A → List ℕ) (F : List
       storing-stored d r v =
           let o = storing-one in
           let e : d ≡ sets out to (f s (o .what)) = v .written ∙ ap (λ (x : Parsed A). sets out to (storedBytes f s x)) (o .read) in
-          let q : r .from ≡ o .behind = v .from ∙ ap placeBehind (o .read) in
+          let q : r .from ≡ o .ends = v .from ∙ ap placeAfter (o .read) in
           let t : r .to ≡ to + length (f s (o .what)) = v .to ∙ ap (λ (x : Parsed A). to + length (storedBytes f s x)) (o .read) in
           storing-next (o .what) (r .from) (o .read ∙ ap (value (o .what)) (sym q)) d e (r .to) t

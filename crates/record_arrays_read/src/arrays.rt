@@ -1,4 +1,4 @@
-// For the crates further down: the head of an array, and the arrays of a full record read into a unit list.
+// Internal: the head of an array, and the arrays of a full record read into a unit list.
 use super::ArrayHead;
 use super::ArrayHeadRead;
 use super::ListRead;
@@ -10,11 +10,12 @@ use error::Refusal;
 ghost use mathlib.Core.Path.{_≡_};
 ghost use Prim.Native.Nat.{_+_, _≤_, _^_};
 ghost use lib.ListN.{length};
-ghost use Rattle.error.specs.Logic.{if_then_else_};
-ghost use Rattle.error.specs.Outcome.{lentOutput};
+ghost use Rattle.parse.specs.Logic.{if_then_else_};
+ghost use Rattle.parse.specs.Outcome.{lentOutput};
 ghost use Rattle.boxes.specs.Bytes.{be};
-ghost use Rattle.record_arrays.specs.Read.{holdsOne, countLen};
-ghost use Rattle.record_arrays_read.specs.Inside.{arrayHead, arrayHeadOf, ArrayHeadFits, countedArrays, listGiven, listOf};
+ghost use Rattle.record_arrays.specs.Read.{holdsOne};
+ghost use Rattle.record_arrays_read.specs.inner.Arrays.{arrayHead, arrayHeadOf, ArrayHeadFits, countedArrays, listGiven, listOf};
+ghost use Rattle.record_arrays.specs.inner.Counts.{countLen};
 
 // How many units an array of the type has, by the count that stands at a place; one where there is no count.
 fn unit_count(record: &[u8], at: usize, unit_type: u8) -> usize

@@ -7,10 +7,10 @@ ghost use mathlib.Core.Path.{_≡_};
 ghost use Prim.Native.Nat.{_+_, _≤_, _^_};
 ghost use lib.ListN.{length};
 ghost use lib.Seq.{sets};
-ghost use Rattle.error.specs.Parse.{times};
+ghost use Rattle.parse.specs.Parse.{times};
 ghost use Rattle.boxes.specs.Bytes.{chunk};
 ghost use Rattle.record_arrays.specs.Read.{recordArray};
-ghost use Rattle.record_arrays_read.specs.Inside.{unitsInList, arrayInList, arraysInList, storedBytes, Stores, StoredAt};
+ghost use Rattle.record_arrays_read.specs.inner.Arrays.{unitsInList, arrayInList, arraysInList, storedBytes, Stores, StoredAt};
 
 // Where storing stands: the next place of the record and that of the output.
 pub struct Stored {
@@ -38,7 +38,7 @@ fn put_units(record: &[u8], from: usize, count: usize, out: &mut [u8], to: usize
     Stored { from: at, to: next }
 }
 
-// Stores the array at a place of the record: its units, and then what stands before them.
+// Stores the array at a place of the record: its units, and then what comes before them.
 fn put_array(record: &[u8], at: usize, out: &mut [u8], to: usize) -> Stored
     requires { ⌜ (length (now «record») ≤ 2 ^ 30) × Stores arrayInList (now «record») (recordArray (now «record») at) (now out) to ⌝ }
     ensures { λ r. ⌜ StoredAt arrayInList (now («record» .entry)) (recordArray (now («record» .entry)) at) (now (out .entry)) to (now (out .exit)) r ⌝ }

@@ -5,12 +5,12 @@ use unit_list::walk;
 ghost use mathlib.Core.Path.{_≡_};
 ghost use Prim.Native.Nat.{_≤_, _^_};
 ghost use lib.ListN.{length};
-ghost use Rattle.error.specs.Parse.{times};
+ghost use Rattle.parse.specs.Parse.{times};
 ghost use Rattle.boxes.specs.Bytes.{chunk};
 ghost use Rattle.record_arrays.specs.Read.{recordArray};
-ghost use Rattle.record_arrays_read.specs.Inside.{roomOf, RoomFits, roomTaken, unitsInList, arrayInList, arraysInList};
+ghost use Rattle.record_arrays_read.specs.inner.Arrays.{listRoomOf, RoomFits, roomTaken, unitsInList, arrayInList, arraysInList};
 
-// How many bytes units or arrays take in a list, and the place behind them in the record; or that they are not all there.
+// How many bytes units or arrays take in a list, and the place after them in the record; or that they are not all there.
 pub enum ListRoom {
     Room(usize, usize),
     Short,
@@ -19,7 +19,7 @@ pub enum ListRoom {
 // Measures `count` units from a place on.
 fn units_room(record: &[u8], from: usize, count: usize) -> ListRoom
     requires { ⌜ (length (now «record») ≤ 2 ^ 30) × (from ≤ length (now «record»)) ⌝ }
-    ensures { λ r. ⌜ (roomOf r ≡ roomTaken unitsInList (now («record» .entry)) 0 (times count (chunk 2) (now («record» .entry)) from)) × RoomFits (now («record» .entry)) from r ⌝ }
+    ensures { λ r. ⌜ (listRoomOf r ≡ roomTaken unitsInList (now («record» .entry)) 0 (times count (chunk 2) (now («record» .entry)) from)) × RoomFits (now («record» .entry)) from r ⌝ }
 {
     let mut left = count;
     let mut at = from;
@@ -38,31 +38,31 @@ fn units_room(record: &[u8], from: usize, count: usize) -> ListRoom
 // Measures the array at a place.
 fn array_room(record: &[u8], at: usize) -> ListRoom
     requires { ⌜ length (now «record») ≤ 2 ^ 30 ⌝ }
-    ensures { λ r. ⌜ (roomOf r ≡ roomTaken arrayInList (now («record» .entry)) 0 (recordArray (now («record» .entry)) at)) × RoomFits (now («record» .entry)) at r ⌝ }
+    ensures { λ r. ⌜ (listRoomOf r ≡ roomTaken arrayInList (now («record» .entry)) 0 (recordArray (now («record» .entry)) at)) × RoomFits (now («record» .entry)) at r ⌝ }
 {
     let ArrayHeadRead::Head(head, units) = super::arrays::array_head(record, at) else {
         return ListRoom::Short;
     };
-    let ListRoom::Room(room, behind) = units_room(record, units, head.count) else {
+    let ListRoom::Room(room, ends) = units_room(record, units, head.count) else {
         return ListRoom::Short;
     };
-    ListRoom::Room(6 + room, behind)
+    ListRoom::Room(6 + room, ends)
 }
 
 // Measures `count` arrays from a place on.
 pub fn arrays_room(record: &[u8], from: usize, count: usize) -> ListRoom
     requires { ⌜ (length (now «record») ≤ 2 ^ 30) × (from ≤ length (now «record»)) ⌝ }
-    ensures { λ r. ⌜ (roomOf r ≡ roomTaken arraysInList (now («record» .entry)) 0 (times count recordArray (now («record» .entry)) from)) × RoomFits (now («record» .entry)) from r ⌝ }
+    ensures { λ r. ⌜ (listRoomOf r ≡ roomTaken arraysInList (now («record» .entry)) 0 (times count recordArray (now («record» .entry)) from)) × RoomFits (now («record» .entry)) from r ⌝ }
 {
     let mut left = count;
     let mut at = from;
     let mut room: usize = 0;
     while 0 < left {
-        let ListRoom::Room(more, behind) = array_room(record, at) else {
+        let ListRoom::Room(more, ends) = array_room(record, at) else {
             return ListRoom::Short;
         };
         room += more;
-        at = behind;
+        at = ends;
         left -= 1;
     }
     ListRoom::Room(room, at)

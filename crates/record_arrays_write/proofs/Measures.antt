@@ -5,15 +5,14 @@ use mathlib.Core.Bool.{Bool, true, false, _&&_}
 use mathlib.Core.List.{List, [], _∷_, _++_, map}
 use native.Mathlib.Omega.{arith}
 use lib.ListN.{length, length-append}
-use Rattle.error.specs.Logic.{if_then_else_}
-use Rattle.error.specs.Outcome.{Outcome, accept, refuse, andThen}
+use Rattle.parse.specs.Logic.{if_then_else_}
+use Rattle.parse.specs.Outcome.{Outcome, accept, refuse, andThen}
 use Rattle.boxes.specs.Bytes.{toBe, toChunk}
 use Rattle.boxes.specs.Parts.{held}
-use Rattle.boxes.specs.Walk.{more}
 use Rattle.boxes.specs.declared.Span.{Span}
 use Rattle.boxes.proofs.Numbers.{length-toBe}
 use Rattle.unit_list.specs.UnitList.{Array, encodeUnits, heldArray, heldArrays}
-use Rattle.unit_list.specs.Walk.{unitsFrom, unitsStepped, UnitStepFits, arraysFrom, arraysStepped, ArrayStepFits, Fits, Entered}
+use Rattle.unit_list.specs.inner.Walk.{arrayUnitsFrom, unitsStepped, UnitStepFits, arraysFrom, arraysStepped, ArrayStepFits, Fits, Entered}
 use Rattle.unit_list.specs.declared.ListCursor.{ListCursor}
 use Rattle.unit_list.specs.declared.ListStep.{ListStep}
 use Rattle.unit_list.specs.declared.ListStep.the-variants as L
@@ -21,16 +20,15 @@ use Rattle.unit_list.specs.declared.ArrayStep.{ArrayStep}
 use Rattle.unit_list.specs.declared.ArrayStep.the-variants as A
 use Rattle.unit_list.proofs.Encode.{length-toChunk}
 use Rattle.unit_list.proofs.Accepted.{held-long}
-use Rattle.record_arrays.specs.Read.{holdsOne, countLen}
+use Rattle.record_arrays.specs.Read.{holdsOne}
 use Rattle.record_arrays.specs.Write.{arrayBytes, arraysBytes, unitsFit, arrayFits, arraysFit}
-use Rattle.record_arrays_write.specs.Inside.{joined, nothing, ofUnit, arrayBy, unitsMeasure, arraysMeasure, measuredBy, behind, arrayMeasured, Takes, ArrayWithin}
+use Rattle.record_arrays_write.specs.inner.Measures.{joined, nothing, unitMeasure, arrayBy, unitsMeasure, arraysMeasure, measuredBy, afterMeasured, arrayMeasured, Takes, ArrayWithin}
 use Rattle.record_arrays_write.specs.declared.measure.Measure.{Measure}
 use Rattle.record_arrays_write.specs.declared.measure.ArrayMeasured.{ArrayMeasured}
 use Rattle.record_arrays_write.specs.declared.measure.ArrayMeasured.the-variants as R
-
-and-assoc : (a b c : Bool) → (a && b) && c ≡ a && (b && c)
-and-assoc true b c = refl
-and-assoc false b c = refl
+use Rattle.boxes.specs.inner.Walk.{more}
+use Rattle.record_arrays.specs.inner.Counts.{countLen}
+use Rattle.parse.proofs.General.{and-assoc}
 
 and-yes : (b : Bool) → b && true ≡ b
 and-yes true = refl
@@ -50,16 +48,16 @@ nothing-joined : (m : Measure) → joined nothing m ≡ m
 nothing-joined m = same-measure (omega arith) (omega arith) refl
 
 -- nothing measuredBy, one more, all
-pub behind-start : (o : Outcome Measure) → behind nothing o ≡ o
-behind-start (accept m) = ap accept (nothing-joined m)
-behind-start (refuse e) = refl
+pub after-start : (o : Outcome Measure) → afterMeasured nothing o ≡ o
+after-start (accept m) = ap accept (nothing-joined m)
+after-start (refuse e) = refl
 
-pub behind-more : (v m : Measure) (o : Outcome Measure) → behind (joined v m) o ≡ behind v (behind m o)
-behind-more v m (accept n) = ap accept (joined-assoc v m n)
-behind-more v m (refuse e) = refl
+pub after-more : (v m : Measure) (o : Outcome Measure) → afterMeasured (joined v m) o ≡ afterMeasured v (afterMeasured m o)
+after-more v m (accept n) = ap accept (joined-assoc v m n)
+after-more v m (refuse e) = refl
 
-pub behind-end : (v : Measure) → accept v ≡ behind v (accept nothing)
-behind-end v = ap accept (sym (joined-nothing v))
+pub after-end : (v : Measure) → accept v ≡ afterMeasured v (accept nothing)
+after-end v = ap accept (sym (joined-nothing v))
 
 -- ---- the units of an array
 
@@ -72,7 +70,7 @@ unfolding encodeUnits unitsFit
 units-none s = refl
 
 units-more : (s : List ℕ) (a : Span) → a .start + a .len ≤ length s → (o : Outcome (List Span))
-    → measuredBy (unitsMeasure s) (more a o) ≡ behind (ofUnit (a .len)) (measuredBy (unitsMeasure s) o)
+    → measuredBy (unitsMeasure s) (more a o) ≡ afterMeasured (unitMeasure (a .len)) (measuredBy (unitsMeasure s) o)
 unfolding unitsFit
 units-more s a h (refuse e) = refl
 units-more s a h (accept us) =
@@ -81,18 +79,18 @@ units-more s a h (accept us) =
     ap accept (same-measure (omega arith) (omega arith) (rw l))
 
 -- a step inside an array
-module _ (s : List ℕ) (here : ListCursor) (r : ListStep) (f : (unitsStepped s r ≡ unitsFrom s here) × UnitStepFits s here r) where
-  pub units-end : r ≡ L.End → unitsFrom s here ≡ accept []
+module _ (s : List ℕ) (here : ListCursor) (r : ListStep) (f : (unitsStepped s r ≡ arrayUnitsFrom s here) × UnitStepFits s here r) where
+  pub units-end : r ≡ L.End → arrayUnitsFrom s here ≡ accept []
   units-end e = sym (sym (ap (unitsStepped s) e) ∙ f .0)
 
-  pub units-malformed : r ≡ L.Malformed → unitsFrom s here ≡ refuse 21
+  pub units-malformed : r ≡ L.Malformed → arrayUnitsFrom s here ≡ refuse 21
   units-malformed e = sym (sym (ap (unitsStepped s) e) ∙ f .0)
 
   module _ (a : Span) (next : ListCursor) (e : r ≡ L.Unit a next) where
-    passed : (unitsStepped s (L.Unit a next) ≡ unitsFrom s here) × UnitStepFits s here (L.Unit a next)
-    passed = subst (λ (r : ListStep). (unitsStepped s r ≡ unitsFrom s here) × UnitStepFits s here r) e f
+    passed : (unitsStepped s (L.Unit a next) ≡ arrayUnitsFrom s here) × UnitStepFits s here (L.Unit a next)
+    passed = subst (λ (r : ListStep). (unitsStepped s r ≡ arrayUnitsFrom s here) × UnitStepFits s here r) e f
 
-    pub units-next : unitsFrom s here ≡ more a (unitsFrom s next)
+    pub units-next : arrayUnitsFrom s here ≡ more a (arrayUnitsFrom s next)
     units-next = sym (passed .0)
 
     -- where the unit lies, and where the walk goes on
@@ -123,32 +121,32 @@ pub record MeasuringUnits (s : List ℕ) (c here : ListCursor) (v : Measure) : T
   pub end : here .end ≡ c .end
   pub len : c .at + v .len ≤ here .at
   pub count : c .at + v .count ≤ here .at
-  pub whole : behind v (measuredBy (unitsMeasure s) (unitsFrom s here)) ≡ measuredBy (unitsMeasure s) (unitsFrom s c)
+  pub whole : afterMeasured v (measuredBy (unitsMeasure s) (arrayUnitsFrom s here)) ≡ measuredBy (unitsMeasure s) (arrayUnitsFrom s c)
 
 module _ (s : List ℕ) (c : ListCursor) where
   pub units-start : Fits s c → MeasuringUnits s c c nothing
-  units-start h = record { fits = h; end = refl; len = omega arith; count = omega arith; whole = behind-start (measuredBy (unitsMeasure s) (unitsFrom s c)) }
+  units-start h = record { fits = h; end = refl; len = omega arith; count = omega arith; whole = after-start (measuredBy (unitsMeasure s) (arrayUnitsFrom s c)) }
 
-  module _ (here : ListCursor) (v : Measure) (i : MeasuringUnits s c here v) (r : ListStep) (f : (unitsStepped s r ≡ unitsFrom s here) × UnitStepFits s here r) where
-    pub units-ended : r ≡ L.End → (accept v ≡ measuredBy (unitsMeasure s) (unitsFrom s c)) × ((c .at + v .len ≤ c .end) × (c .at + v .count ≤ c .end))
+  module _ (here : ListCursor) (v : Measure) (i : MeasuringUnits s c here v) (r : ListStep) (f : (unitsStepped s r ≡ arrayUnitsFrom s here) × UnitStepFits s here r) where
+    pub units-ended : r ≡ L.End → (accept v ≡ measuredBy (unitsMeasure s) (arrayUnitsFrom s c)) × ((c .at + v .len ≤ c .end) × (c .at + v .count ≤ c .end))
     units-ended e = (
-      behind-end v ∙ ap (λ (m : Measure). behind v (accept m)) (sym (units-none s)) ∙ ap (λ (o : Outcome (List Span)). behind v (measuredBy (unitsMeasure s) o)) (sym (units-end s here r f e)) ∙ i .whole,
+      after-end v ∙ ap (λ (m : Measure). afterMeasured v (accept m)) (sym (units-none s)) ∙ ap (λ (o : Outcome (List Span)). afterMeasured v (measuredBy (unitsMeasure s) o)) (sym (units-end s here r f e)) ∙ i .whole,
       (omega (arith, i .len, i .fits .before, i .end), omega (arith, i .count, i .fits .before, i .end)),
     )
 
-    pub units-refused : r ≡ L.Malformed → refuse 21 ≡ measuredBy (unitsMeasure s) (unitsFrom s c)
-    units-refused e = ap (λ (o : Outcome (List Span)). behind v (measuredBy (unitsMeasure s) o)) (sym (units-malformed s here r f e)) ∙ i .whole
+    pub units-refused : r ≡ L.Malformed → refuse 21 ≡ measuredBy (unitsMeasure s) (arrayUnitsFrom s c)
+    units-refused e = ap (λ (o : Outcome (List Span)). afterMeasured v (measuredBy (unitsMeasure s) o)) (sym (units-malformed s here r f e)) ∙ i .whole
 
     module _ (a : Span) (next : ListCursor) (e : r ≡ L.Unit a next) where
       pub unit-small : a .len < 2 ^ 32
       unit-small = let h = ahead s here r f a next e in omega (arith, h .on, h .room)
 
-      pub units-add : (v .count + ofUnit (a .len) .count < 2 ^ 32) × (v .len + ofUnit (a .len) .len < 2 ^ 32)
+      pub units-add : (v .count + unitMeasure (a .len) .count < 2 ^ 32) × (v .len + unitMeasure (a .len) .len < 2 ^ 32)
       units-add =
           let h = ahead s here r f a next e in
           (omega (arith, i .count, h .on, h .room), omega (arith, i .len, h .on, h .room))
 
-      pub units-again : MeasuringUnits s c next (joined v (ofUnit (a .len)))
+      pub units-again : MeasuringUnits s c next (joined v (unitMeasure (a .len)))
       units-again =
           let h = ahead s here r f a next e in
           record {
@@ -157,9 +155,9 @@ module _ (s : List ℕ) (c : ListCursor) where
             len = omega (arith, i .len, h .on);
             count = omega (arith, i .count, h .on);
             whole =
-                behind-more v (ofUnit (a .len)) (measuredBy (unitsMeasure s) (unitsFrom s next))
-                ∙ ap (behind v) (sym (units-more s a (h .inside) (unitsFrom s next)))
-                ∙ ap (λ (o : Outcome (List Span)). behind v (measuredBy (unitsMeasure s) o)) (sym (units-next s here r f a next e)) ∙ i .whole;
+                after-more v (unitMeasure (a .len)) (measuredBy (unitsMeasure s) (arrayUnitsFrom s next))
+                ∙ ap (afterMeasured v) (sym (units-more s a (h .inside) (arrayUnitsFrom s next)))
+                ∙ ap (λ (o : Outcome (List Span)). afterMeasured v (measuredBy (unitsMeasure s) o)) (sym (units-next s here r f a next e)) ∙ i .whole;
           }
 
 -- ---- arrays
@@ -193,7 +191,7 @@ module _ (s : List ℕ) (complete t : ℕ) where
       same-measure (omega arith) (omega arith) refl
 
   arrays-more : (m : Measure) (u : Outcome (List Span)) (rest : Outcome (List (Array Span))) → accept m ≡ measuredBy (unitsMeasure s) u
-      → behind (arrayBy t m) (measuredBy (arraysMeasure s) rest) ≡ measuredBy (arraysMeasure s) (andThen u (λ us. more (arrayWith us) rest))
+      → afterMeasured (arrayBy t m) (measuredBy (arraysMeasure s) rest) ≡ measuredBy (arraysMeasure s) (andThen u (λ us. more (arrayWith us) rest))
   arrays-more m (refuse n) rest e = absurd (let z : _≡_ {A = ℕ} 0 1 = cc in omega arith)
   arrays-more m (accept us) (refuse n) e = refl
   arrays-more m (accept us) (accept xs) e =
@@ -223,15 +221,15 @@ module _ (s : List ℕ) (here : ListCursor) (r : ArrayStep) (f : (arraysStepped 
     pub entered : (arraysStepped s (A.Array b c) ≡ arraysFrom s here) × Entered s here b c
     entered = subst (λ (r : ArrayStep). (arraysStepped s r ≡ arraysFrom s here) × ArrayStepFits s here r) e f
 
-    pub unread-measured : refuse 21 ≡ measuredBy (unitsMeasure s) (unitsFrom s c) → refuse 21 ≡ measuredBy (arraysMeasure s) (arraysFrom s here)
-    unread-measured h = arrays-unread s b (c .«unit_type») (unitsFrom s c) (arraysFrom s c) h ∙ ap (measuredBy (arraysMeasure s)) (entered .0)
+    pub unread-measured : refuse 21 ≡ measuredBy (unitsMeasure s) (arrayUnitsFrom s c) → refuse 21 ≡ measuredBy (arraysMeasure s) (arraysFrom s here)
+    unread-measured h = arrays-unread s b (c .«unit_type») (arrayUnitsFrom s c) (arraysFrom s c) h ∙ ap (measuredBy (arraysMeasure s)) (entered .0)
 
-    module _ (m : Measure) (h : accept m ≡ measuredBy (unitsMeasure s) (unitsFrom s c)) (w : (c .at + m .len ≤ c .end) × (c .at + m .count ≤ c .end)) where
+    module _ (m : Measure) (h : accept m ≡ measuredBy (unitsMeasure s) (arrayUnitsFrom s c)) (w : (c .at + m .len ≤ c .end) × (c .at + m .count ≤ c .end)) where
       pub units-few : m .len < 2 ^ 32
       units-few = let g = entered .1 .fits in omega (arith, w .0, g .within, g .lent)
 
       pub array-measured : arrayMeasured s (R.Array (arrayBy (c .«unit_type») m) c) ≡ measuredBy (arraysMeasure s) (arraysFrom s here)
-      array-measured = arrays-more s b (c .«unit_type») m (unitsFrom s c) (arraysFrom s c) h ∙ ap (measuredBy (arraysMeasure s)) (entered .0)
+      array-measured = arrays-more s b (c .«unit_type») m (arrayUnitsFrom s c) (arraysFrom s c) h ∙ ap (measuredBy (arraysMeasure s)) (entered .0)
 
       pub array-takes : Takes s here (arrayBy (c .«unit_type») m) c
       array-takes =
@@ -249,21 +247,21 @@ pub record MeasuringArrays (s : List ℕ) (c here : ListCursor) (v : Measure) : 
   pub fits : Fits s here
   pub len : v .len ≤ here .end
   pub count : v .count ≤ here .end
-  pub whole : behind v (measuredBy (arraysMeasure s) (arraysFrom s here)) ≡ measuredBy (arraysMeasure s) (arraysFrom s c)
+  pub whole : afterMeasured v (measuredBy (arraysMeasure s) (arraysFrom s here)) ≡ measuredBy (arraysMeasure s) (arraysFrom s c)
 
 module _ (s : List ℕ) (c : ListCursor) where
   pub arrays-start : Fits s c → MeasuringArrays s c c nothing
-  arrays-start h = record { fits = h; len = omega arith; count = omega arith; whole = behind-start (measuredBy (arraysMeasure s) (arraysFrom s c)) }
+  arrays-start h = record { fits = h; len = omega arith; count = omega arith; whole = after-start (measuredBy (arraysMeasure s) (arraysFrom s c)) }
 
   module _ (here : ListCursor) (v : Measure) (i : MeasuringArrays s c here v) (r : ArrayMeasured) (f : (arrayMeasured s r ≡ measuredBy (arraysMeasure s) (arraysFrom s here)) × ArrayWithin s here r) where
     pub arrays-ended : r ≡ R.End → (accept v ≡ measuredBy (arraysMeasure s) (arraysFrom s c)) × ((v .len ≤ length s) × (v .count ≤ length s))
     arrays-ended e = (
-      behind-end v ∙ ap (behind v) (sym (ap (arrayMeasured s) e) ∙ f .0) ∙ i .whole,
+      after-end v ∙ ap (afterMeasured v) (sym (ap (arrayMeasured s) e) ∙ f .0) ∙ i .whole,
       (omega (arith, i .len, i .fits .within), omega (arith, i .count, i .fits .within)),
     )
 
     pub arrays-refused : r ≡ R.Malformed → refuse 21 ≡ measuredBy (arraysMeasure s) (arraysFrom s c)
-    arrays-refused e = ap (behind v) (sym (ap (arrayMeasured s) e) ∙ f .0) ∙ i .whole
+    arrays-refused e = ap (afterMeasured v) (sym (ap (arrayMeasured s) e) ∙ f .0) ∙ i .whole
 
     module _ (m : Measure) (d : ListCursor) (e : r ≡ R.Array m d) where
       took : (arrayMeasured s (R.Array m d) ≡ measuredBy (arraysMeasure s) (arraysFrom s here)) × Takes s here m d
@@ -285,5 +283,5 @@ module _ (s : List ℕ) (c : ListCursor) where
             fits = t .fits;
             len = omega (arith, i .len, t .len);
             count = omega (arith, i .count, t .one, t .on);
-            whole = behind-more v m (measuredBy (arraysMeasure s) (arraysFrom s d)) ∙ ap (behind v) (took .0) ∙ i .whole;
+            whole = after-more v m (measuredBy (arraysMeasure s) (arraysFrom s d)) ∙ ap (afterMeasured v) (took .0) ∙ i .whole;
           }

@@ -1,4 +1,4 @@
--- Laws of storing what is found, one thing behind the other: what is stored and what is left make the whole.
+-- Laws of storing what is found, one thing after the other: what is stored and what is left make the whole.
 use Prim.Native.Nat.{ℕ, _+_, _-_, _*_, _≤_, _<_}
 use mathlib.Core.Path.{_≡_, refl, sym, ap, _∙_}
 use mathlib.Core.Bool.{true, false}
@@ -10,14 +10,13 @@ use lib.ListN.{length, set, length-append, length-set}
 use lib.Seq.{sets, length-sets}
 use types.Run.{OneOf}
 use denote.Enum.Declared.{tagOf}
-use Rattle.error.specs.Outcome.{Outcome, accept, refuse, andThen}
+use Rattle.parse.specs.Outcome.{Outcome, accept, refuse, andThen}
 use Rattle.boxes.specs.Bytes.{toBe, toChunk}
 use Rattle.boxes.specs.Parts.{held}
-use Rattle.boxes.specs.Walk.{more}
 use Rattle.boxes.specs.declared.Span.{Span}
 use Rattle.boxes.proofs.Sets.{sets-append}
 use Rattle.unit_list.specs.UnitList.{Array, largestType, encodeUnits, heldArray}
-use Rattle.unit_list.specs.Walk.{unitsFrom, unitsStepped, UnitStepFits, arraysFrom, arraysStepped, ArrayStepFits, Fits}
+use Rattle.unit_list.specs.inner.Walk.{arrayUnitsFrom, unitsStepped, UnitStepFits, arraysFrom, arraysStepped, ArrayStepFits, Fits}
 use Rattle.unit_list.specs.declared.ListCursor.{ListCursor}
 use Rattle.unit_list.specs.declared.ListStep.{ListStep}
 use Rattle.unit_list.specs.declared.ListStep.the-variants as L
@@ -29,9 +28,10 @@ use Rattle.unit_list.proofs.Encode.{length-toChunk}
 use Rattle.unit_list.proofs.Accepted.{held-long}
 use Rattle.record_arrays.specs.Read.{holdsOne}
 use Rattle.record_arrays.specs.Write.{arrayBytes, arraysBytes}
-use Rattle.record_arrays_write.specs.Inside.{unitsMeasure, measuredBy, Puts, bytesOf, unitsInRecord, countBytes, arrayInRecord, arraysInRecord}
+use Rattle.record_arrays_write.specs.inner.Measures.{unitsMeasure, measuredBy, Puts, bytesOf, unitsInRecord, countBytes, arrayInRecord, arraysInRecord}
 use Rattle.record_arrays_write.specs.declared.measure.Measure.{Measure}
 use Rattle.record_arrays_write.proofs.Measures.{ahead, units-next, entered, arrayWith}
+use Rattle.boxes.specs.inner.Walk.{more}
 
 -- what is to be put, once it is known what was found
 pub put-room : {A : Type 0} (f : A → List ℕ) (o : Outcome A) (out : List ℕ) (to : ℕ) → Puts f o out to → to + length (bytesOf f o) ≤ length out
@@ -102,23 +102,23 @@ units-first s a us = refl
 -- the walk from c has come to `here`
 pub record PuttingUnits (s : List ℕ) (c : ListCursor) (out₀ : List ℕ) (to₀ : ℕ) (here : ListCursor) (out : List ℕ) (to : ℕ) : Type 0 where
   pub fits : Fits s here
-  pub putting : Putting (unitsInRecord s) out₀ to₀ (unitsFrom s c) (unitsFrom s here) out to
+  pub putting : Putting (unitsInRecord s) out₀ to₀ (arrayUnitsFrom s c) (arrayUnitsFrom s here) out to
 
 module _ (s : List ℕ) (c : ListCursor) (out₀ : List ℕ) (to₀ : ℕ) where
-  pub units-start : Fits s c → Puts (unitsInRecord s) (unitsFrom s c) out₀ to₀ → PuttingUnits s c out₀ to₀ c out₀ to₀
-  units-start h p = record { fits = h; putting = putting-start (unitsInRecord s) out₀ to₀ (unitsFrom s c) p }
+  pub units-start : Fits s c → Puts (unitsInRecord s) (arrayUnitsFrom s c) out₀ to₀ → PuttingUnits s c out₀ to₀ c out₀ to₀
+  units-start h p = record { fits = h; putting = putting-start (unitsInRecord s) out₀ to₀ (arrayUnitsFrom s c) p }
 
   module _ (here : ListCursor) (out : List ℕ) (to : ℕ) (i : PuttingUnits s c out₀ to₀ here out to) (r : ListStep)
-      (f : (unitsStepped s r ≡ unitsFrom s here) × UnitStepFits s here r) where
+      (f : (unitsStepped s r ≡ arrayUnitsFrom s here) × UnitStepFits s here r) where
     pub units-done : OneOf (1 ∷ 2 ∷ []) (tagOf list-step.the-type r)
-        → (to ≡ to₀ + length (bytesOf (unitsInRecord s) (unitsFrom s c))) × (out ≡ sets out₀ to₀ (bytesOf (unitsInRecord s) (unitsFrom s c)))
+        → (to ≡ to₀ + length (bytesOf (unitsInRecord s) (arrayUnitsFrom s c))) × (out ≡ sets out₀ to₀ (bytesOf (unitsInRecord s) (arrayUnitsFrom s c)))
     units-done = go r f
       where
-        go : (r : ListStep) → (unitsStepped s r ≡ unitsFrom s here) × UnitStepFits s here r → OneOf (1 ∷ 2 ∷ []) (tagOf list-step.the-type r)
-            → (to ≡ to₀ + length (bytesOf (unitsInRecord s) (unitsFrom s c))) × (out ≡ sets out₀ to₀ (bytesOf (unitsInRecord s) (unitsFrom s c)))
+        go : (r : ListStep) → (unitsStepped s r ≡ arrayUnitsFrom s here) × UnitStepFits s here r → OneOf (1 ∷ 2 ∷ []) (tagOf list-step.the-type r)
+            → (to ≡ to₀ + length (bytesOf (unitsInRecord s) (arrayUnitsFrom s c))) × (out ≡ sets out₀ to₀ (bytesOf (unitsInRecord s) (arrayUnitsFrom s c)))
         go (L.Unit a next) f k = absurd (⊎-elim (λ h. omega arith) (λ h. omega arith) k)
-        go L.End f k = putting-end (unitsInRecord s) out₀ to₀ (unitsFrom s c) (unitsFrom s here) out to (i .putting) (units-nil s) (sym (f .0))
-        go L.Malformed f k = absurd (putting-never (unitsInRecord s) out₀ to₀ (unitsFrom s c) (unitsFrom s here) out to (i .putting) 21 (sym (f .0)))
+        go L.End f k = putting-end (unitsInRecord s) out₀ to₀ (arrayUnitsFrom s c) (arrayUnitsFrom s here) out to (i .putting) (units-nil s) (sym (f .0))
+        go L.Malformed f k = absurd (putting-never (unitsInRecord s) out₀ to₀ (arrayUnitsFrom s c) (arrayUnitsFrom s here) out to (i .putting) 21 (sym (f .0)))
 
     module _ (a : Span) (next : ListCursor) (e : r ≡ L.Unit a next) where
       unit-long : length (toChunk 2 (held s a)) ≡ 2 + a .len
@@ -126,7 +126,7 @@ module _ (s : List ℕ) (c : ListCursor) (out₀ : List ℕ) (to₀ : ℕ) where
 
       pub unit-room : (a .start + a .len ≤ length s) × (to + 2 + a .len ≤ length out)
       unit-room =
-          let h = putting-room (unitsInRecord s) out₀ to₀ (unitsFrom s c) (unitsFrom s here) out to (i .putting) a (toChunk 2 (held s a)) (units-first s a) (unitsFrom s next) (units-next s here r f a next e) in
+          let h = putting-room (unitsInRecord s) out₀ to₀ (arrayUnitsFrom s c) (arrayUnitsFrom s here) out to (i .putting) a (toChunk 2 (held s a)) (units-first s a) (arrayUnitsFrom s next) (units-next s here r f a next e) in
           (ahead s here r f a next e .inside, omega (arith, unit-long))
 
       pub units-less : length s - next .at < length s - here .at
@@ -137,13 +137,13 @@ module _ (s : List ℕ) (c : ListCursor) (out₀ : List ℕ) (to₀ : ℕ) where
           record {
             fits = ahead s here r f a next e .fits;
             putting =
-                putting-again (unitsInRecord s) out₀ to₀ (unitsFrom s c) (unitsFrom s here) out to (i .putting) a (toChunk 2 (held s a)) (units-first s a)
-                (unitsFrom s next) (units-next s here r f a next e) d g (to + 2 + a .len) (omega (arith, unit-long));
+                putting-again (unitsInRecord s) out₀ to₀ (arrayUnitsFrom s c) (arrayUnitsFrom s here) out to (i .putting) a (toChunk 2 (held s a)) (units-first s a)
+                (arrayUnitsFrom s next) (units-next s here r f a next e) d g (to + 2 + a .len) (omega (arith, unit-long));
           }
 
 -- ---- one array
 
--- a byte and two runs, stored one behind the other
+-- a byte and two runs, stored one after the other
 pub three-stored : (d : List ℕ) (to x : ℕ) (xs ys : List ℕ) → sets (sets (set d to x) (to + 1) xs) (to + 1 + length xs) ys ≡ sets d to (x ∷ (xs ++ ys))
 three-stored d to x xs ys = rw (add-one to) (sets-append (set d to x) _ xs ys)
 
@@ -249,13 +249,13 @@ module _ (s : List ℕ) (c₀ : ListCursor) (out₀ : List ℕ) (to₀ : ℕ) wh
       -- the units of this array, since all are found
       pub record HasUnits : Type 0 where
         pub units : List Span
-        pub found : unitsFrom s c ≡ accept units
+        pub found : arrayUnitsFrom s c ≡ accept units
         pub next : arraysFrom s here ≡ more (arrayWith s b (c .«unit_type») units) (arraysFrom s c)
 
       has-units : HasUnits
-      has-units = go (unitsFrom s c) refl
+      has-units = go (arrayUnitsFrom s c) refl
         where
-          go : (u : Outcome (List Span)) → unitsFrom s c ≡ u → HasUnits
+          go : (u : Outcome (List Span)) → arrayUnitsFrom s c ≡ u → HasUnits
           go (accept us) w =
               record {
                 units = us;
@@ -268,7 +268,7 @@ module _ (s : List ℕ) (c₀ : ListCursor) (out₀ : List ℕ) (to₀ : ℕ) wh
               (sym (entered s here r f b c e .0)
               ∙ ap (λ (o : Outcome (List Span)). andThen o (λ us. more (arrayWith s b (c .«unit_type») us) (arraysFrom s c))) w))
 
-      pub array-needs : (b ≤ 1) × (c .«unit_type» ≤ largestType) × Fits s c × Puts (arrayInRecord s b (c .«unit_type»)) (unitsFrom s c) out to
+      pub array-needs : (b ≤ 1) × (c .«unit_type» ≤ largestType) × Fits s c × Puts (arrayInRecord s b (c .«unit_type»)) (arrayUnitsFrom s c) out to
       array-needs =
           let g = entered s here r f b c e .1 in
           let u = has-units in
@@ -276,7 +276,7 @@ module _ (s : List ℕ) (c₀ : ListCursor) (out₀ : List ℕ) (to₀ : ℕ) wh
             g .complete,
             g .unitType,
             g .fits,
-            puts-found (arrayInRecord s b (c .«unit_type»)) (unitsFrom s c) out to (u .units) (u .found)
+            puts-found (arrayInRecord s b (c .«unit_type»)) (arrayUnitsFrom s c) out to (u .units) (u .found)
                 (putting-room (arraysInRecord s) out₀ to₀ (arraysFrom s c₀) (arraysFrom s here) out to (i .putting) a (arrayBytes (heldArray s a)) (arrays-first s a) (arraysFrom s c) (u .next)),
           )
 
@@ -284,13 +284,13 @@ module _ (s : List ℕ) (c₀ : ListCursor) (out₀ : List ℕ) (to₀ : ℕ) wh
       arrays-less = let g = entered s here r f b c e .1 in omega (arith, g .first, g .fits .before, g .fits .within)
 
       pub arrays-again : (next : ℕ) (d : List ℕ)
-          → (next ≡ to + length (bytesOf (arrayInRecord s b (c .«unit_type»)) (unitsFrom s c))) × (d ≡ sets out to (bytesOf (arrayInRecord s b (c .«unit_type»)) (unitsFrom s c)))
+          → (next ≡ to + length (bytesOf (arrayInRecord s b (c .«unit_type»)) (arrayUnitsFrom s c))) × (d ≡ sets out to (bytesOf (arrayInRecord s b (c .«unit_type»)) (arrayUnitsFrom s c)))
           → PuttingArrays s c₀ out₀ to₀ c d next
       arrays-again next d h =
           let g = entered s here r f b c e .1 in
           let u = has-units in
           let a = arrayWith s b (c .«unit_type») (u .units) in
-          let w : bytesOf (arrayInRecord s b (c .«unit_type»)) (unitsFrom s c) ≡ arrayBytes (heldArray s a) = ap (bytesOf (arrayInRecord s b (c .«unit_type»))) (u .found) in
+          let w : bytesOf (arrayInRecord s b (c .«unit_type»)) (arrayUnitsFrom s c) ≡ arrayBytes (heldArray s a) = ap (bytesOf (arrayInRecord s b (c .«unit_type»))) (u .found) in
           record {
             fits = g .fits;
             putting =

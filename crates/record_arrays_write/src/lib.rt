@@ -1,3 +1,3 @@
-// For the crates further down: the arrays of a unit list written as those of a full record.
+// Internal: the arrays of a unit list written as those of a full record.
 pub mod measure;
 pub mod put;

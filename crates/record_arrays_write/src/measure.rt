@@ -1,12 +1,12 @@
-// For the crates further down: the arrays of a list measured as those of a full record.
+// Internal: the arrays of a list measured as those of a full record.
 use unit_list::ArrayStep;
 use unit_list::ListCursor;
 use unit_list::ListStep;
 use unit_list::walk;
 ghost use mathlib.Core.Path.{_≡_};
 ghost use Prim.Native.Nat.{_+_, _<_, _^_};
-ghost use Rattle.unit_list.specs.Walk.{Fits, unitsFrom, arraysFrom};
-ghost use Rattle.record_arrays_write.specs.Inside.{joined, ofUnit, arrayFitsBy, arrayBy, measuredBy, unitsMeasure, arraysMeasure, measureOf, UnitsWithin, ArraysWithin, arrayMeasured, ArrayWithin};
+ghost use Rattle.unit_list.specs.inner.Walk.{Fits, arrayUnitsFrom, arraysFrom};
+ghost use Rattle.record_arrays_write.specs.inner.Measures.{joined, unitMeasure, arrayFitsBy, arrayBy, measuredBy, unitsMeasure, arraysMeasure, measureOf, UnitsWithin, ArraysWithin, arrayMeasured, ArrayWithin};
 
 // Units or arrays: how many, the bytes that they take in a record, and whether all fit their places.
 pub struct Measure {
@@ -21,7 +21,7 @@ pub enum RecordMeasure {
     Malformed,
 }
 
-// One array and the cursor whose end is behind it, the end, or that the list is malformed.
+// One array and the cursor whose end is after it, the end, or that the list is malformed.
 pub enum ArrayMeasured {
     Array(Measure, ListCursor),
     End,
@@ -50,10 +50,10 @@ fn add(a: Measure, b: Measure) -> Measure
     }
 }
 
-// A unit of so many bytes, behind a length of two bytes.
+// A unit of so many bytes, after a length of two bytes.
 fn of_unit(len: usize) -> Measure
     requires { ⌜ len < 2 ^ 32 ⌝ }
-    ensures { λ r. ⌜ r ≡ ofUnit len ⌝ }
+    ensures { λ r. ⌜ r ≡ unitMeasure len ⌝ }
 {
     Measure {
         count: 1,
@@ -92,10 +92,10 @@ fn of_array(t: u8, units: Measure) -> Measure
     }
 }
 
-// The units behind a cursor, up to the end of its array.
+// The units after a cursor, up to the end of its array.
 pub fn measure_units(list: &[u8], c: ListCursor) -> RecordMeasure
     requires { ⌜ Fits (now list) c ⌝ }
-    ensures { λ r. ⌜ (measureOf r ≡ measuredBy (unitsMeasure (now (list .entry))) (unitsFrom (now (list .entry)) c)) × UnitsWithin c r ⌝ }
+    ensures { λ r. ⌜ (measureOf r ≡ measuredBy (unitsMeasure (now (list .entry))) (arrayUnitsFrom (now (list .entry)) c)) × UnitsWithin c r ⌝ }
 {
     let mut here = c;
     let mut sum = Measure {
@@ -115,7 +115,7 @@ pub fn measure_units(list: &[u8], c: ListCursor) -> RecordMeasure
     }
 }
 
-// The array behind a cursor's end.
+// The array after a cursor's end.
 fn measure_array(list: &[u8], c: ListCursor) -> ArrayMeasured
     requires { ⌜ Fits (now list) c ⌝ }
     ensures { λ r. ⌜ (arrayMeasured (now (list .entry)) r ≡ measuredBy (arraysMeasure (now (list .entry))) (arraysFrom (now (list .entry)) c)) × ArrayWithin (now (list .entry)) c r ⌝ }
@@ -132,7 +132,7 @@ fn measure_array(list: &[u8], c: ListCursor) -> ArrayMeasured
     }
 }
 
-// The arrays behind a cursor's end.
+// The arrays after a cursor's end.
 pub fn measure_arrays(list: &[u8], c: ListCursor) -> RecordMeasure
     requires { ⌜ Fits (now list) c ⌝ }
     ensures { λ r. ⌜ (measureOf r ≡ measuredBy (arraysMeasure (now (list .entry))) (arraysFrom (now (list .entry)) c)) × ArraysWithin (now (list .entry)) r ⌝ }

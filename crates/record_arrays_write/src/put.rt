@@ -1,4 +1,4 @@
-// For the crates further down: the arrays of a list stored as those of a full record.
+// Internal: the arrays of a list stored as those of a full record.
 use super::measure;
 use super::measure::RecordMeasure;
 use boxes::place;
@@ -12,13 +12,13 @@ ghost use Prim.Native.Nat.{_+_, _≤_};
 ghost use lib.ListN.{length};
 ghost use lib.Seq.{sets};
 ghost use Rattle.unit_list.specs.UnitList.{largestType};
-ghost use Rattle.unit_list.specs.Walk.{Fits, unitsFrom, arraysFrom};
-ghost use Rattle.record_arrays_write.specs.Inside.{Puts, bytesOf, unitsInRecord, countBytes, arrayInRecord, arraysInRecord};
+ghost use Rattle.unit_list.specs.inner.Walk.{Fits, arrayUnitsFrom, arraysFrom};
+ghost use Rattle.record_arrays_write.specs.inner.Measures.{Puts, bytesOf, unitsInRecord, countBytes, arrayInRecord, arraysInRecord};
 
-// Stores the units behind a cursor, up to the end of its array, and gives the place behind them.
+// Stores the units after a cursor, up to the end of its array, and gives the place after them.
 fn put_units(list: &[u8], c: ListCursor, out: &mut [u8], to: usize) -> usize
-    requires { ⌜ Fits (now list) c × Puts (unitsInRecord (now list)) (unitsFrom (now list) c) (now out) to ⌝ }
-    ensures { λ r. ⌜ (r ≡ to + length (bytesOf (unitsInRecord (now (list .entry))) (unitsFrom (now (list .entry)) c))) × (now (out .exit) ≡ sets (now (out .entry)) to (bytesOf (unitsInRecord (now (list .entry))) (unitsFrom (now (list .entry)) c))) ⌝ }
+    requires { ⌜ Fits (now list) c × Puts (unitsInRecord (now list)) (arrayUnitsFrom (now list) c) (now out) to ⌝ }
+    ensures { λ r. ⌜ (r ≡ to + length (bytesOf (unitsInRecord (now (list .entry))) (arrayUnitsFrom (now (list .entry)) c))) × (now (out .exit) ≡ sets (now (out .entry)) to (bytesOf (unitsInRecord (now (list .entry))) (arrayUnitsFrom (now (list .entry)) c))) ⌝ }
 {
     let mut here = c;
     let mut at = to;
@@ -32,10 +32,10 @@ fn put_units(list: &[u8], c: ListCursor, out: &mut [u8], to: usize) -> usize
     }
 }
 
-// Stores the count of the units behind a cursor, where the array has one, and gives the place behind it.
+// Stores the count of the units after a cursor, where the array has one, and gives the place after it.
 fn put_count(list: &[u8], c: ListCursor, out: &mut [u8], to: usize) -> usize
-    requires { ⌜ Fits (now list) c × Puts (countBytes (now list) (c .«unit_type»)) (unitsFrom (now list) c) (now out) to ⌝ }
-    ensures { λ r. ⌜ (r ≡ to + length (bytesOf (countBytes (now (list .entry)) (c .«unit_type»)) (unitsFrom (now (list .entry)) c))) × (now (out .exit) ≡ sets (now (out .entry)) to (bytesOf (countBytes (now (list .entry)) (c .«unit_type»)) (unitsFrom (now (list .entry)) c))) ⌝ }
+    requires { ⌜ Fits (now list) c × Puts (countBytes (now list) (c .«unit_type»)) (arrayUnitsFrom (now list) c) (now out) to ⌝ }
+    ensures { λ r. ⌜ (r ≡ to + length (bytesOf (countBytes (now (list .entry)) (c .«unit_type»)) (arrayUnitsFrom (now (list .entry)) c))) × (now (out .exit) ≡ sets (now (out .entry)) to (bytesOf (countBytes (now (list .entry)) (c .«unit_type»)) (arrayUnitsFrom (now (list .entry)) c))) ⌝ }
 {
     if record_arrays::array::holds_one(c.unit_type) {
         return to;
@@ -47,10 +47,10 @@ fn put_count(list: &[u8], c: ListCursor, out: &mut [u8], to: usize) -> usize
     to + 2
 }
 
-// Stores an array, whose units stand behind a cursor, and gives the place behind it.
+// Stores an array, whose units follow a cursor, and gives the place after it.
 fn put_array(list: &[u8], complete: u8, c: ListCursor, out: &mut [u8], to: usize) -> usize
-    requires { ⌜ (complete ≤ 1) × (c .«unit_type» ≤ largestType) × Fits (now list) c × Puts (arrayInRecord (now list) complete (c .«unit_type»)) (unitsFrom (now list) c) (now out) to ⌝ }
-    ensures { λ r. ⌜ (r ≡ to + length (bytesOf (arrayInRecord (now (list .entry)) complete (c .«unit_type»)) (unitsFrom (now (list .entry)) c))) × (now (out .exit) ≡ sets (now (out .entry)) to (bytesOf (arrayInRecord (now (list .entry)) complete (c .«unit_type»)) (unitsFrom (now (list .entry)) c))) ⌝ }
+    requires { ⌜ (complete ≤ 1) × (c .«unit_type» ≤ largestType) × Fits (now list) c × Puts (arrayInRecord (now list) complete (c .«unit_type»)) (arrayUnitsFrom (now list) c) (now out) to ⌝ }
+    ensures { λ r. ⌜ (r ≡ to + length (bytesOf (arrayInRecord (now (list .entry)) complete (c .«unit_type»)) (arrayUnitsFrom (now (list .entry)) c))) × (now (out .exit) ≡ sets (now (out .entry)) to (bytesOf (arrayInRecord (now (list .entry)) complete (c .«unit_type»)) (arrayUnitsFrom (now (list .entry)) c))) ⌝ }
 {
     let first = record_arrays::array::array_byte(complete, c.unit_type);
     place::put(out, to, first);
@@ -58,7 +58,7 @@ fn put_array(list: &[u8], complete: u8, c: ListCursor, out: &mut [u8], to: usize
     put_units(list, c, out, units_at)
 }
 
-// Stores the arrays behind a cursor's end.
+// Stores the arrays after a cursor's end.
 pub fn put_arrays(list: &[u8], c: ListCursor, out: &mut [u8], to: usize)
     requires { ⌜ Fits (now list) c × Puts (arraysInRecord (now list)) (arraysFrom (now list) c) (now out) to ⌝ }
     ensures { λ _. ⌜ now (out .exit) ≡ sets (now (out .entry)) to (bytesOf (arraysInRecord (now (list .entry))) (arraysFrom (now (list .entry)) c)) ⌝ }

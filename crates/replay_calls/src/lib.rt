@@ -57,8 +57,8 @@ fn answered(input: &[u8], n: usize, m: usize, k: usize, lent: &mut [u8], out: &m
     let second = part(input, third_at, k);
     text::fill(lent, fill);
     let at = text::put_decimal(out, 0, op as u64);
-    let behind = answer(op, fill, numbers, first, second, lent, out, at);
-    let shown = text::put_bytes(out, behind, lent);
+    let after = answer(op, fill, numbers, first, second, lent, out, at);
+    let shown = text::put_bytes(out, after, lent);
     text::put(out, shown, b'\n')
 }
 

@@ -1,4 +1,4 @@
-// A PTL in the answers of `replay`, as text. An array is shown up to its count, with any entry behind that is not 0.
+// A PTL in the answers of `replay`, as text. An array is shown up to its count, with any entry after that is not 0.
 use ptl::VvcPtlRecord;
 use replay_text::text;
 
@@ -27,7 +27,7 @@ fn sub_profile_if(out: &mut [u8], at: usize, wanted: bool, v: u32) -> usize {
     text::put_byte(out, third, (v % 256) as u8)
 }
 
-// The constraint bytes up to a count, and any byte behind that is not 0.
+// The constraint bytes up to a count, and any byte after that is not 0.
 fn constraints(out: &mut [u8], at: usize, n: usize, bytes: &[u8; 63]) -> usize {
     let mut end = text::put_all(out, at, b" =");
     let mut i: usize = 0;
@@ -38,7 +38,7 @@ fn constraints(out: &mut [u8], at: usize, n: usize, bytes: &[u8; 63]) -> usize {
     end
 }
 
-// The levels up to a count, and any behind that is not absent and 0.
+// The levels up to a count, and any after that is not absent and 0.
 fn levels(out: &mut [u8], at: usize, n: usize, present: &[bool; 7], bytes: &[u8; 7]) -> usize {
     let mut end = text::put_all(out, at, b" =");
     let mut i: usize = 0;
@@ -49,7 +49,7 @@ fn levels(out: &mut [u8], at: usize, n: usize, present: &[bool; 7], bytes: &[u8;
     end
 }
 
-// The sub-profiles up to a count, and any behind that is not 0.
+// The sub-profiles up to a count, and any after that is not 0.
 fn sub_profiles(out: &mut [u8], at: usize, n: usize, values: &[u32; 255]) -> usize {
     let mut end = text::put_all(out, at, b" =");
     let mut i: usize = 0;
@@ -60,7 +60,7 @@ fn sub_profiles(out: &mut [u8], at: usize, n: usize, values: &[u32; 255]) -> usi
     end
 }
 
-// The numbers of a PTL that stand in front of its arrays.
+// The numbers of a PTL that come before its arrays.
 fn ptl_numbers(out: &mut [u8], at: usize, p: VvcPtlRecord) -> usize {
     let first = text::put_small(out, at, p.general_profile_idc);
     let second = text::put_flag(out, first, p.general_tier_flag);
@@ -69,7 +69,7 @@ fn ptl_numbers(out: &mut [u8], at: usize, p: VvcPtlRecord) -> usize {
     text::put_flag(out, fourth, p.ptl_multilayer_enabled_flag)
 }
 
-// A PTL: its numbers, then each array behind its count.
+// A PTL: its numbers, then each array after its count.
 pub fn put_ptl(out: &mut [u8], at: usize, p: VvcPtlRecord) -> usize {
     let bytes = p.general_constraint_info;
     let present = p.sublayer_level_present_flag;

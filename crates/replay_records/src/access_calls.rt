@@ -1,4 +1,4 @@
-// For the crates further down: the calls of `access_unit`, `access_unit_annex_b` and `access_unit_nal`.
+// Internal: the calls of `access_unit`, `access_unit_annex_b` and `access_unit_nal`.
 use access_unit::Target;
 use full::VvcConfig;
 use replay_text::fields;

@@ -1,4 +1,4 @@
-// For the crates further down: the calls of `compact` and `expand`.
+// Internal: the calls of `compact` and `expand`.
 use boxes::place;
 use compact::CompactRead;
 use expand::ExpandAnswer;

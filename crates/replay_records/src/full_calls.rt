@@ -1,4 +1,4 @@
-// For the crates further down: the calls of `ptl`, `full`, `full_read`, `full_write` and `sample_format`.
+// Internal: the calls of `ptl`, `full`, `full_read`, `full_write` and `sample_format`.
 use boxes::place;
 use full::BitDepth;
 use full::VvcConfig;

@@ -1,4 +1,4 @@
-// For the crates further down: numbers of a case at a place, each byte past the end read as 0.
+// Internal: numbers of a case at a place, each byte past the end read as 0.
 use crate::text;
 use boxes::place;
 ghost use Prim.Native.Nat.{_<_};

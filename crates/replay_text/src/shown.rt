@@ -1,4 +1,4 @@
-// For the crates further down: answers as text. The number of the refusal stands first, 0 where there is none.
+// Internal: answers as text. The number of the refusal stands first, 0 where there is none.
 use crate::text;
 use boxes::Field;
 use boxes::Span;
@@ -52,15 +52,15 @@ pub fn written(out: &mut [u8], at: usize, r: Written) -> usize {
     }
 }
 
-// A field and the place behind it.
+// A field and the place after it.
 pub fn field(out: &mut [u8], at: usize, r: Field) -> usize {
     match r {
-        Field::Value(n, behind) => pair(out, at, n as usize, behind),
+        Field::Value(n, after) => pair(out, at, n as usize, after),
         Field::Refused(e) => refused(out, at, e),
     }
 }
 
-// A part, which a call with no refusal of its own hands back.
+// A part, which a call with no refusal of its own returns.
 pub fn part(out: &mut [u8], at: usize, bytes: &[u8]) -> usize {
     let next = accepted(out, at);
     text::put_bytes(out, next, bytes)
@@ -72,10 +72,10 @@ fn lying(out: &mut [u8], at: usize, which: usize, a: Span) -> usize {
     text::put_number(out, next, a.len as u64)
 }
 
-// Where a unit lies, and the place behind it.
-pub fn span(out: &mut [u8], at: usize, a: Span, behind: usize) -> usize {
+// Where a unit lies, and the place after it.
+pub fn span(out: &mut [u8], at: usize, a: Span, after: usize) -> usize {
     let next = lying(out, at, 1, a);
-    text::put_number(out, next, behind as u64)
+    text::put_number(out, next, after as u64)
 }
 
 // Where unit k lies: 1 or 2 for the first or the second input, start and length; 0 past the last.

@@ -1,4 +1,4 @@
-// For the crates further down: the answer line, a text that is written from its front on, and hexadecimal digits.
+// Internal: the answer line, a text that is written from its front on, and hexadecimal digits.
 ghost use mathlib.Core.Path.{_≡_};
 ghost use Prim.Native.Nat.{_-_, _≤_};
 
@@ -29,7 +29,7 @@ pub fn front(s: &[u8], n: usize) -> &[u8] {
     &s[..0]
 }
 
-// One character at a place, and the place behind it; a full text stays as it is.
+// One character at a place, and the place after it; a full text stays as it is.
 pub fn put(text: &mut [u8], at: usize, c: u8) -> usize {
     if at < text.len() {
         text[at] = c;

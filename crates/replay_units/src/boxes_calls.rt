@@ -1,4 +1,4 @@
-// For the crates further down: the calls of `error` and `boxes`.
+// Internal: the calls of `error` and `boxes`.
 use boxes::place;
 use error::Refusal;
 use replay_text::fields;

@@ -1,4 +1,4 @@
-// For the crates further down: the calls of `unit_list`.
+// Internal: the calls of `unit_list`.
 use boxes::place;
 use replay_text::fields;
 use replay_text::shown;

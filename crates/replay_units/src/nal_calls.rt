@@ -1,4 +1,4 @@
-// For the crates further down: the calls of `nal`.
+// Internal: the calls of `nal`.
 use boxes::place;
 use nal::HeaderField;
 use nal::UnitCheck;

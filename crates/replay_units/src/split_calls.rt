@@ -1,13 +1,13 @@
-// For the crates further down: the calls of `split`.
+// Internal: the calls of `split`.
 use boxes::place;
 use replay_text::fields;
 use replay_text::shown;
 use split::NextUnit;
 
-// The next unit: 1, where it lies and the place behind it, or 0 where there is none.
+// The next unit: 1, where it lies and the place after it, or 0 where there is none.
 fn next(r: NextUnit, text: &mut [u8], at: usize) -> usize {
     match r {
-        NextUnit::Unit(a, behind) => shown::span(text, at, a, behind),
+        NextUnit::Unit(a, after) => shown::span(text, at, a, after),
         NextUnit::End => shown::number(text, at, 0),
         NextUnit::Refused(e) => shown::refused(text, at, e),
     }

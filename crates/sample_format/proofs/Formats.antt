@@ -9,8 +9,8 @@ use mathlib.Core.Logic.{⊎-elim}
 use lib.ListN.{length}
 use types.Run.{OneOf}
 use denote.Enum.Declared.{tagOf}
-use Rattle.error.specs.Logic.{if_then_else_}
-use Rattle.error.specs.Outcome.{Outcome, accept, refuse, andThen, handsBack}
+use Rattle.parse.specs.Logic.{if_then_else_}
+use Rattle.parse.specs.Outcome.{Outcome, accept, refuse, andThen, handsBack}
 use Rattle.error.specs.Refusals.{numberOf}
 use Rattle.error.specs.declared.Refusal.{Refusal}
 use Rattle.boxes.specs.Parts.{held}
@@ -21,7 +21,7 @@ use Rattle.boxes.specs.declared.UnitPlace.the-variants as U
 use Rattle.boxes.proofs.UnitPlace.{the-type}
 use Rattle.unit_list.specs.UnitList.{Array, decode, unitsOfType}
 use Rattle.sps.specs.Sps.{parseSps, zeroSps}
-use Rattle.params.specs.Answers.{readOf}
+use Rattle.params.specs.Answers.{paramsReadOf}
 use Rattle.sps.specs.Answers.{spsOf, spsGiven}
 use Rattle.params.specs.declared.ParamsAnswer.the-variants as A
 use Rattle.sps.specs.declared.SpsHead.{SpsHead}
@@ -44,7 +44,7 @@ module _ (h : VvcConfig) (r : BitDepth) (e : depthOf r ≡ bitDepth h) where
 
 -- ---- an SPS
 module _ (s : List ℕ) (r : SpsRead) (e : spsOf r ≡ spsGiven s) where
-  answered : readOf (r .answer) (r .head) ≡ parseSps s
+  answered : paramsReadOf (r .answer) (r .head) ≡ parseSps s
   answered = ap (λ (x : Outcome SpsHead × SpsHead). x .0) e ∙ same (parseSps s)
     where
       same : (o : Outcome SpsHead) → handsBack (λ h. h) zeroSps o .0 ≡ o
@@ -53,11 +53,11 @@ module _ (s : List ℕ) (r : SpsRead) (e : spsOf r ≡ spsGiven s) where
 
   pub sps-read : r .answer ≡ A.Read → accept (record { chroma = r .head .«chroma_format_idc»; depth = r .head .«bit_depth» }) ≡ spsFormatOf s
   unfolding spsFormatOf
-  sps-read f = let g : parseSps s ≡ accept (r .head) = sym answered ∙ ap (λ a. readOf a (r .head)) f in rw g
+  sps-read f = let g : parseSps s ≡ accept (r .head) = sym answered ∙ ap (λ a. paramsReadOf a (r .head)) f in rw g
 
   pub sps-refused : (n : Refusal) → r .answer ≡ A.Refused n → refuse (numberOf n) ≡ spsFormatOf s
   unfolding spsFormatOf
-  sps-refused n f = let g : parseSps s ≡ refuse (numberOf n) = sym answered ∙ ap (λ a. readOf a (r .head)) f in rw g
+  sps-refused n f = let g : parseSps s ≡ refuse (numberOf n) = sym answered ∙ ap (λ a. paramsReadOf a (r .head)) f in rw g
 
 -- ---- a list
 

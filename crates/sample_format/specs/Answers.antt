@@ -1,5 +1,5 @@
 -- What the answer of this crate says.
-use Rattle.error.specs.Outcome.{Outcome, accept, refuse}
+use Rattle.parse.specs.Outcome.{Outcome, accept, refuse}
 use Rattle.error.specs.Refusals.{numberOf}
 use Rattle.sample_format.specs.Format.{Format}
 use Rattle.sample_format.specs.declared.SampleFormat.{SampleFormat}

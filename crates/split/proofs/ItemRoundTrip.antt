@@ -4,8 +4,8 @@ use mathlib.Core.Path.{_≡_, refl, sym, ap, _∙_}
 use mathlib.Core.List.{List, [], _∷_, _++_, map, append-nil, append-assoc}
 use native.Mathlib.Omega.{arith}
 use lib.ListN.{length, getD, length-append, length-map}
-use Rattle.error.specs.Outcome.{accept}
-use Rattle.error.specs.Parse.{value}
+use Rattle.parse.specs.Outcome.{accept}
+use Rattle.parse.specs.Parse.{value}
 use Rattle.boxes.specs.Bytes.{be, toBe, chunk, toChunk}
 use Rattle.boxes.specs.Parts.{held}
 use Rattle.boxes.specs.Walk.{countFound}
@@ -13,8 +13,8 @@ use Rattle.boxes.specs.declared.Span.{Span}
 use Rattle.boxes.proofs.Numbers.{length-toBe}
 use Rattle.boxes.proofs.Fields.{chunk-read, chunk-toChunk, held-toChunk}
 use Rattle.split.specs.Item.{splitItem, toItem}
-use Rattle.split.specs.Answers.{leftOf}
 use Rattle.split.proofs.Items.{left-more, left-end, items-left, split-lent}
+use Rattle.split.specs.inner.Walk.{itemUnitsFrom}
 
 -- no unit is empty, and each fits a length of so many bytes
 abbrev pub AllFit : ℕ → List (List ℕ) → Type 0
@@ -31,9 +31,9 @@ module _ (size : ℕ) (s : List ℕ) where
   unfolding toChunk
   length-chunk u = length-append (toBe size (length u)) u ∙ rw (length-toBe size (length u))
 
-  -- units that stand behind other bytes up to the end of s: they are read there, and s holds them there
+  -- units that follow other bytes up to the end of s: they are read there, and s holds them there
   pub made-left : (us : List (List ℕ)) → AllFit size us → (pre : List ℕ) (p : ℕ) → s ≡ pre ++ toItem size us → length pre ≡ p
-      → (leftOf size s p ≡ accept (placed size p us)) × (map (held s) (placed size p us) ≡ us)
+      → (itemUnitsFrom size s p ≡ accept (placed size p us)) × (map (held s) (placed size p us) ≡ us)
   unfolding toItem placed
   made-left [] f pre p e l =
       let n : length s ≡ p = ap length (e ∙ append-nil pre) ∙ l in

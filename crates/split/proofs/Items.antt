@@ -10,24 +10,26 @@ use native.Mathlib.Decide.{decLe}
 use lib.Dec.{eqb, ltb}
 use lib.ListN.{length}
 use borrow.Author.Tests.{le-leb, lt-leb, eq-eqb, ne-eqb, lt-ltb, le-ltb, eqb-false, ltb-false}
-use Rattle.error.specs.Outcome.{Outcome, accept, refuse}
+use Rattle.parse.specs.Outcome.{Outcome, accept, refuse}
 use Rattle.error.specs.Refusals.{numberOf}
 use Rattle.error.specs.declared.Refusal.{Refusal}
-use Rattle.error.specs.Parse.{Parsed, value, refused, bind, many, outcome}
-use Rattle.boxes.specs.Bytes.{be}
-use Rattle.boxes.specs.Walk.{more, countFound}
+use Rattle.parse.specs.Parse.{Parsed, value, refused, bind, many, outcome}
+use Rattle.boxes.specs.Bytes.{be, outside}
+use Rattle.boxes.specs.Walk.{countFound}
 use Rattle.boxes.specs.declared.Span.{Span}
 use Rattle.boxes.proofs.Walk.{total}
 use Rattle.boxes.proofs.Fields.{uint-there, uint-short, bytes-there, bytes-short}
-use Rattle.boxes.proofs.Many.{Advances, many-nil, many-bad, many-step, many-induction}
-use Rattle.split.specs.Item.{outside, itemUnit, itemUnits, splitItem}
-use Rattle.split.specs.Answers.{leftOf, UnitAhead, Onward, Next, nextOf, unitRead, itemStep, nextItemUnit}
+use Rattle.parse.proofs.Many.{Advances, many-nil, many-bad, many-step, many-induction}
+use Rattle.split.specs.Item.{itemUnit, itemUnits, splitItem}
+use Rattle.split.specs.Answers.{Next, nextOf, unitRead, itemStep, nextItemUnit}
 use Rattle.split.specs.declared.NextUnit.{NextUnit}
 use Rattle.split.specs.declared.NextUnit.the-variants as N
 use types.Run.{OneOf}
 use denote.Enum.Declared.{tagOf}
 use Rattle.split.proofs.NextUnit.{the-type}
 use Rattle.split.proofs.Spans.{Apart}
+use Rattle.boxes.specs.inner.Walk.{more}
+use Rattle.split.specs.inner.Walk.{itemUnitsFrom, UnitAhead, Onward}
 
 -- ### the unit at a place
 
@@ -103,29 +105,29 @@ outcome-more a (value xs p) = refl
 outcome-more a (refused e) = refl
 
 module _ (size : ℕ) (s : List ℕ) where
-  pub left-end : (p : ℕ) → length s ≤ p → leftOf size s p ≡ accept []
-  unfolding leftOf
+  pub left-end : (p : ℕ) → length s ≤ p → itemUnitsFrom size s p ≡ accept []
+  unfolding itemUnitsFrom
   left-end p h = rw (many-nil (itemUnit size) s p h)
 
-  left-bad : (p e : ℕ) → p < length s → itemUnit size s p ≡ refused e → leftOf size s p ≡ refuse e
-  unfolding leftOf
+  left-bad : (p e : ℕ) → p < length s → itemUnit size s p ≡ refused e → itemUnitsFrom size s p ≡ refuse e
+  unfolding itemUnitsFrom
   left-bad p e h w = rw (many-bad (itemUnit size) s p e h w)
 
-  pub left-step : (p : ℕ) (a : Span) (q : ℕ) → p < length s → itemUnit size s p ≡ value a q → leftOf size s p ≡ more a (leftOf size s q)
-  unfolding leftOf
+  pub left-step : (p : ℕ) (a : Span) (q : ℕ) → p < length s → itemUnit size s p ≡ value a q → itemUnitsFrom size s p ≡ more a (itemUnitsFrom size s q)
+  unfolding itemUnitsFrom
   left-step p a q h w = rw (many-step (itemUnit size) s (unit-advances size s) p a q h w) (outcome-more a (many (itemUnit size) s q))
 
   pub left-more : (p : ℕ) → p + size ≤ length s → (be s p size ≡ 0 → ⊥) → p + size + be s p size ≤ length s
-      → leftOf size s p ≡ more (record { start = p + size; len = be s p size }) (leftOf size s (p + size + be s p size))
+      → itemUnitsFrom size s p ≡ more (record { start = p + size; len = be s p size }) (itemUnitsFrom size s (p + size + be s p size))
   left-more p there any h = left-step p _ _ (omega (arith, prefix-some size s p any)) (unit-there size s p there any h)
 
   -- ### where the units lie
 
-  pub left-apart : (p : ℕ) (xs : List Span) → 1 ≤ size → p ≤ length s → leftOf size s p ≡ accept xs → Apart (length s) p xs
+  pub left-apart : (p : ℕ) (xs : List Span) → 1 ≤ size → p ≤ length s → itemUnitsFrom size s p ≡ accept xs → Apart (length s) p xs
   left-apart p xs one = many-induction (itemUnit size) s (unit-advances size s) M nil bad step p xs
     where
       M : ℕ → Type 0
-      M p = (xs : List Span) → p ≤ length s → leftOf size s p ≡ accept xs → Apart (length s) p xs
+      M p = (xs : List Span) → p ≤ length s → itemUnitsFrom size s p ≡ accept xs → Apart (length s) p xs
 
       nil : (p : ℕ) → length s ≤ p → M p
       nil p h xs l e = let z : [] ≡ xs = cc (left-end p h) in rw (← z) (Apart.none l)
@@ -133,8 +135,8 @@ module _ (size : ℕ) (s : List ℕ) where
       bad : (p e : ℕ) → p < length s → itemUnit size s p ≡ refused e → M p
       bad p e h w xs l v = let x = left-bad p e h w in let z : _≡_ {A = ℕ} 0 1 = cc in absurd (omega arith)
 
-      go : (p : ℕ) (a : Span) (q : ℕ) → Read size s p a q → ((ys : List Span) → q ≤ length s → leftOf size s q ≡ accept ys → Apart (length s) q ys)
-          → (o : Outcome (List Span)) → leftOf size s q ≡ o → (xs : List Span) → more a o ≡ accept xs → Apart (length s) p xs
+      go : (p : ℕ) (a : Span) (q : ℕ) → Read size s p a q → ((ys : List Span) → q ≤ length s → itemUnitsFrom size s q ≡ accept ys → Apart (length s) q ys)
+          → (o : Outcome (List Span)) → itemUnitsFrom size s q ≡ o → (xs : List Span) → more a o ≡ accept xs → Apart (length s) p xs
       go p a q r ih (refuse e) w xs v = let z : _≡_ {A = ℕ} 0 1 = cc in absurd (omega arith)
       go p a q r ih (accept ys) w xs v =
           let z : a ∷ ys ≡ xs = cc in
@@ -143,7 +145,7 @@ module _ (size : ℕ) (s : List ℕ) where
           rw (← z) (Apart.more h (r .some) (rw n at (ih ys (r .fits) w)))
 
       step : (p : ℕ) (a : Span) (q : ℕ) → p < length s → itemUnit size s p ≡ value a q → M q → M p
-      step p a q h w ih xs l v = go p a q (unit-read size s p a q w) ih (leftOf size s q) refl xs (sym (left-step p a q h w) ∙ v)
+      step p a q h w ih xs l v = go p a q (unit-read size s p a q w) ih (itemUnitsFrom size s q) refl xs (sym (left-step p a q h w) ∙ v)
 
 -- ### the answers, in the order of their tests
 
@@ -167,8 +169,8 @@ module _ (size : ℕ) (s : List ℕ) where
   unfolding itemUnits
   items-size = ⊎-elim (λ h. rw (eq-eqb size 0 h)) (λ h. rw (ne-eqb size 0 (λ e. omega arith), lt-ltb 4 size h))
 
-  pub items-left : 0 < size → size ≤ 4 → itemUnits size s ≡ leftOf size s 0
-  unfolding itemUnits leftOf
+  pub items-left : 0 < size → size ≤ 4 → itemUnits size s ≡ itemUnitsFrom size s 0
+  unfolding itemUnits itemUnitsFrom
   items-left h k = rw (inside-not size h k)
 
   pub split-too-long : 2 ^ 30 < length s → splitItem size s ≡ refuse 23
@@ -203,7 +205,7 @@ module _ (size : ℕ) (s : List ℕ) (p : ℕ) where
         step-no-bytes h = step-here ∙ ap unitRead (unit-no-bytes size s p there any h)
 
         pub step-there : p + size + be s p size ≤ length s
-            → itemStep size s p ≡ accept (some (record { unit = record { start = p + size; len = be s p size }; behind = p + size + be s p size }))
+            → itemStep size s p ≡ accept (some (record { unit = record { start = p + size; len = be s p size }; next = p + size + be s p size }))
         step-there h = step-here ∙ ap unitRead (unit-there size s p there any h)
 
   pub next-too-long : 2 ^ 30 < length s → nextItemUnit size s p ≡ refuse 23
@@ -224,55 +226,55 @@ module _ (size : ℕ) (s : List ℕ) (p : ℕ) where
 -- of the units from the place that it started from
 abbrev pub walked : ℕ → List ℕ → Outcome (Option Next) → Outcome (List Span)
 walked size s (accept none) = accept []
-walked size s (accept (some n)) = more (n .unit) (leftOf size s (n .behind))
+walked size s (accept (some n)) = more (n .unit) (itemUnitsFrom size s (n .next))
 walked size s (refuse e) = refuse e
 
 module _ (size : ℕ) (s : List ℕ) (p : ℕ) where
-  read-left : p < length s → (x : Parsed Span) → itemUnit size s p ≡ x → walked size s (unitRead x) ≡ leftOf size s p
+  read-left : p < length s → (x : Parsed Span) → itemUnit size s p ≡ x → walked size s (unitRead x) ≡ itemUnitsFrom size s p
   read-left h (value a q) e = sym (left-step size s p a q h e)
   read-left h (refused n) e = sym (left-bad size s p n h e)
 
-  walk-step : walked size s (itemStep size s p) ≡ leftOf size s p
+  walk-step : walked size s (itemStep size s p) ≡ itemUnitsFrom size s p
   walk-step =
       elim (decLe (length s) p) [
         | yes k ↦ ap (walked size s) (step-end size s p k) ∙ sym (left-end size s p k)
         | no k ↦ ap (walked size s) (step-here size s p (omega arith)) ∙ read-left (omega arith) (itemUnit size s p) refl
       ]
 
--- a turn of a walk: the unit found from place p on, in front of what is left behind it
+-- a turn of a walk: the unit found from place p on, in front of what is left after it
 pub record Turn (size : ℕ) (s : List ℕ) (p : ℕ) (a : Span) (next : ℕ) : Type 0 where
   pub here : UnitAhead s p a next
-  pub rest : leftOf size s p ≡ more a (leftOf size s next)
+  pub rest : itemUnitsFrom size s p ≡ more a (itemUnitsFrom size s next)
 
 -- where the unit lies that a step found
-step-ahead : (size : ℕ) (s : List ℕ) (p : ℕ) (a : Span) (next : ℕ) → itemStep size s p ≡ accept (some (record { unit = a; behind = next })) → UnitAhead s p a next
+step-ahead : (size : ℕ) (s : List ℕ) (p : ℕ) (a : Span) (next : ℕ) → itemStep size s p ≡ accept (some (record { unit = a; next = next })) → UnitAhead s p a next
 step-ahead size s p a next e =
     elim (decLe (length s) p) [
       | yes k ↦ absurd (let x = sym (step-end size s p k) ∙ e in let z : _≡_ {A = ℕ} 0 1 = cc in omega arith)
       | no k ↦ go (itemUnit size s p) refl (sym (step-here size s p (omega arith)) ∙ e)
     ]
   where
-    go : (x : Parsed Span) → itemUnit size s p ≡ x → unitRead x ≡ accept (some (record { unit = a; behind = next })) → UnitAhead s p a next
+    go : (x : Parsed Span) → itemUnit size s p ≡ x → unitRead x ≡ accept (some (record { unit = a; next = next })) → UnitAhead s p a next
     go (refused n) h f = let z : _≡_ {A = ℕ} 0 1 = cc in absurd (omega arith)
     go (value b q) h f =
-        let n : _≡_ {A = Next} (record { unit = b; behind = q }) (record { unit = a; behind = next }) = cc in
-        let r = unit-read size s p a next (h ∙ ap (λ (m : Next). value (m .unit) (m .behind)) n) in
-        record { some = r .some; ahead = r .ahead; behind = r .next; inside = r .fits }
+        let n : _≡_ {A = Next} (record { unit = b; next = q }) (record { unit = a; next = next }) = cc in
+        let r = unit-read size s p a next (h ∙ ap (λ (m : Next). value (m .unit) (m .next)) n) in
+        record { some = r .some; ahead = r .ahead; after = r .next; inside = r .fits }
 
 module _ (size : ℕ) (s : List ℕ) (p : ℕ) (r : NextUnit) (said : nextOf r ≡ itemStep size s p) where
-  found-left : walked size s (nextOf r) ≡ leftOf size s p
+  found-left : walked size s (nextOf r) ≡ itemUnitsFrom size s p
   found-left = ap (walked size s) said ∙ walk-step size s p
 
-  found-as : (x : NextUnit) → r ≡ x → leftOf size s p ≡ walked size s (nextOf x)
+  found-as : (x : NextUnit) → r ≡ x → itemUnitsFrom size s p ≡ walked size s (nextOf x)
   found-as x e = sym found-left ∙ ap (λ (y : NextUnit). walked size s (nextOf y)) e
 
   pub found-unit : (a : Span) (next : ℕ) → r ≡ N.Unit a next → Turn size s p a next
   found-unit a next e = record { here = step-ahead size s p a next (sym said ∙ ap nextOf e); rest = found-as (N.Unit a next) e }
 
-  pub found-end : r ≡ N.End → leftOf size s p ≡ accept []
+  pub found-end : r ≡ N.End → itemUnitsFrom size s p ≡ accept []
   found-end e = found-as N.End e
 
-  pub found-refusal : (e : Refusal) → r ≡ N.Refused e → leftOf size s p ≡ refuse (numberOf e)
+  pub found-refusal : (e : Refusal) → r ≡ N.Refused e → itemUnitsFrom size s p ≡ refuse (numberOf e)
   found-refusal e w = found-as (N.Refused e) w
 
 -- it lies ahead, if there is one
@@ -282,7 +284,7 @@ found-onward size s p N.End e = tt
 found-onward size s p (N.Refused x) e = tt
 
 -- a step that found no unit: there is none
-pub found-none : (size : ℕ) (s : List ℕ) (p : ℕ) (r : NextUnit) → nextOf r ≡ itemStep size s p → OneOf (1 ∷ 2 ∷ []) (tagOf the-type r) → total (leftOf size s p) ≡ 0
+pub found-none : (size : ℕ) (s : List ℕ) (p : ℕ) (r : NextUnit) → nextOf r ≡ itemStep size s p → OneOf (1 ∷ 2 ∷ []) (tagOf the-type r) → total (itemUnitsFrom size s p) ≡ 0
 found-none size s p (N.Unit a next) e k = absurd (⊎-elim (λ h. omega arith) (λ h. omega arith) k)
 found-none size s p N.End e k = ap total (sym (found-left size s p N.End e))
 found-none size s p (N.Refused x) e k = ap total (sym (found-left size s p (N.Refused x) e))
@@ -292,8 +294,8 @@ pub record Sound (size : ℕ) (s : List ℕ) (n : ℕ) : Type 0 where
   pub some : 1 ≤ size
   pub four : size ≤ 4
   pub lent : length s ≤ 2 ^ 30
-  pub whole : splitItem size s ≡ leftOf size s 0
-  pub counted : countFound (leftOf size s 0) ≡ accept n
+  pub whole : splitItem size s ≡ itemUnitsFrom size s 0
+  pub counted : countFound (itemUnitsFrom size s 0) ≡ accept n
 
 pub split-sound : (size : ℕ) (s : List ℕ) (n : ℕ) → countFound (splitItem size s) ≡ accept n → Sound size s n
 split-sound size s n e =
@@ -318,13 +320,13 @@ split-sound size s n e =
 -- ### a walk by `next_item_unit` gives the units of `split_length_prefixed`, or its refusal
 
 module _ (size : ℕ) (s : List ℕ) (lent : length s ≤ 2 ^ 30) (low : 0 < size) (four : size ≤ 4) where
-  pub cursor-start : splitItem size s ≡ leftOf size s 0
+  pub cursor-start : splitItem size s ≡ itemUnitsFrom size s 0
   cursor-start = split-lent size s lent ∙ items-left size s low four
 
-  pub cursor-step : (p : ℕ) → leftOf size s p ≡ walked size s (nextItemUnit size s p)
+  pub cursor-step : (p : ℕ) → itemUnitsFrom size s p ≡ walked size s (nextItemUnit size s p)
   cursor-step p = sym (walk-step size s p) ∙ ap (walked size s) (sym (next-step size s p lent (inside-not size low four)))
 
--- ### where the units of an accepted item lie: one behind the other inside it
+-- ### where the units of an accepted item lie: one after the other inside it
 
 module _ (size : ℕ) (s : List ℕ) (xs : List Span) where
   pub items-apart : itemUnits size s ≡ accept xs → Apart (length s) 0 xs

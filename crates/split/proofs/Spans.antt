@@ -1,4 +1,4 @@
--- Spans one behind the other, none empty: those of the units of an item and of a stream.
+-- Spans one after the other, none empty: those of the units of an item and of a stream.
 use Prim.Native.Nat.{ℕ, zero, suc, _+_, _≤_, _<_}
 use mathlib.Core.List.{List, [], _∷_}
 use native.Mathlib.Omega.{arith}
@@ -6,7 +6,7 @@ use lib.ListN.{length, getD}
 use Rattle.boxes.specs.Parts.{nowhere}
 use Rattle.boxes.specs.declared.Span.{Span}
 
--- each starts behind place p and behind the one before it, and the last ends at e or before
+-- each starts after place p and after the one before it, and the last ends at e or before
 pub data Apart (e : ℕ) : ℕ → List Span → Type 0 where
   none : {p : ℕ} → p ≤ e → Apart e p []
   more : {p : ℕ} {a : Span} {xs : List Span} → p < a .start → 0 < a .len → Apart e (a .start + a .len) xs → Apart e p (a ∷ xs)

@@ -31,7 +31,7 @@ some-last : (l : List ℕ) (x : ℕ) → 0 < length (l ++ x ∷ [])
 some-last [] x = omega arith
 some-last (y ∷ l) x = omega arith
 
--- behind any other last byte nothing is
+-- after any other last byte nothing is
 pub trim-other : (l : List ℕ) (x : ℕ) → (x ≡ 0 → ⊥) → trim (l ++ x ∷ []) ≡ l ++ x ∷ []
 unfolding trim
 trim-other [] x h = onto-none x h

@@ -3,10 +3,11 @@ use Prim.Native.Nat.{ℕ, zero, suc, _+_, _-_, _<_}
 use mathlib.Core.Path.{_≡_, refl, sym, ap, _∙_}
 use mathlib.Core.List.{List, []}
 use native.Mathlib.Omega.{arith}
-use Rattle.error.specs.Outcome.{Outcome, accept, refuse}
-use Rattle.boxes.specs.Walk.{more, countFound, found}
+use Rattle.parse.specs.Outcome.{Outcome, accept, refuse}
+use Rattle.boxes.specs.Walk.{countFound, found}
 use Rattle.boxes.specs.declared.Span.{Span}
 use Rattle.boxes.proofs.Walk.{plus, total, count-more, found-here, found-next}
+use Rattle.boxes.specs.inner.Walk.{more}
 
 -- counting, with n counted before and t to be answered
 module _ (n : ℕ) (t : Outcome ℕ) (o : Outcome (List Span)) (whole : plus n (countFound o) ≡ t) where

@@ -1,17 +1,12 @@
 -- Items of length-prefixed units (ISO/IEC 14496-15 4.3.3, the sample format).
 use Prim.Native.Nat.{ℕ}
-use mathlib.Core.Bool.{Bool, _||_}
 use mathlib.Core.List.{List, [], _∷_, _++_}
-use lib.Dec.{ltb, eqb}
-use Rattle.error.specs.Logic.{if_then_else_}
-use Rattle.error.specs.Outcome.{Outcome, refuse, lentInput}
-use Rattle.error.specs.Parse.{Parser, _>>=_, _>>_, refuseIf, many, outcome}
-use Rattle.boxes.specs.Bytes.{uint, bytes, toChunk}
+use lib.Dec.{eqb}
+use Rattle.parse.specs.Logic.{if_then_else_}
+use Rattle.parse.specs.Outcome.{Outcome, refuse, lentInput}
+use Rattle.parse.specs.Parse.{Parser, _>>=_, _>>_, refuseIf, many, outcome}
+use Rattle.boxes.specs.Bytes.{uint, bytes, toChunk, outside}
 use Rattle.boxes.specs.declared.Span.{Span}
-
--- a prefix size outside 1 to 4
-abbrev pub outside : ℕ → Bool
-outside size = eqb size 0 || ltb 4 size
 
 -- NALUnitLength and NALUnit: "in byte order 1 and 5 (zero length)"
 unfoldable pub itemUnit : ℕ → Parser Span
@@ -28,7 +23,7 @@ itemUnits size item = if outside size then refuse 4 else outcome (many (itemUnit
 unfoldable pub splitItem : ℕ → List ℕ → Outcome (List Span)
 splitItem size item = lentInput item (itemUnits size item)
 
--- Made: the units of an item, each behind its length
+-- Made: the units of an item, each after its length
 unfoldable pub toItem : ℕ → List (List ℕ) → List ℕ
 toItem size [] = []
 toItem size (u ∷ us) = toChunk size u ++ toItem size us

@@ -1,3 +1,4 @@
 pub mod Item
 pub mod Stream
 pub mod Answers
+pub mod inner

@@ -3,13 +3,13 @@ use Prim.Native.Nat.{ℕ, zero, suc, _+_, _-_}
 use mathlib.Core.List.{List, [], _∷_, _++_}
 use lib.Dec.{eqb}
 use lib.ListN.{length, take, drop}
-use Rattle.error.specs.Logic.{if_then_else_}
-use Rattle.error.specs.Outcome.{Outcome, accept, lentInput}
-use Rattle.error.specs.Parse.{Parsed, value, refused, Parser, many}
+use Rattle.parse.specs.Logic.{if_then_else_}
+use Rattle.parse.specs.Outcome.{Outcome, accept, lentInput}
+use Rattle.parse.specs.Parse.{Parsed, value, refused, Parser, many}
 use Rattle.boxes.specs.declared.Span.{Span}
 use Rattle.nal.specs.StartCode.{startCodeFrom}
 
--- x in front of what is left of the bytes behind it, unless both are nothing but zeros
+-- x in front of what is left of the bytes after it, unless both are nothing but zeros
 unfoldable pub trimOnto : ℕ → List ℕ → List ℕ
 trimOnto zero [] = []
 trimOnto (suc x) [] = suc x ∷ []
@@ -37,14 +37,14 @@ allRead (value xs p) = xs
 allRead (refused e) = []
 
 -- the units whose start codes stand at or after a place
-unfoldable pub unitsFrom : List ℕ → ℕ → List Span
-unitsFrom s p = nonEmpty (allRead (many segment s (startCodeFrom s p)))
+unfoldable pub streamUnitsFrom : List ℕ → ℕ → List Span
+streamUnitsFrom s p = nonEmpty (allRead (many segment s (startCodeFrom s p)))
 
 -- `split_annex_b`: 23 alone
 unfoldable pub splitStream : List ℕ → Outcome (List Span)
-splitStream s = lentInput s (accept (unitsFrom s 0))
+splitStream s = lentInput s (accept (streamUnitsFrom s 0))
 
--- units behind start codes, one after another
+-- units after start codes, one after another
 unfoldable pub annexB : List ℕ → List (List ℕ) → List ℕ
 annexB startCode [] = []
 annexB startCode (u ∷ us) = startCode ++ (u ++ annexB startCode us)

@@ -12,7 +12,7 @@ use error::Refusal;
 use nal::start_code;
 ghost use mathlib.Core.Path.{_≡_};
 ghost use mathlib.Core.List.{[]};
-ghost use Rattle.error.specs.Answers.{countOf};
+ghost use Rattle.parse.specs.Answers.{countOf};
 ghost use Rattle.boxes.specs.Parts.{PartOf};
 ghost use Rattle.boxes.specs.Walk.{countFound, found};
 ghost use Rattle.boxes.specs.Places.{inFirst, placeOf, placeFound, PlaceFits};
@@ -20,7 +20,7 @@ ghost use Rattle.split.specs.Item.{splitItem};
 ghost use Rattle.split.specs.Stream.{splitStream};
 ghost use Rattle.split.specs.Answers.{nextOf, nextItemUnit, nextGiven};
 
-// The next unit of an item or a stream and the place behind it, to go on from; the end; or a refusal.
+// The next unit of an item or a stream and the place after it, to go on from; the end; or a refusal.
 pub enum NextUnit {
     Unit(Span, usize),
     End,
@@ -66,7 +66,7 @@ pub fn split_length_prefixed(item: &[u8], length_size: u8, k: usize) -> &[u8]
     place::part_at(item, unit)
 }
 
-// The unit whose length stands at a place of an item, and the place behind it, to go on from. Refusals: 23, 4, then in byte order 1 and 5.
+// The unit whose length stands at a place of an item, and the place after it, to go on from. Refusals: 23, 4, then in byte order 1 and 5.
 pub fn next_item_unit(item: &[u8], length_size: u8, from: usize) -> NextUnit
     ensures { λ r. ⌜ nextOf r ≡ nextItemUnit «length_size» (now (item .entry)) from ⌝ }
 {
@@ -82,7 +82,7 @@ pub fn next_item_unit(item: &[u8], length_size: u8, from: usize) -> NextUnit
     walk::item_step(item, place::wide(length_size), from)
 }
 
-// The first unit whose start code stands at or after a place, and the place behind it, to go on from. Refusal: 23.
+// The first unit whose start code stands at or after a place, and the place after it, to go on from. Refusal: 23.
 pub fn next_unit(stream: &[u8], from: usize) -> NextUnit
     ensures { λ r. ⌜ nextOf r ≡ nextGiven (now (stream .entry)) from ⌝ }
 {
@@ -105,8 +105,8 @@ pub fn next_unit(stream: &[u8], from: usize) -> NextUnit
                 start: start,
                 len: len,
             };
-            let behind = start + len;
-            return NextUnit::Unit(unit, behind);
+            let after = start + len;
+            return NextUnit::Unit(unit, after);
         }
     }
     NextUnit::End
@@ -121,9 +121,9 @@ pub fn split_annex_b_count(stream: &[u8]) -> Counted
     'walk: loop {
         let next = next_unit(stream, at);
         match next {
-            NextUnit::Unit(_, behind) => {
+            NextUnit::Unit(_, after) => {
                 n += 1;
-                at = behind;
+                at = after;
             }
             NextUnit::End => {
                 break 'walk;
@@ -145,12 +145,12 @@ pub fn split_annex_b_at(stream: &[u8], k: usize) -> UnitPlace
     let unit = 'walk: loop {
         let next = next_unit(stream, at);
         match next {
-            NextUnit::Unit(a, behind) => {
+            NextUnit::Unit(a, after) => {
                 if left == 0 {
                     break 'walk UnitPlace::First(a);
                 }
                 left -= 1;
-                at = behind;
+                at = after;
             }
             NextUnit::End => {
                 break 'walk UnitPlace::Past;

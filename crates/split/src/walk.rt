@@ -1,4 +1,4 @@
-// For the crates further down: the steps of the walks over items and streams.
+// Internal: the steps of the walks over items and streams.
 // Document 01 asks that a label leaves a walk over units: it names the walk, also where the `break` stands inside a match. With one loop to a
 // function a plain `break` would leave the same one.
 use super::NextUnit;
@@ -9,11 +9,12 @@ use error::Refusal;
 ghost use mathlib.Core.Path.{_≡_};
 ghost use Prim.Native.Nat.{_+_, _-_, _≤_, _<_, _^_};
 ghost use lib.ListN.{length, take, drop};
-ghost use Rattle.error.specs.Answers.{countOf};
+ghost use Rattle.parse.specs.Answers.{countOf};
 ghost use Rattle.boxes.specs.Walk.{countFound, found};
-ghost use Rattle.split.specs.Item.{outside};
 ghost use Rattle.split.specs.Stream.{trim};
-ghost use Rattle.split.specs.Answers.{leftOf, HasUnit, nextOf, itemStep};
+ghost use Rattle.split.specs.Answers.{nextOf, itemStep};
+ghost use Rattle.split.specs.inner.Walk.{itemUnitsFrom, HasUnit};
+ghost use Rattle.boxes.specs.Bytes.{outside};
 
 // Whether a prefix size is outside 1 to 4.
 pub fn outside(length_size: u8) -> bool
@@ -22,7 +23,7 @@ pub fn outside(length_size: u8) -> bool
     length_size == 0 || 4 < length_size
 }
 
-// The unit whose length stands at a place of an item, and the place behind it.
+// The unit whose length stands at a place of an item, and the place after it.
 pub fn item_step(item: &[u8], size: usize, at: usize) -> NextUnit
     requires { ⌜ (1 ≤ size) × (size ≤ 4) × (at ≤ length (now item)) × (length (now item) ≤ 2 ^ 30) ⌝ }
     ensures { λ r. ⌜ nextOf r ≡ itemStep size (now (item .entry)) at ⌝ }
@@ -52,7 +53,7 @@ pub fn item_step(item: &[u8], size: usize, at: usize) -> NextUnit
 // How many units an item has.
 pub fn item_count(item: &[u8], size: usize) -> Counted
     requires { ⌜ (1 ≤ size) × (size ≤ 4) × (length (now item) ≤ 2 ^ 30) ⌝ }
-    ensures { λ r. ⌜ countOf r ≡ countFound (leftOf size (now (item .entry)) 0) ⌝ }
+    ensures { λ r. ⌜ countOf r ≡ countFound (itemUnitsFrom size (now (item .entry)) 0) ⌝ }
 {
     let mut at: usize = 0;
     let mut n: usize = 0;
@@ -76,8 +77,8 @@ pub fn item_count(item: &[u8], size: usize) -> Counted
 
 // Where unit k lies in an item that has more than k units.
 pub fn item_unit(item: &[u8], size: usize, k: usize) -> Span
-    requires { ⌜ (1 ≤ size) × (size ≤ 4) × (length (now item) ≤ 2 ^ 30) × HasUnit (leftOf size (now item) 0) k ⌝ }
-    ensures { λ r. ⌜ (r ≡ found (leftOf size (now (item .entry)) 0) k) × (r .start + r .len ≤ length (now (item .entry))) ⌝ }
+    requires { ⌜ (1 ≤ size) × (size ≤ 4) × (length (now item) ≤ 2 ^ 30) × HasUnit (itemUnitsFrom size (now item) 0) k ⌝ }
+    ensures { λ r. ⌜ (r ≡ found (itemUnitsFrom size (now (item .entry)) 0) k) × (r .start + r .len ≤ length (now (item .entry))) ⌝ }
 {
     let mut at: usize = 0;
     let mut skip = k;

@@ -7,22 +7,22 @@ use native.Mathlib.Omega.{arith}
 use lib.Dec.{ltb}
 use lib.ListN.{drop}
 use borrow.Author.Tests.{ltb-false}
-use Rattle.error.specs.Outcome.{accept}
-use Rattle.error.specs.Parse.{value, bind, refuseIf}
+use Rattle.parse.specs.Outcome.{accept}
+use Rattle.parse.specs.Parse.{value, bind, refuseIf}
 use Rattle.rbsp.specs.Rbsp.{rbsp}
 use Rattle.bit_reader.specs.Bits.{u, isSet, ue}
-use Rattle.bit_reader.specs.Answers.{parsed, placeIn, partBehind}
+use Rattle.bit_reader.specs.inner.Answers.{parsed, placeIn, partAfter}
 use Rattle.bit_reader.specs.declared.BitPosition.{BitPosition}
 use Rattle.bit_reader.specs.declared.BitsRead.{BitsRead}
 use Rattle.bit_reader.specs.declared.BitsRead.the-variants.{Value, Refused}
 use Rattle.rbsp.proofs.Below.{Below, rbsp-below}
-use Rattle.bit_reader.proofs.Binds.{first}
+use Rattle.parse.proofs.Binds.{first-read}
 use Rattle.bit_reader.proofs.Numbers.{u-read}
 use Rattle.ptl.specs.Ptl.{zeroPtl}
 use Rattle.ptl.specs.declared.VvcPtlRecord.{VvcPtlRecord}
 use Rattle.ptl.proofs.Bounds.{Fits, ptl-fits}
 use Rattle.sps.specs.Sps.{spsHead, parseSps}
-use Rattle.sps.specs.Sections.{ids, ptlWhere, size, windowWhere, depth, headOf}
+use Rattle.sps.specs.inner.Sections.{ids, ptlWhere, size, windowWhere, depth, spsHeadOf}
 use Rattle.sps.specs.declared.SpsHead.{SpsHead}
 use Rattle.sps.specs.declared.sections.SpsIds.{SpsIds}
 use Rattle.sps.proofs.SpsSections.{sps-sections}
@@ -44,8 +44,8 @@ pub record IdsBounds (p : ℕ) (i : SpsIds) (q : ℕ) : Type 0 where
 pub ids-bounds : (s : List ℕ) (p : ℕ) (i : SpsIds) (q : ℕ) → ids s p ≡ value i q → IdsBounds p i q
 unfolding ids
 ids-bounds s p i q e =
-    first (u 4 s p) _ e (λ id p₁ h₁ e₁. first (u 4 s p₁) _ e₁ (λ vps p₂ h₂ e₂. first (u 3 s p₂) _ e₂ (λ m p₃ h₃ e₃.
-    first (u 2 s p₃) _ e₃ (λ chroma p₄ h₄ e₄. first (u 2 s p₄) _ e₄ (λ ctu p₅ h₅ e₅. first (u 1 s p₅) _ e₅ (λ hasPtl p₆ h₆ e₆.
+    first-read (u 4 s p) _ e (λ id p₁ h₁ e₁. first-read (u 4 s p₁) _ e₁ (λ vps p₂ h₂ e₂. first-read (u 3 s p₂) _ e₂ (λ m p₃ h₃ e₃.
+    first-read (u 2 s p₃) _ e₃ (λ chroma p₄ h₄ e₄. first-read (u 2 s p₄) _ e₄ (λ ctu p₅ h₅ e₅. first-read (u 1 s p₅) _ e₅ (λ hasPtl p₆ h₆ e₆.
     let b : p₆ ≡ q = cc in
     let x : m ≡ i .«max_sublayers_minus1» = cc in
     let y : chroma ≡ i .«chroma_format_idc» = cc in
@@ -58,8 +58,8 @@ ids-bounds s p i q e =
     let r₆ = u-read 1 s p₅ hasPtl p₆ h₆ in
     record { next = omega arith; sublayers = omega arith; chroma = omega arith; ctu-low = omega arith; ctu-high = omega arith }))))))
 
--- so a PTL behind them starts at a whole byte
-pub ids-place : (s : List ℕ) (r : BitsRead) (i : SpsIds) → partBehind r i ≡ ids s 0 → placeIn r % 8 ≡ 0
+-- so a PTL after them starts at a whole byte
+pub ids-place : (s : List ℕ) (r : BitsRead) (i : SpsIds) → partAfter r i ≡ ids s 0 → placeIn r % 8 ≡ 0
 ids-place s (Value v q) i h = omega (arith, ids-bounds s 0 i (q .0) (sym h) .next)
 ids-place s (Refused e) i h = refl
 
@@ -67,13 +67,13 @@ ids-place s (Refused e) i h = refl
 pub depth-bounds : (s : List ℕ) (p d q : ℕ) → depth s p ≡ value d q → d ≤ 8
 unfolding depth
 depth-bounds s p d q e =
-    first (u 1 s p) _ e (λ b p₁ h₁ e₁. first (refuseIf (isSet b) 13 s p₁) _ e₁ (λ _ p₂ h₂ e₂.
-    first (ue s p₂) _ e₂ (λ v p₃ h₃ e₃. first (refuseIf (ltb 8 v) 14 s p₃) _ e₃ (λ _ p₄ h₄ e₄.
+    first-read (u 1 s p) _ e (λ b p₁ h₁ e₁. first-read (refuseIf (isSet b) 13 s p₁) _ e₁ (λ _ p₂ h₂ e₂.
+    first-read (ue s p₂) _ e₂ (λ v p₃ h₃ e₃. first-read (refuseIf (ltb 8 v) 14 s p₃) _ e₃ (λ _ p₄ h₄ e₄.
     let x : v ≡ d = cc in
     omega (arith, ltb-false 8 v (passed-test (ltb 8 v) 14 s p₃ h₄))))))
 
-pub depth-behind : (s : List ℕ) (prior r : BitsRead) {d : ℕ} {q : BitPosition} → parsed r ≡ bind (parsed prior) (λ _ p. depth s p) → r ≡ Value d q → d ≤ 8
-depth-behind s prior r {d} {q} h e = first (parsed prior) _ (sym h ∙ ap parsed e) (λ _ p _ k. depth-bounds s p d (q .0) k)
+pub depth-after : (s : List ℕ) (prior r : BitsRead) {d : ℕ} {q : BitPosition} → parsed r ≡ bind (parsed prior) (λ _ p. depth s p) → r ≡ Value d q → d ≤ 8
+depth-after s prior r {d} {q} h e = first-read (parsed prior) _ (sym h ∙ ap parsed e) (λ _ p _ k. depth-bounds s p d (q .0) k)
 
 -- ---- an SPS's head
 pub record SpsFits (h : SpsHead) : Type 0 where
@@ -93,11 +93,11 @@ ptl-where false m s p l q h k e = (λ f. let z : _≡_ {A = ℕ} 0 1 = cc in abs
 
 pub sps-fits : (s : List ℕ) (p : ℕ) (h : SpsHead) (q : ℕ) → Below 256 s → spsHead s p ≡ value h q → SpsFits h
 sps-fits s p h q k e =
-    first (ids s p) _ (sym (sps-sections s p) ∙ e) (λ i p₁ h₁ e₁.
-    first (ptlWhere (i .«ptl_present_flag») (i .«max_sublayers_minus1») s p₁) _ e₁ (λ l p₂ h₂ e₂.
-    first (size s p₂) _ e₂ (λ z p₃ h₃ e₃. first (windowWhere (z .«conformance_window_flag») s p₃) _ e₃ (λ w p₄ h₄ e₄.
-    first (depth s p₄) _ e₄ (λ d p₅ h₅ e₅.
-    let x : headOf i l z w d ≡ h = cc in
+    first-read (ids s p) _ (sym (sps-sections s p) ∙ e) (λ i p₁ h₁ e₁.
+    first-read (ptlWhere (i .«ptl_present_flag») (i .«max_sublayers_minus1») s p₁) _ e₁ (λ l p₂ h₂ e₂.
+    first-read (size s p₂) _ e₂ (λ z p₃ h₃ e₃. first-read (windowWhere (z .«conformance_window_flag») s p₃) _ e₃ (λ w p₄ h₄ e₄.
+    first-read (depth s p₄) _ e₄ (λ d p₅ h₅ e₅.
+    let x : spsHeadOf i l z w d ≡ h = cc in
     let a = ids-bounds s p i p₁ h₁ in
     let b = ptl-where (i .«ptl_present_flag») (i .«max_sublayers_minus1») s p₁ l p₂ (a .sublayers) k h₂ in
     let c = depth-bounds s p₄ d p₅ h₅ in

@@ -1,17 +1,17 @@
--- The subpictures' flag and the bit depth, behind a read: the answers.
+-- The subpictures' flag and the bit depth, after a read: the answers.
 use mathlib.Core.Path.{_≡_, sym, refl, _∙_}
 use mathlib.Core.List.{List}
 use Prim.Native.Nat.{ℕ, _≤_, _<_}
 use native.Mathlib.Omega.{arith}
 use lib.Dec.{ltb}
 use borrow.Author.Tests.{eq-eqb, ne-eqb, lt-ltb, le-ltb}
-use Rattle.error.specs.Parse.{Parsed, value, refused, bind, refuseIf}
+use Rattle.parse.specs.Parse.{Parsed, value, refused, bind, refuseIf}
 use Rattle.bit_reader.specs.Bits.{u, isSet, ue}
-use Rattle.bit_reader.specs.Answers.{parsed, numberIn}
+use Rattle.bit_reader.specs.inner.Answers.{parsed, numberIn}
 use Rattle.bit_reader.specs.declared.BitsRead.{BitsRead}
 use Rattle.bit_reader.specs.declared.BitsRead.the-variants.{Value, Refused}
-use Rattle.bit_reader.proofs.Chain.{onward}
-use Rattle.sps.specs.Sections.{depth}
+use Rattle.bit_reader.proofs.Chain.{bind-next}
+use Rattle.sps.specs.inner.Sections.{depth}
 
 -- a number that a test refuses, or that is handed on
 module _ (s : List ℕ) where
@@ -37,12 +37,12 @@ module _ (s : List ℕ) where
 
     pub depth-subpictures : numberIn r₁ ≡ 1 → refused 13 ≡ said
     unfolding depth
-    depth-subpictures e = set r₁ _ e ∙ sym (onward prior r₁ _ _ h)
+    depth-subpictures e = set r₁ _ e ∙ sym (bind-next prior r₁ _ _ h)
 
     module _ (r₂ : BitsRead) (n : numberIn r₁ ≡ 1 → ⊥) (k : parsed r₂ ≡ bind (parsed r₁) (λ _ q. ue s q)) where
       code : said ≡ tested r₂
       unfolding depth
-      code = onward prior r₁ _ _ h ∙ rw (ne-eqb (numberIn r₁) 1 n) (onward r₁ r₂ _ _ k)
+      code = bind-next prior r₁ _ _ h ∙ rw (ne-eqb (numberIn r₁) 1 n) (bind-next r₁ r₂ _ _ k)
 
       pub depth-deep : 8 < numberIn r₂ → refused 14 ≡ said
       depth-deep l = deep r₂ l ∙ sym code

@@ -2,8 +2,8 @@
 use mathlib.Core.Path.{_≡_, refl}
 use mathlib.Core.Bool.{true, false}
 use mathlib.Core.List.{[], _∷_}
-use Rattle.error.specs.Outcome.{accept}
-use Rattle.error.specs.Parse.{times}
+use Rattle.parse.specs.Outcome.{accept}
+use Rattle.parse.specs.Parse.{times}
 use Rattle.rbsp.specs.Rbsp.{drops, nextZeros, unescape}
 use Rattle.bit_reader.specs.Bits.{bitsAt, u, skip, align, zerosBeforeOne, ue}
 use Rattle.ptl.specs.Ptl.{presentFlags, levels, withoutFlags, constraintBits, generalConstraintsInfo, constraintBytes, profileTierLevel}

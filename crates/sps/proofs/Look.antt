@@ -7,18 +7,18 @@ use lib.Dec.{ltb, lit≤}
 use lib.ListN.{take}
 use Rattle.bit_reader.specs.Bits.{u, isSet}
 use Rattle.bit_reader.proofs.Numbers.{u-read}
-use Rattle.bit_reader.proofs.Local.{Local, local-u, local-ue, local-give, local-more, local-if, local-refuse-if, local-bind, local-bind-of}
-use Rattle.ptl.proofs.Local.{local-ptl}
+use Rattle.bit_reader.proofs.Looks.{LooksWithin, local-u, local-ue, local-give, local-more, local-if, local-refuse-if, local-bind, local-bind-of}
+use Rattle.ptl.proofs.Looks.{local-ptl}
 use Rattle.ptl.specs.Ptl.{zeroPtl}
 use Rattle.sps.specs.Sps.{window, noWindow, spsHead}
 
 -- ---- the bits
-pub local-window : Local 252 window
+pub local-window : LooksWithin 252 window
 unfolding window
 local-window =
     local-bind 63 189 local-ue (λ l. local-bind 63 126 local-ue (λ r. local-bind 63 63 local-ue (λ t. local-bind 63 0 local-ue (λ b. local-give _))))
 
-pub local-sps : Local 9054 spsHead
+pub local-sps : LooksWithin 9054 spsHead
 unfolding spsHead
 local-sps =
     local-bind 4 9050 (local-u 4) (λ id.

@@ -1,15 +1,15 @@
 -- What the answers of this crate say.
 use Prim.Native.Nat.{ℕ}
 use mathlib.Core.List.{List}
-use Rattle.error.specs.Outcome.{Outcome, handsBack}
-use Rattle.params.specs.Answers.{readOf}
+use Rattle.parse.specs.Outcome.{Outcome, handsBack}
+use Rattle.params.specs.Answers.{paramsReadOf}
 use Rattle.sps.specs.Sps.{parseSps, parseSpsRbsp, zeroSps}
 use Rattle.sps.specs.declared.SpsHead.{SpsHead}
 use Rattle.sps.specs.declared.SpsRead.{SpsRead}
 
 -- an SPS head and what stands in the struct, on a refusal too
 abbrev pub spsOf : SpsRead → Outcome SpsHead × SpsHead
-spsOf r = (readOf (r .answer) (r .head), r .head)
+spsOf r = (paramsReadOf (r .answer) (r .head), r .head)
 
 -- `SpsHead::parse_nal`: on a refusal all zeros
 abbrev pub spsGiven : List ℕ → Outcome SpsHead × SpsHead

@@ -1,3 +1,3 @@
 pub mod Sps
-pub mod Sections
 pub mod Answers
+pub mod inner

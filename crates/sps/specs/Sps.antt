@@ -3,9 +3,9 @@ use mathlib.Core.Bool.{false}
 use mathlib.Core.List.{List}
 use Prim.Native.Nat.{ℕ, _+_}
 use lib.Dec.{ltb}
-use Rattle.error.specs.Logic.{if_then_else_}
-use Rattle.error.specs.Outcome.{Outcome, lentInput}
-use Rattle.error.specs.Parse.{Parser, _>>=_, _>>_, give, refuseIf, outcome}
+use Rattle.parse.specs.Logic.{if_then_else_}
+use Rattle.parse.specs.Outcome.{Outcome, lentInput}
+use Rattle.parse.specs.Parse.{Parser, _>>=_, _>>_, give, refuseIf, outcome}
 use Rattle.bit_reader.specs.Bits.{u, isSet, ue}
 use Rattle.ptl.specs.Ptl.{profileTierLevel, zeroPtl}
 use Rattle.params.specs.OfUnit.{ofUnit}

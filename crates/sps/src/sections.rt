@@ -1,26 +1,26 @@
-// For this crate's calls: an SPS's head from the first bytes of its RBSP, read in the sections of its syntax table.
+// Internal: an SPS's head from the first bytes of its RBSP, read in the sections of its syntax table.
 use super::SpsHead;
 use super::SpsRead;
 use bit_reader::BitPosition;
 use bit_reader::BitsRead;
 use bit_reader::FIRST_BIT;
-use bit_reader::behind;
 use bit_reader::bits;
+use bit_reader::then;
 use error::Refusal;
 use params::ParamsAnswer;
 use ptl::PtlBits;
 ghost use mathlib.Core.Path.{_≡_};
 ghost use Prim.Native.Nat.{_%_, _≤_};
 ghost use lib.ListN.{length};
-ghost use Rattle.error.specs.Outcome.{refuse};
-ghost use Rattle.error.specs.Parse.{bind};
+ghost use Rattle.parse.specs.Outcome.{refuse};
+ghost use Rattle.parse.specs.Parse.{bind};
 ghost use Rattle.error.specs.Refusals.{numberOf};
 ghost use Rattle.rbsp.specs.Rbsp.{rbsp};
-ghost use Rattle.bit_reader.specs.Answers.{parsed, placeIn, partBehind};
+ghost use Rattle.bit_reader.specs.inner.Answers.{parsed, placeIn, partAfter};
 ghost use Rattle.sps.specs.Sps.{window, spsHead, zeroSps};
-ghost use Rattle.params.specs.Answers.{readOr};
 ghost use Rattle.sps.specs.Answers.{spsOf};
-ghost use Rattle.sps.specs.Sections.{ids, ptlWhere, size, windowWhere, windowOf, depth, headOf};
+ghost use Rattle.sps.specs.inner.Sections.{ids, ptlWhere, size, windowWhere, windowOf, depth, spsHeadOf};
+ghost use Rattle.params.specs.inner.Answers.{readOr};
 
 // The fields in front of the PTL.
 pub struct SpsIds {
@@ -66,21 +66,21 @@ pub struct ConfWindowRead {
 // The fields in front of the PTL, two bytes. Refusal: 11.
 fn read_ids(rbsp: &[u8], at: BitPosition) -> SpsIdsRead
     requires { ⌜ length (now rbsp) ≤ 1132 ⌝ }
-    ensures { λ r. ⌜ (partBehind (r .answer) (r .part) ≡ ids (now (rbsp .entry)) (at .0)) × (r .part .«max_sublayers_minus1» ≤ 7) ⌝ }
+    ensures { λ r. ⌜ (partAfter (r .answer) (r .part) ≡ ids (now (rbsp .entry)) (at .0)) × (r .part .«max_sublayers_minus1» ≤ 7) ⌝ }
 {
     let id = bits::read_bits(rbsp, at, 4);
-    let vps = behind::read_bits(rbsp, id, 4);
-    let s = behind::read_bits(rbsp, vps, 3);
-    let chroma = behind::read_bits(rbsp, s, 2);
-    let ctu = behind::read_bits(rbsp, chroma, 2);
-    let has_ptl = behind::read_bits(rbsp, ctu, 1);
+    let vps = then::read_bits(rbsp, id, 4);
+    let s = then::read_bits(rbsp, vps, 3);
+    let chroma = then::read_bits(rbsp, s, 2);
+    let ctu = then::read_bits(rbsp, chroma, 2);
+    let has_ptl = then::read_bits(rbsp, ctu, 1);
     let part = SpsIds {
-        sps_id: behind::number(id) as u8,
-        vps_id: behind::number(vps) as u8,
-        max_sublayers_minus1: behind::number(s) as u8,
-        chroma_format_idc: behind::number(chroma) as u8,
-        log2_ctu_size: behind::number(ctu) as u8 + 5,
-        ptl_present_flag: behind::number(has_ptl) == 1,
+        sps_id: then::number(id) as u8,
+        vps_id: then::number(vps) as u8,
+        max_sublayers_minus1: then::number(s) as u8,
+        chroma_format_idc: then::number(chroma) as u8,
+        log2_ctu_size: then::number(ctu) as u8 + 5,
+        ptl_present_flag: then::number(has_ptl) == 1,
     };
     SpsIdsRead {
         answer: has_ptl,
@@ -88,10 +88,10 @@ fn read_ids(rbsp: &[u8], at: BitPosition) -> SpsIdsRead
     }
 }
 
-// The PTL behind the fields in front of it where its flag is set, all zeros where not. Refusals: theirs, then 11.
+// The PTL after the fields in front of it where its flag is set, all zeros where not. Refusals: theirs, then 11.
 fn read_ptl(rbsp: &[u8], ids: SpsIdsRead) -> PtlBits
     requires { ⌜ (length (now rbsp) ≤ 1132) × (placeIn (ids .answer) % 8 ≡ 0) × (ids .part .«max_sublayers_minus1» ≤ 7) ⌝ }
-    ensures { λ r. ⌜ partBehind (r .answer) (r .ptl) ≡ bind (parsed (ids .answer)) (λ _ q.
+    ensures { λ r. ⌜ partAfter (r .answer) (r .ptl) ≡ bind (parsed (ids .answer)) (λ _ q.
         ptlWhere (ids .part .«ptl_present_flag») (ids .part .«max_sublayers_minus1») (now (rbsp .entry)) q) ⌝ }
 {
     let prior = ids.answer;
@@ -109,18 +109,18 @@ fn read_ptl(rbsp: &[u8], ids: SpsIdsRead) -> PtlBits
 // The fields from the PTL to the window's flag. Refusals: the read's before them, then 11, 12.
 fn read_size(rbsp: &[u8], prior: BitsRead) -> SpsSizeRead
     requires { ⌜ length (now rbsp) ≤ 1132 ⌝ }
-    ensures { λ r. ⌜ partBehind (r .answer) (r .part) ≡ bind (parsed prior) (λ _ q. size (now (rbsp .entry)) q) ⌝ }
+    ensures { λ r. ⌜ partAfter (r .answer) (r .part) ≡ bind (parsed prior) (λ _ q. size (now (rbsp .entry)) q) ⌝ }
 {
-    let gdr = behind::read_bits(rbsp, prior, 1);
-    let resampling = behind::read_bits(rbsp, gdr, 1);
-    let res_change = behind::read_bits_if(rbsp, resampling, 1, behind::number(resampling) == 1);
-    let width = behind::exp_golomb(rbsp, res_change);
-    let height = behind::exp_golomb(rbsp, width);
-    let has_window = behind::read_bits(rbsp, height, 1);
+    let gdr = then::read_bits(rbsp, prior, 1);
+    let resampling = then::read_bits(rbsp, gdr, 1);
+    let res_change = then::read_bits_if(rbsp, resampling, 1, then::number(resampling) == 1);
+    let width = then::exp_golomb(rbsp, res_change);
+    let height = then::exp_golomb(rbsp, width);
+    let has_window = then::read_bits(rbsp, height, 1);
     let part = SpsSize {
-        pic_width: behind::number(width),
-        pic_height: behind::number(height),
-        conformance_window_flag: behind::number(has_window) == 1,
+        pic_width: then::number(width),
+        pic_height: then::number(height),
+        conformance_window_flag: then::number(has_window) == 1,
     };
     SpsSizeRead {
         answer: has_window,
@@ -131,17 +131,17 @@ fn read_size(rbsp: &[u8], prior: BitsRead) -> SpsSizeRead
 // The window's four offsets. Refusals: the read's before them, then 11, 12.
 fn read_offsets(rbsp: &[u8], prior: BitsRead) -> ConfWindowRead
     requires { ⌜ length (now rbsp) ≤ 1132 ⌝ }
-    ensures { λ r. ⌜ partBehind (r .answer) (windowOf (r .part)) ≡ bind (parsed prior) (λ _ q. window (now (rbsp .entry)) q) ⌝ }
+    ensures { λ r. ⌜ partAfter (r .answer) (windowOf (r .part)) ≡ bind (parsed prior) (λ _ q. window (now (rbsp .entry)) q) ⌝ }
 {
-    let left = behind::exp_golomb(rbsp, prior);
-    let right = behind::exp_golomb(rbsp, left);
-    let top = behind::exp_golomb(rbsp, right);
-    let bottom = behind::exp_golomb(rbsp, top);
+    let left = then::exp_golomb(rbsp, prior);
+    let right = then::exp_golomb(rbsp, left);
+    let top = then::exp_golomb(rbsp, right);
+    let bottom = then::exp_golomb(rbsp, top);
     let part = ConfWindow {
-        left: behind::number(left),
-        right: behind::number(right),
-        top: behind::number(top),
-        bottom: behind::number(bottom),
+        left: then::number(left),
+        right: then::number(right),
+        top: then::number(top),
+        bottom: then::number(bottom),
     };
     ConfWindowRead {
         answer: bottom,
@@ -152,7 +152,7 @@ fn read_offsets(rbsp: &[u8], prior: BitsRead) -> ConfWindowRead
 // The window where its flag is set, all zeros where not. Refusals: the read's before it, then 11, 12.
 fn read_window(rbsp: &[u8], size: SpsSizeRead) -> ConfWindowRead
     requires { ⌜ length (now rbsp) ≤ 1132 ⌝ }
-    ensures { λ r. ⌜ partBehind (r .answer) (windowOf (r .part)) ≡ bind (parsed (size .answer)) (λ _ q.
+    ensures { λ r. ⌜ partAfter (r .answer) (windowOf (r .part)) ≡ bind (parsed (size .answer)) (λ _ q.
         windowWhere (size .part .«conformance_window_flag») (now (rbsp .entry)) q) ⌝ }
 {
     let prior = size.answer;
@@ -172,18 +172,18 @@ fn read_window(rbsp: &[u8], size: SpsSizeRead) -> ConfWindowRead
     }
 }
 
-// The bit depth minus 8, behind the subpictures' flag. Refusals: the read's before it, then in bit order 11, 12, 13, 14.
+// The bit depth minus 8, after the subpictures' flag. Refusals: the read's before it, then in bit order 11, 12, 13, 14.
 fn read_depth(rbsp: &[u8], prior: BitsRead) -> BitsRead
     requires { ⌜ length (now rbsp) ≤ 1132 ⌝ }
     ensures { λ r. ⌜ parsed r ≡ bind (parsed prior) (λ _ q. depth (now (rbsp .entry)) q) ⌝ }
 {
-    let r1 = behind::read_bits(rbsp, prior, 1);
-    let subpictures = behind::number(r1);
+    let r1 = then::read_bits(rbsp, prior, 1);
+    let subpictures = then::number(r1);
     if subpictures == 1 {
         return BitsRead::Refused(Refusal::Subpictures);
     }
-    let r2 = behind::exp_golomb(rbsp, r1);
-    let depth = behind::number(r2);
+    let r2 = then::exp_golomb(rbsp, r1);
+    let depth = then::number(r2);
     if 8 < depth {
         return BitsRead::Refused(Refusal::BitDepth);
     }
@@ -219,7 +219,7 @@ pub fn no_sps(e: Refusal) -> SpsRead
 // The head that the sections make up.
 fn head_of(i: SpsIdsRead, p: PtlBits, z: SpsSizeRead, w: ConfWindowRead, depth: u32) -> SpsHead
     requires { ⌜ depth ≤ 8 ⌝ }
-    ensures { λ r. ⌜ r ≡ headOf (i .part) (p .ptl) (z .part) (windowOf (w .part)) depth ⌝ }
+    ensures { λ r. ⌜ r ≡ spsHeadOf (i .part) (p .ptl) (z .part) (windowOf (w .part)) depth ⌝ }
 {
     let ids = i.part;
     let ptl = p.ptl;
@@ -251,11 +251,11 @@ pub fn parse_front(rbsp: &[u8]) -> SpsRead
 {
     let ids = read_ids(rbsp, FIRST_BIT);
     let ptl_read = read_ptl(rbsp, ids);
-    let behind_ptl = ptl_read.answer;
-    let size = read_size(rbsp, behind_ptl);
+    let after_ptl = ptl_read.answer;
+    let size = read_size(rbsp, after_ptl);
     let window = read_window(rbsp, size);
-    let behind_window = window.answer;
-    let r = read_depth(rbsp, behind_window);
+    let after_window = window.answer;
+    let r = read_depth(rbsp, after_window);
     let BitsRead::Value(depth, _) = r else {
         return no_sps(bits::refusal(r));
     };

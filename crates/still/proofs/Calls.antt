@@ -4,8 +4,8 @@ use native.Mathlib.Omega.{arith}
 use mathlib.Core.Path.{_≡_, sym, ap, _∙_}
 use mathlib.Core.Option.{Option}
 use mathlib.Core.List.{List, [], _∷_, _++_}
-use Rattle.error.specs.Outcome.{accept}
-use Rattle.boxes.proofs.Lent.{lent-within}
+use Rattle.parse.specs.Outcome.{accept}
+use Rattle.parse.proofs.Lent.{lent-within}
 use Rattle.compact.specs.Compact.{parseCompact}
 use Rattle.compact.specs.ItemData.{restore}
 use Rattle.full.specs.Read.{parseFull}
@@ -65,7 +65,7 @@ whole-calls C S C′ S′ still still′ pic pic′ chroma depth chroma′ depth
     bytes-of e = cc
 
 -- The theorem of the two stills of crates/path/proofs/Instance.antt. The record of the first is document 01's worked one; its stream is P, Q and 00 41 9A
--- behind start codes.
+-- after start codes.
 abbrev picture : Picture
 picture = record { chroma = 1; depth = 8; width = 16; height = 8 }
 

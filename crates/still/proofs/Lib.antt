@@ -1,5 +1,5 @@
 pub mod Lists
 pub mod Steps
-pub mod Local
 pub mod Calls
 pub mod Pictures
+pub mod LocalArrays

@@ -7,8 +7,8 @@ use mathlib.Core.Option.{Option, none, some}
 use mathlib.Core.List.{List, [], _∷_, _++_}
 use lib.Dec.{eqb}
 use lib.ListN.{length, getD, length-append, length-map}
-use Rattle.error.specs.Logic.{if_then_else_}
-use Rattle.error.specs.Outcome.{Outcome, accept, refuse, andThen}
+use Rattle.parse.specs.Logic.{if_then_else_}
+use Rattle.parse.specs.Outcome.{Outcome, accept, refuse, andThen}
 use Rattle.boxes.specs.Parts.{held}
 use Rattle.nal.specs.Header.{largestUnitType, typeOr31}
 use Rattle.unit_list.specs.UnitList.{Array, unitsOf, encode}
@@ -27,11 +27,11 @@ use Rattle.grouping.specs.Grouping.{grouped}
 use Rattle.expand.specs.Expand.{Picture, FullHead, expandedHead, withList, expandUnits, toFull}
 use Rattle.grouping.proofs.GroupedFits.{Every, units-long, grouped-sound, grouped-few, grouped-count, every-grouped, grouped-long}
 use Rattle.access_unit.specs.AccessUnit.{accessUnit, assemble}
-use Rattle.path.specs.Still.{Bytes}
 use Rattle.path.proofs.Units.{every-of, type-small}
 use Rattle.path.proofs.Expansion.{Expansion, expansion, of-units}
 use Rattle.path.proofs.Lengths.{head-long, arrays-long}
-use Rattle.still.specs.Inside.{ReadFrom, ExpandedFrom, Plain, streamExpanded}
+use Rattle.still.specs.inner.Steps.{ReadFrom, ExpandedFrom, Plain, streamExpanded}
+use Rattle.boxes.specs.Bytes.{AllBytes}
 
 -- what full write accepts is the record's bytes
 pub written-bytes : (h : VvcConfig) (xs : List (Array (List ℕ))) (b : List ℕ) → writeFull h xs ≡ accept b → fullBytes h xs ≡ b
@@ -57,8 +57,8 @@ module _ (c : CompactVvcConfig) (list : List ℕ) (from : ReadFrom c list) where
   abbrev pub us : List (List ℕ)
   us = facts .units
 
-  pub all-bytes : Every Bytes us
-  all-bytes = every-of Bytes us (λ k h. facts .bytes k)
+  pub all-bytes : Every AllBytes us
+  all-bytes = every-of AllBytes us (λ k h. facts .bytes k)
 
   all-short : Every (λ u. length u ≤ 255) us
   all-short = every-of (λ u. length u ≤ 255) us (λ k h. facts .short k)

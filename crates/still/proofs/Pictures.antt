@@ -7,9 +7,9 @@ use mathlib.Core.Option.{Option, none, some}
 use mathlib.Core.List.{List}
 use lib.Dec.{eqb}
 use borrow.Author.Tests.{le-leb}
-use Rattle.error.specs.Logic.{if_then_else_}
-use Rattle.error.specs.Outcome.{Outcome, accept, refuse, andThen, lentInput}
-use Rattle.error.specs.Steps.{orRefuse}
+use Rattle.parse.specs.Logic.{if_then_else_}
+use Rattle.parse.specs.Outcome.{Outcome, accept, refuse, andThen, lentInput}
+use Rattle.parse.specs.Steps.{orRefuse}
 use Rattle.boxes.specs.declared.Span.{Span}
 use Rattle.unit_list.specs.UnitList.{Array, decode, heldArrays, encode}
 use Rattle.ptl.specs.declared.VvcPtlRecord.{VvcPtlRecord}
@@ -19,14 +19,14 @@ use Rattle.compact.specs.Compact.{CompactParsed, parseCompact}
 use Rattle.compact.specs.ItemData.{restore}
 use Rattle.compact.specs.declared.CompactVvcConfig.{CompactVvcConfig}
 use Rattle.full.specs.Write.{ptlPartFits, headFits, fullBytes, recordFits, writeFull, serializeFull}
-use Rattle.grouping.specs.Grouping.{havingType, first, grouped}
+use Rattle.grouping.specs.Grouping.{havingType, firstElement, grouped}
 use Rattle.expand.specs.Expand.{Picture, FullHead, multiLayerVps, ptlOfSets, expandedHead, withList, expandUnits, toFull}
 use Rattle.access_unit.specs.AccessUnit.{accessUnit, assemble}
 use Rattle.expand.proofs.Expansion.{list-expanded}
-use Rattle.path.specs.Still.{Bytes}
 use Rattle.still.specs.Stills.{streamWith, anyPicture, stillStream}
-use Rattle.still.specs.Inside.{ReadFrom, streamExpanded}
+use Rattle.still.specs.inner.Steps.{ReadFrom, streamExpanded}
 use Rattle.still.proofs.Lists.{Ready, facts, us, expanded, ready}
+use Rattle.boxes.specs.Bytes.{AllBytes}
 
 -- goes on, or is refused
 abbrev done : {A : Type 0} → Outcome A → Outcome (Unit {0})
@@ -63,9 +63,9 @@ module _ (pic any : Picture) where
         unit-step (accept u) e = head-step (parseSps u) e
         unit-step (refuse m) e = let z : m ≡ n = cc in ap refuse z
 
-        first-step : (o : Outcome (Unit {0})) → andThen o (λ _. ofUnit pic (orRefuse 17 (first (havingType 15 us)))) ≡ refuse n
-            → andThen o (λ _. ofUnit any (orRefuse 17 (first (havingType 15 us)))) ≡ refuse n
-        first-step (accept x) e = unit-step (orRefuse 17 (first (havingType 15 us))) e
+        first-step : (o : Outcome (Unit {0})) → andThen o (λ _. ofUnit pic (orRefuse 17 (firstElement (havingType 15 us)))) ≡ refuse n
+            → andThen o (λ _. ofUnit any (orRefuse 17 (firstElement (havingType 15 us)))) ≡ refuse n
+        first-step (accept x) e = unit-step (orRefuse 17 (firstElement (havingType 15 us))) e
         first-step (refuse m) e = let z : m ≡ n = cc in ap refuse z
 
   -- full write refuses both or neither
@@ -134,7 +134,7 @@ module _ (S : List ℕ) (tols : Option ℕ) (pic : Picture) (chroma : pic .chrom
           (ready c _ _ (record { compact-list = list; from = from; picture = pic; full = _; expands = g; head = refl }))
           (ready c _ _ (record { compact-list = list; from = from; picture = anyPicture; full = _; expands = f; head = refl })))
 
-  pub any-picture : (C : List ℕ) → Bytes C → streamWith pic C S tols ≡ stillStream C S tols
+  pub any-picture : (C : List ℕ) → AllBytes C → streamWith pic C S tols ≡ stillStream C S tols
   unfolding streamWith stillStream
   any-picture C bytes = ap (lentInput S) (go (parseCompact C) refl)
     where

@@ -1,4 +1,4 @@
--- The steps behind expansion: the refusals of full write and restore, and the stream where both accept.
+-- The steps after expansion: the refusals of full write and restore, and the stream where both accept.
 use Prim.Native.Nat.{ℕ, _^_, _≤_, _<_}
 use native.Mathlib.Omega.{arith}
 use native.Mathlib.Decide.{decLe}
@@ -8,11 +8,11 @@ use mathlib.Core.Option.{Option}
 use mathlib.Core.List.{List, [], _∷_}
 use lib.ListN.{length}
 use borrow.Author.Tests.{le-leb, lt-leb}
-use Rattle.error.specs.Outcome.{Outcome, accept, refuse, andThen}
+use Rattle.parse.specs.Outcome.{Outcome, accept, refuse, andThen}
 use Rattle.boxes.specs.Bytes.{toChunk}
 use Rattle.boxes.specs.Walk.{countFound}
 use Rattle.boxes.specs.declared.Span.{Span}
-use Rattle.boxes.proofs.Lent.{lent-within}
+use Rattle.parse.proofs.Lent.{lent-within}
 use Rattle.split.specs.Item.{splitItem}
 use Rattle.split.proofs.Items.{split-lent}
 use Rattle.split.proofs.RoundTrip.{split-one, held-one}
@@ -23,19 +23,19 @@ use Rattle.full.specs.Write.{serializeFull}
 use Rattle.full.specs.declared.VvcConfig.{VvcConfig}
 use Rattle.access_unit.specs.AccessUnit.{accessUnit, assemble}
 use Rattle.access_unit.proofs.OneUnit.{one-assembled}
-use Rattle.still.specs.Inside.{itemBehind, plainStream, streamExpanded}
+use Rattle.still.specs.inner.Steps.{itemAfter, plainStream, streamExpanded}
 use Rattle.still.proofs.Lists.{Ready}
 
 -- the item's length once the record's is known, or the first refusal
 module _ (c : CompactVvcConfig) (h : VvcConfig) (list S : List ℕ) where
-  pub item-counted : (m : ℕ) (n : Outcome ℕ) → accept m ≡ countFound (serializeFull h list) → n ≡ countFound (restore c S) → n ≡ countFound (itemBehind c h list S)
+  pub item-counted : (m : ℕ) (n : Outcome ℕ) → accept m ≡ countFound (serializeFull h list) → n ≡ countFound (restore c S) → n ≡ countFound (itemAfter c h list S)
   item-counted m n e f = go (serializeFull h list) e
     where
       go : (o : Outcome (List ℕ)) → accept m ≡ countFound o → n ≡ countFound (andThen o (λ _. restore c S))
       go (accept b) e = f
       go (refuse k) e = let z : _≡_ {A = ℕ} 0 1 = cc in absurd (omega arith)
 
-  pub item-refused : (n : ℕ) → refuse n ≡ countFound (serializeFull h list) → refuse n ≡ countFound (itemBehind c h list S)
+  pub item-refused : (n : ℕ) → refuse n ≡ countFound (serializeFull h list) → refuse n ≡ countFound (itemAfter c h list S)
   item-refused n e = go (serializeFull h list) e
     where
       go : (o : Outcome (List ℕ)) → refuse n ≡ countFound o → refuse n ≡ countFound (andThen o (λ _. restore c S))
@@ -43,18 +43,18 @@ module _ (c : CompactVvcConfig) (h : VvcConfig) (list S : List ℕ) where
       go (refuse k) e = e
 
 module _ (c : CompactVvcConfig) (h : VvcConfig) (list S : List ℕ) (tols : Option ℕ) (ready : Ready c h list) where
-  abbrev behind : Outcome (List ℕ) → Outcome (List ℕ) → Outcome (List ℕ)
-  behind o x = andThen o (λ _. andThen x (λ item. assemble h list item tols))
+  abbrev after : Outcome (List ℕ) → Outcome (List ℕ) → Outcome (List ℕ)
+  after o x = andThen o (λ _. andThen x (λ item. assemble h list item tols))
 
-  pub stream-refused : (n : ℕ) → refuse n ≡ countFound (itemBehind c h list S) → streamExpanded c h list S tols ≡ refuse n
+  pub stream-refused : (n : ℕ) → refuse n ≡ countFound (itemAfter c h list S) → streamExpanded c h list S tols ≡ refuse n
   stream-refused n e = ready .steps S tols ∙ go (serializeFull h list) (restore c S) e
     where
-      go : (o x : Outcome (List ℕ)) → refuse n ≡ countFound (andThen o (λ _. x)) → behind o x ≡ refuse n
+      go : (o x : Outcome (List ℕ)) → refuse n ≡ countFound (andThen o (λ _. x)) → after o x ≡ refuse n
       go (refuse m) x e = let z : m ≡ n = cc in ap refuse z
       go (accept b) (refuse m) e = let z : m ≡ n = cc in ap refuse z
       go (accept b) (accept i) e = let z : _≡_ {A = ℕ} 0 1 = cc in absurd (omega arith)
 
-  module _ (m : ℕ) (e : accept m ≡ countFound (itemBehind c h list S)) where
+  module _ (m : ℕ) (e : accept m ≡ countFound (itemAfter c h list S)) where
     -- both steps accepted: the item, and the stream of it
     record Made : Type 0 where
       item : List ℕ
@@ -68,7 +68,7 @@ module _ (c : CompactVvcConfig) (h : VvcConfig) (list S : List ℕ) (tols : Opti
         go : (o : Outcome (List ℕ)) → serializeFull h list ≡ o → (x : Outcome (List ℕ)) → restore c S ≡ x → accept m ≡ countFound (andThen o (λ _. x)) → Made
         go (refuse n) f x g e = let z : _≡_ {A = ℕ} 0 1 = cc in absurd (omega arith)
         go (accept b) f (refuse n) g e = let z : _≡_ {A = ℕ} 0 1 = cc in absurd (omega arith)
-        go (accept b) f (accept i) g e = record { item = i; long = cc; restored = g; made = ready .steps S tols ∙ ap (λ (o : Outcome (List ℕ)). behind o (restore c S)) f ∙ ap (behind (accept b)) g }
+        go (accept b) f (accept i) g e = record { item = i; long = cc; restored = g; made = ready .steps S tols ∙ ap (λ (o : Outcome (List ℕ)). after o (restore c S)) f ∙ ap (after (accept b)) g }
 
     -- with the flag set the stored bytes are the item
     pub stream-layers : length S ≤ 2 ^ 30 → c .«multi_layer_flag» ≡ true → streamExpanded c h list S tols ≡ assemble h list S tols

@@ -5,7 +5,7 @@ use mathlib.Core.Logic.{_↔_}
 use mathlib.Core.Option.{Option}
 use mathlib.Core.List.{List}
 use lib.ListN.{length}
-use Rattle.error.specs.Outcome.{counted}
+use Rattle.parse.specs.Outcome.{counted}
 use Rattle.expand.specs.Expand.{Picture}
 use Rattle.path.specs.Still.{Still}
 use Rattle.path.specs.Path.{Writes, Path, Paths}

@@ -1,3 +1,3 @@
 pub mod Stills
-pub mod Inside
 pub mod Calls
+pub mod inner

@@ -1,10 +1,10 @@
--- One still in one call (document 01, "One still, from compact record to stream"): its steps one behind the other, the first refusal being that
+-- One still in one call (document 01, "One still, from compact record to stream"): its steps one after the other, the first refusal being that
 -- of the whole. What lies between the steps are lists, so no step but the last has an output to be too short (20).
 use Prim.Native.Nat.{ℕ}
 use mathlib.Core.List.{List}
 use mathlib.Core.Option.{Option}
-use Rattle.error.specs.Outcome.{Outcome, lentInput}
-use Rattle.error.specs.Steps.{_>>=_}
+use Rattle.parse.specs.Outcome.{Outcome, lentInput}
+use Rattle.parse.specs.Steps.{_>>=_}
 use Rattle.compact.specs.Compact.{parseCompact}
 use Rattle.compact.specs.ItemData.{restore}
 use Rattle.full.specs.Read.{parseFull}

@@ -1,13 +1,13 @@
--- What the program answers to its standard input: a compact record behind its length of two bytes, and the stored bytes behind that.
+-- What the program answers to its standard input: a compact record after its length of two bytes, and the stored bytes after that.
 use Prim.Native.Nat.{ℕ, _+_}
 use mathlib.Core.List.{List}
 use mathlib.Core.Option.{none}
 use lib.Dec.{ltb}
 use lib.ListN.{length, drop}
-use Rattle.error.specs.Logic.{if_then_else_}
-use Rattle.error.specs.Outcome.{Outcome, refuse}
-use Rattle.error.specs.Parse.{outcome}
-use Rattle.error.specs.Steps.{_>>=_}
+use Rattle.parse.specs.Logic.{if_then_else_}
+use Rattle.parse.specs.Outcome.{Outcome, refuse}
+use Rattle.parse.specs.Parse.{outcome}
+use Rattle.parse.specs.Steps.{_>>=_}
 use Rattle.boxes.specs.Bytes.{chunk}
 use Rattle.boxes.specs.Parts.{held}
 use Rattle.still.specs.Stills.{stillStream}

@@ -1,4 +1,4 @@
-// The main job on one still: a compact record behind its length of two bytes and the stored bytes come from standard input, and the Annex B stream
+// The main job on one still: a compact record after its length of two bytes and the stored bytes come from standard input, and the Annex B stream
 // goes to standard output. A refusal is written as its number, alone on a line.
 use access_unit::Target;
 use boxes::place;
@@ -9,8 +9,8 @@ use libc::STDOUT_FILENO;
 use unit_list::ChunkRead;
 use unit_list::walk;
 ghost use mathlib.Core.Path.{_≡_};
-ghost use Rattle.error.specs.Outcome.{lentOutput, counted};
-ghost use Rattle.error.specs.Answers.{writtenOf};
+ghost use Rattle.parse.specs.Outcome.{lentOutput, counted};
+ghost use Rattle.parse.specs.Answers.{writtenOf};
 ghost use Rattle.still_main.specs.Input.{inputStream};
 
 // The longest input that is taken: 64 KiB.
@@ -27,9 +27,9 @@ fn input_stream(input: &[u8], out: &mut [u8]) -> Written
     let ChunkRead::Bytes(a) = read else {
         return Written::Refused(Refusal::Truncated);
     };
-    let behind = a.start + a.len;
+    let after = a.start + a.len;
     let target = Target::Unset;
-    still_stream::still_stream(place::part(input, a), &input[behind..], target, out)
+    still_stream::still_stream(place::part(input, a), &input[after..], target, out)
 }
 
 // Writes the answer to an input: the stream, or the refusal's number.

@@ -6,27 +6,27 @@ use mathlib.Core.Option.{none}
 use mathlib.Core.List.{List, [], _∷_, _++_, map, append-nil}
 use lib.ListN.{length, length-append, length-map}
 use borrow.Author.Tests.{ne-eqb, le-ltb}
-use Rattle.error.specs.Outcome.{Outcome, accept, refuse, andThen}
+use Rattle.parse.specs.Outcome.{Outcome, accept, refuse, andThen}
 use Rattle.error.specs.Refusals.{numberOf}
 use Rattle.error.specs.declared.Refusal.{Refusal}
-use Rattle.error.specs.Parse.{many, manyUpTo}
+use Rattle.parse.specs.Parse.{many, manyUpTo}
 use Rattle.boxes.specs.Bytes.{toChunk}
 use Rattle.boxes.specs.Parts.{held}
 use Rattle.boxes.specs.Walk.{countFound}
-use Rattle.boxes.proofs.Lent.{lent-too-long, lent-within}
+use Rattle.parse.proofs.Lent.{lent-too-long, lent-within}
 use Rattle.split.specs.Item.{itemUnits, splitItem}
 use Rattle.split.specs.Stream.{annexB}
 use Rattle.compact.specs.ItemData.{stillUnit}
 use Rattle.access_unit.specs.AccessUnit.{leading, following, kept, startCode}
-use Rattle.access_unit.specs.Inside.{lengths, Gathered, gather, sizesOf, bytesAt, gatheredBytes, measuredOf}
+use Rattle.access_unit.specs.inner.Gathered.{lengths, Gathered, gather, sizesOf, bytesAt, gatheredBytes, sizesAnswerOf}
 use Rattle.access_unit.specs.declared.sizes.Sizes.{Sizes}
-use Rattle.access_unit.specs.declared.sizes.Measured.{Measured}
-use Rattle.access_unit.specs.declared.sizes.Measured.the-variants as M
+use Rattle.access_unit.specs.declared.sizes.SizesAnswer.{SizesAnswer}
+use Rattle.access_unit.specs.declared.sizes.SizesAnswer.the-variants as M
 use Rattle.access_unit.proofs.Gathering.{Known, known-small}
 use Rattle.access_unit.proofs.Order.{stream-parts}
 use Rattle.access_unit.proofs.Streams.{stream-length, stream-append}
-use Rattle.still.specs.Inside.{Plain, unitsStream, plainStream}
-use Rattle.still_measure.specs.Inside.{Listed, ItemLong, PlainSizes}
+use Rattle.still.specs.inner.Steps.{Plain, unitsStream, plainStream}
+use Rattle.still_measure.specs.inner.Plain.{Listed, ItemLong, PlainSizes}
 
 -- the empty item has no unit
 split-empty : (size : ℕ) → 1 ≤ size → size ≤ 4 → splitItem size [] ≡ accept []
@@ -61,12 +61,12 @@ module _ (size : ℕ) (list S : List ℕ) (n : ℕ) (long : ItemLong size S n) w
   plain-too-long h = lent-too-long (toChunk size (stillUnit S)) _ (omega arith)
 
   -- else what measuring gives makes the stream
-  pub plain-measured : Plain size list → n ≤ 2 ^ 30 → (r : Measured) → measuredOf r ≡ andThen (gather size none list []) (λ g. accept (sizesOf list [] g)) → PlainSizes size list S r
+  pub plain-measured : Plain size list → n ≤ 2 ^ 30 → (r : SizesAnswer) → sizesAnswerOf r ≡ andThen (gather size none list []) (λ g. accept (sizesOf list [] g)) → PlainSizes size list S r
   plain-measured p h (M.Sized v) e = (listed-at size list p v e, lent-within (toChunk size (stillUnit S)) _ (omega arith))
   plain-measured p h (M.Refused x) e = absurd (never-refused size list p (numberOf x) e)
 
 -- what the measured list says where its answer is known
-module _ (size : ℕ) (list S : List ℕ) (r : Measured) (f : PlainSizes size list S r) where
+module _ (size : ℕ) (list S : List ℕ) (r : SizesAnswer) (f : PlainSizes size list S r) where
   pub sized-listed : (v : Sizes) → r ≡ M.Sized v → Listed size list v × (plainStream size list S ≡ unitsStream list S)
   sized-listed v e = subst (PlainSizes size list S) e f
 

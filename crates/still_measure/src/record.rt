@@ -1,4 +1,4 @@
-// For the crates further down: how many bytes the full record of a still has, or the refusal.
+// Internal: how many bytes the full record of a still has, or the refusal.
 use compact::CompactRead;
 use compact::CompactVvcConfig;
 use error::Counted;
@@ -6,10 +6,10 @@ use expand::ExpandAnswer;
 use still::COMPACT_LIST;
 use still::EXPANDED_LIST;
 ghost use mathlib.Core.Path.{_≡_};
-ghost use Rattle.error.specs.Answers.{countOf};
+ghost use Rattle.parse.specs.Answers.{countOf};
 ghost use Rattle.boxes.specs.Walk.{countFound};
 ghost use Rattle.still.specs.Stills.{stillRecord};
-ghost use Rattle.still.specs.Inside.{ReadFrom, recordFrom};
+ghost use Rattle.still.specs.inner.Steps.{ReadFrom, recordFrom};
 
 // The record of a compact record's fields and list. Refusals: those of expansion; 3, 22.
 fn record_len(

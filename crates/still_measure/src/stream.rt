@@ -1,8 +1,8 @@
-// For the crates further down: how many bytes the stream of a still has, or the refusal.
+// Internal: how many bytes the stream of a still has, or the refusal.
 use access_unit::Target;
 use access_unit::lengths;
 use access_unit::sizes;
-use access_unit::sizes::Measured;
+use access_unit::sizes::SizesAnswer;
 use compact::CompactRead;
 use compact::CompactVvcConfig;
 use error::Counted;
@@ -15,12 +15,12 @@ use still::EXPANDED_LIST;
 ghost use mathlib.Core.Path.{_≡_};
 ghost use Prim.Native.Nat.{_+_, _≤_, _^_};
 ghost use lib.ListN.{length};
-ghost use Rattle.error.specs.Answers.{countOf};
+ghost use Rattle.parse.specs.Answers.{countOf};
 ghost use Rattle.boxes.specs.Walk.{countFound};
 ghost use Rattle.access_unit.specs.Answers.{tolsOf};
 ghost use Rattle.still.specs.Stills.{stillStream};
-ghost use Rattle.still.specs.Inside.{ReadFrom, ExpandedFrom, Plain, itemBehind, plainStream, streamExpanded, streamFrom};
-ghost use Rattle.still_measure.specs.Inside.{PlainSizes, ItemLong};
+ghost use Rattle.still.specs.inner.Steps.{ReadFrom, ExpandedFrom, Plain, itemAfter, plainStream, streamExpanded, streamFrom};
+ghost use Rattle.still_measure.specs.inner.Plain.{PlainSizes, ItemLong};
 
 // How long the item is that stored bytes are restored to, once full write accepts the record. Neither is needed itself: full read gives the same
 // list and what assembly looks at of the head, and the item is the stored bytes or holds their one unit. Refusals: 3, 22; with the flag clear 6.
@@ -30,7 +30,7 @@ pub fn restored_len(
     list: &[u8],
     stored: &[u8],
 ) -> Counted
-    ensures { λ r. ⌜ countOf r ≡ countFound (itemBehind config head (now (list .entry)) (now (stored .entry))) ⌝ }
+    ensures { λ r. ⌜ countOf r ≡ countFound (itemAfter config head (now (list .entry)) (now (stored .entry))) ⌝ }
 {
     match full_write::record_len(head, list) {
         Counted::Count(_) => item_data::lengths::item_len(config, stored),
@@ -38,7 +38,7 @@ pub fn restored_len(
     }
 }
 
-// The place behind the picture's unit, whose start code and header have 6 bytes, where the list's stream ends at a place.
+// The place after the picture's unit, whose start code and header have 6 bytes, where the list's stream ends at a place.
 pub fn picture_end(at: usize, stored: usize) -> usize
     requires { ⌜ (at ≤ 2 ^ 40) × (stored ≤ 2 ^ 30) ⌝ }
     ensures { λ r. ⌜ r ≡ at + 6 + stored ⌝ }
@@ -47,12 +47,12 @@ pub fn picture_end(at: usize, stored: usize) -> usize
 }
 
 // A list measured as an access unit without an item, for stored bytes that restore to an item of `item_len` bytes. Refusal: 23 of the item.
-pub fn plain_sizes(length_size: u8, list: &[u8], stored: &[u8], item_len: usize) -> Measured
+pub fn plain_sizes(length_size: u8, list: &[u8], stored: &[u8], item_len: usize) -> SizesAnswer
     requires { ⌜ Plain «length_size» (now list) × ItemLong «length_size» (now stored) «item_len» ⌝ }
     ensures { λ r. ⌜ PlainSizes «length_size» (now (list .entry)) (now (stored .entry)) r ⌝ }
 {
     if LARGEST_INPUT < item_len {
-        return Measured::Refused(Refusal::InputTooLong);
+        return SizesAnswer::Refused(Refusal::InputTooLong);
     }
     let target = Target::Unset;
     sizes::measure(list, &stored[..0], length_size, target)
@@ -64,11 +64,11 @@ fn plain_len(length_size: u8, list: &[u8], stored: &[u8], item_len: usize) -> Co
     ensures { λ r. ⌜ countOf r ≡ countFound (plainStream «length_size» (now (list .entry)) (now (stored .entry))) ⌝ }
 {
     match plain_sizes(length_size, list, stored, item_len) {
-        Measured::Sized(sizes) => {
+        SizesAnswer::Sized(sizes) => {
             let at = lengths::stream_len(sizes.listed, sizes.lengths);
             Counted::Count(picture_end(at, stored.len()))
         }
-        Measured::Refused(e) => Counted::Refused(e),
+        SizesAnswer::Refused(e) => Counted::Refused(e),
     }
 }
 

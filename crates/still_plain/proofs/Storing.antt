@@ -11,11 +11,11 @@ use Rattle.boxes.proofs.Sets.{sets-append}
 use Rattle.nal.specs.Header.{nalHeader}
 use Rattle.compact.specs.ItemData.{stillUnit}
 use Rattle.access_unit.specs.AccessUnit.{startCode}
-use Rattle.access_unit.specs.Inside.{gather, gatheredBytes}
+use Rattle.access_unit.specs.inner.Gathered.{gather, gatheredBytes}
 use Rattle.access_unit.specs.declared.sizes.Sizes.{Sizes}
-use Rattle.access_unit_annex_b.specs.Inside.{PutsStream}
+use Rattle.access_unit_annex_b.specs.inner.Stream.{PutsStream}
 use Rattle.access_unit_annex_b.proofs.Putting.{puts-stream}
-use Rattle.still_measure.specs.Inside.{Listed}
+use Rattle.still_measure.specs.inner.Plain.{Listed}
 use Rattle.still_measure.proofs.Streams.{known, front, front-found, front-long, streamBytes}
 
 -- the picture's unit stored: the start code, the header's two bytes, the stored bytes

@@ -1,7 +1,7 @@
-// For the crates further down: the stream of a still whose multi-layer flag is clear, of its list's units and of the picture's unit.
+// Internal: the stream of a still whose multi-layer flag is clear, of its list's units and of the picture's unit.
 use access_unit::Target;
-use access_unit::sizes::Measured;
 use access_unit::sizes::Sizes;
+use access_unit::sizes::SizesAnswer;
 use boxes::place;
 use error::Refusal;
 use error::Written;
@@ -11,14 +11,14 @@ ghost use mathlib.Core.List.{_++_};
 ghost use Prim.Native.Nat.{_+_, _≤_, _^_};
 ghost use lib.ListN.{length};
 ghost use lib.Seq.{sets};
-ghost use Rattle.error.specs.Outcome.{lentOutput, counted};
-ghost use Rattle.error.specs.Answers.{writtenOf};
+ghost use Rattle.parse.specs.Outcome.{lentOutput, counted};
+ghost use Rattle.parse.specs.Answers.{writtenOf};
 ghost use Rattle.compact.specs.ItemData.{stillUnit};
 ghost use Rattle.access_unit.specs.AccessUnit.{startCode};
-ghost use Rattle.still.specs.Inside.{Plain, unitsStream, plainStream};
-ghost use Rattle.still_measure.specs.Inside.{Listed, ItemLong};
+ghost use Rattle.still.specs.inner.Steps.{Plain, unitsStream, plainStream};
+ghost use Rattle.still_measure.specs.inner.Plain.{Listed, ItemLong};
 
-// Stores the picture's unit, the header 00 41 and the stored bytes, from a place on behind a start code.
+// Stores the picture's unit, the header 00 41 and the stored bytes, from a place on after a start code.
 fn put_picture(stored: &[u8], out: &mut [u8], at: usize)
     requires { ⌜ at + 6 + length (now stored) ≤ length (now out) ⌝ }
     ensures { λ _. ⌜ now (out .exit) ≡ sets (now (out .entry)) at (startCode ++ stillUnit (now (stored .entry))) ⌝ }
@@ -58,7 +58,7 @@ pub fn put_plain(
     ensures { λ r. ⌜ (writtenOf r, now (out .exit)) ≡ lentOutput (counted (plainStream «length_size» (now (list .entry)) (now (stored .entry)))) (now (out .entry)) ⌝ }
 {
     match stream::plain_sizes(length_size, list, stored, item_len) {
-        Measured::Sized(sizes) => put_sized(length_size, list, stored, sizes, out),
-        Measured::Refused(e) => Written::Refused(e),
+        SizesAnswer::Sized(sizes) => put_sized(length_size, list, stored, sizes, out),
+        SizesAnswer::Refused(e) => Written::Refused(e),
     }
 }

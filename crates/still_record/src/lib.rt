@@ -6,13 +6,13 @@ use expand::ExpandAnswer;
 use still::COMPACT_LIST;
 use still::EXPANDED_LIST;
 ghost use mathlib.Core.Path.{_≡_};
-ghost use Rattle.error.specs.Outcome.{lentOutput, counted};
-ghost use Rattle.error.specs.Answers.{writtenOf};
+ghost use Rattle.parse.specs.Outcome.{lentOutput, counted};
+ghost use Rattle.parse.specs.Answers.{writtenOf};
 ghost use Rattle.still.specs.Stills.{stillRecord};
-ghost use Rattle.still.specs.Inside.{ReadFrom, recordFrom};
+ghost use Rattle.still.specs.inner.Steps.{ReadFrom, recordFrom};
 
 // The record of a compact record's fields and list. Refusals: those of expansion; 3, 22; 20.
-fn put_record(
+fn put_still(
     config: CompactVvcConfig,
     list: &[u8],
     chroma_format_idc: u8,
@@ -56,7 +56,7 @@ pub fn still_record(
     let mut list = [0u8; COMPACT_LIST];
     let read = compact_read::parse(record, &mut list);
     match read {
-        CompactRead::Read(config, _, len) => put_record(
+        CompactRead::Read(config, _, len) => put_still(
             config,
             &list[..len],
             chroma_format_idc,

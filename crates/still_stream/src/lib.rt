@@ -15,11 +15,11 @@ use still_plain::plain;
 ghost use mathlib.Core.Path.{_≡_};
 ghost use Prim.Native.Nat.{_≤_, _^_};
 ghost use lib.ListN.{length};
-ghost use Rattle.error.specs.Outcome.{lentOutput, counted};
-ghost use Rattle.error.specs.Answers.{writtenOf};
+ghost use Rattle.parse.specs.Outcome.{lentOutput, counted};
+ghost use Rattle.parse.specs.Answers.{writtenOf};
 ghost use Rattle.access_unit.specs.Answers.{tolsOf};
 ghost use Rattle.still.specs.Stills.{stillStream};
-ghost use Rattle.still.specs.Inside.{ReadFrom, ExpandedFrom, streamExpanded, streamFrom};
+ghost use Rattle.still.specs.inner.Steps.{ReadFrom, ExpandedFrom, streamExpanded, streamFrom};
 
 // The stream of an expanded head and list. Refusals: 3, 22; with the flag clear 6, 23, else in byte order 1 and 5; 20.
 fn put_expanded(

@@ -7,15 +7,15 @@ use native.Mathlib.Decide.{decLe}
 use lib.ListN.{length, getD, take}
 use lib.Seq.{getD-take, length-take-le}
 use borrow.Author.Tests.{lt-ltb, le-ltb}
-use Rattle.error.specs.Outcome.{accept, refuse, andThen}
-use Rattle.error.specs.Parse.{Parsed, value, refused, bind, Parser, many, outcomeOr}
+use Rattle.parse.specs.Outcome.{accept, refuse, andThen}
+use Rattle.parse.specs.Parse.{Parsed, value, refused, bind, Parser, many, outcomeOr}
 use Rattle.boxes.specs.Bytes.{be, uint, chunk, inside}
 use Rattle.boxes.specs.Parts.{nowhere}
-use Rattle.boxes.specs.Walk.{more}
 use Rattle.boxes.specs.declared.Span.{Span}
-use Rattle.boxes.proofs.Many.{Advances, many-nil, many-bad, many-step, many-induction}
+use Rattle.parse.proofs.Many.{Advances, many-nil, many-bad, many-step, many-induction}
 use Rattle.boxes.proofs.Fields.{uint-there, uint-short, chunk-read, chunk-advances}
 use Rattle.unit_list.specs.UnitList.{Array, array, arrayRest, largestType, unitsOf}
+use Rattle.boxes.specs.inner.Walk.{more}
 
 -- each array's complete and type are small
 pub data Sound {U : Type 0} : List (Array U) → Type 0 where
@@ -28,7 +28,7 @@ IsRefused (value a p) = ⊥
 IsRefused (refused e) = Unit {0}
 
 module _ {A : Type 0} (P : Parser A) (s : List ℕ) (p : ℕ) (n : ℕ) (more-left : p < length s) where
-  -- a run stops at the first refusal, and goes on behind what was read
+  -- a run stops at the first refusal, and goes on after what was read
   pub run-refused : IsRefused (P s p) → outcomeOr n (many P s p) ≡ refuse n
   run-refused h = go (P s p) refl h
     where
@@ -46,7 +46,7 @@ module _ {A : Type 0} (P : Parser A) (s : List ℕ) (p : ℕ) (n : ℕ) (more-le
 pub run-nil : {A : Type 0} (P : Parser A) (s : List ℕ) (p n : ℕ) → length s ≤ p → outcomeOr n (many P s p) ≡ accept []
 run-nil P s p n h = rw (many-nil P s p h)
 
--- what holds at the end of a run, and before each thing read where it holds behind it, holds of every run that reads
+-- what holds at the end of a run, and before each thing read where it holds after it, holds of every run that reads
 module _ {A : Type 0} (P : Parser A) (s : List ℕ) (adv : Advances P s) (N : ℕ → List A → ℕ → Type 0) (nil : (p : ℕ) → length s ≤ p → N p [] p)
     (step : (p : ℕ) (a : A) (q : ℕ) (xs : List A) (r : ℕ) → P s p ≡ value a q → N q xs r → N p (a ∷ xs) r) where
   pub run-value : (p : ℕ) (xs : List A) (r : ℕ) → many P s p ≡ value xs r → N p xs r
@@ -263,7 +263,7 @@ module _ (w : ℕ) (s : List ℕ) (some : 1 ≤ w) where
   pub array-advances : Advances (array w) s
   array-advances p x q e = array-read p x q e .next
 
-  -- the arrays from one on whose head is good: its units, and the arrays behind it
+  -- the arrays from one on whose head is good: its units, and the arrays after it
   module _ (p n : ℕ) (left : p < length s) (a : Span) (c : chunk w s p ≡ value a (a .start + a .len)) (two : 2 ≤ a .len)
       (one : getD s (a .start) 0 ≤ 1) (small : getD s (a .start + 1) 0 ≤ largestType) where
     pub arrays-step : outcomeOr n (many (array w) s p)

@@ -9,9 +9,9 @@ use native.Mathlib.Numerals.{add-one}
 use lib.Dec.{ltb}
 use lib.ListN.{length, getD, take, drop, length-append, length-drop, take-append-drop, drop-of-length-le}
 use lib.Seq.{take-suc, drop-cons, drop-drop, getD-drop, getD-take, length-take-le}
-use Rattle.error.specs.Logic.{if_then_else_}
-use Rattle.error.specs.Outcome.{accept}
-use Rattle.error.specs.Parse.{Parsed, value, refused, bind, give, refusing, many, outcomeOr}
+use Rattle.parse.specs.Logic.{if_then_else_}
+use Rattle.parse.specs.Outcome.{accept}
+use Rattle.parse.specs.Parse.{Parsed, value, refused, bind, give, refusing, many, outcomeOr}
 use Rattle.boxes.specs.Bytes.{be, toBe, uint, chunk, toChunk, inside}
 use Rattle.boxes.specs.Parts.{held}
 use Rattle.boxes.specs.declared.Span.{Span}
@@ -24,16 +24,16 @@ use Rattle.unit_list.proofs.Accepted.{sound-held, accepted}
 
 -- ### what was read, taken apart
 
--- what was read first, and that the rest was read behind it
-record Behind {A B : Type 0} (x : Parsed A) (f : A → ℕ → Parsed B) (b : B) (r : ℕ) : Type 0 where
+-- what was read first, and that the rest was read after it
+record After {A B : Type 0} (x : Parsed A) (f : A → ℕ → Parsed B) (b : B) (r : ℕ) : Type 0 where
   given : A
   place : ℕ
   first : x ≡ value given place
   rest : f given place ≡ value b r
 
-behind : {A B : Type 0} (x : Parsed A) (f : A → ℕ → Parsed B) (b : B) (r : ℕ) → bind x f ≡ value b r → Behind x f b r
-behind (value a p) f b r e = record { given = a; place = p; first = refl; rest = e }
-behind (refused n) f b r e = absurd (let z : _≡_ {A = ℕ} 0 1 = cc in omega arith)
+after : {A B : Type 0} (x : Parsed A) (f : A → ℕ → Parsed B) (b : B) (r : ℕ) → bind x f ≡ value b r → After x f b r
+after (value a p) f b r e = record { given = a; place = p; first = refl; rest = e }
+after (refused n) f b r e = absurd (let z : _≡_ {A = ℕ} 0 1 = cc in omega arith)
 
 -- equal answers that give an array have equal parts
 array-made : (c t : ℕ) (us : List Span) (r : ℕ) (x : Array Span) (q : ℕ) → _≡_ {A = Parsed (Array Span)} (value (record { complete = c; unitType = t; units = us }) r) (value x q)
@@ -79,19 +79,19 @@ module _ (w : ℕ) (s : List ℕ) (p : ℕ) (x : Array Span) (q : ℕ) where
   array-taken : array w s p ≡ value x q → ArrayTaken w s p x q
   unfolding array inside arrayRest
   array-taken e =
-      let a = behind (chunk w s p) _ x q e in
+      let a = after (chunk w s p) _ x q e in
       let k = chunk-read w s p (a .given) (a .place) (a .first) in
       let t : List ℕ = take (a .given .start + a .given .len) s in
       let l : length t ≡ a .given .start + a .given .len = length-take-le (a .given .start + a .given .len) s (omega arith) in
-      let c = behind (uint 1 t (a .given .start)) _ x q (a .rest) in
+      let c = after (uint 1 t (a .given .start)) _ x q (a .rest) in
       let c-is = byte-read t (a .given .start) (c .given) (c .place) (c .first) in
-      let c-ok = behind ((if ltb 1 (c .given) then refusing 21 else give tt) t (c .place)) _ x q (c .rest) in
+      let c-ok = after ((if ltb 1 (c .given) then refusing 21 else give tt) t (c .place)) _ x q (c .rest) in
       let c-on = passed (ltb 1 (c .given)) 21 t (c .place) (c-ok .given) (c-ok .place) (c-ok .first) in
-      let u = behind (uint 1 t (c-ok .place)) _ x q (c-ok .rest) in
+      let u = after (uint 1 t (c-ok .place)) _ x q (c-ok .rest) in
       let u-is = byte-read t (c-ok .place) (u .given) (u .place) (u .first) in
-      let u-ok = behind ((if ltb largestType (u .given) then refusing 21 else give tt) t (u .place)) _ x q (u .rest) in
+      let u-ok = after ((if ltb largestType (u .given) then refusing 21 else give tt) t (u .place)) _ x q (u .rest) in
       let u-on = passed (ltb largestType (u .given)) 21 t (u .place) (u-ok .given) (u-ok .place) (u-ok .first) in
-      let us = behind (many (chunk w) t (u-ok .place)) _ x q (u-ok .rest) in
+      let us = after (many (chunk w) t (u-ok .place)) _ x q (u-ok .rest) in
       let made = array-made (c .given) (u .given) (us .given) (us .place) x q (us .rest) in
       let on : c-ok .place ≡ a .given .start + 1 = omega arith in
       let units-at : u-ok .place ≡ a .given .start + 2 = omega arith in
@@ -118,7 +118,7 @@ module _ (s : List ℕ) (all : (i : ℕ) → getD s i 0 < 256) where
       let r : (be s p w * 256 + getD s (p + w) 0) % 256 ≡ getD s (p + w) 0 = omega (arith, all (p + w)) in
       rw (q, r, number-again p w (omega arith), ← getD-drop p s w 0) (sym (take-suc (drop p s) w 0 (omega arith)))
 
-  -- a length and the bytes behind it, which stand in s up to place e
+  -- a length and the bytes after it, which stand in s up to place e
   chunk-again : (w p e : ℕ) (u : List ℕ) → e ≡ p + w + be s p w → e ≤ length s → u ++ drop e s ≡ drop (p + w) s → toChunk w u ++ drop e s ≡ drop p s
   unfolding toChunk
   chunk-again w p e u n h k =

@@ -5,13 +5,13 @@ use mathlib.Core.List.{List, [], _∷_, _++_, map, append-nil, append-assoc}
 use native.Mathlib.Omega.{arith}
 use lib.ListN.{length, getD, take, length-append}
 use lib.Seq.{take-at, getD-at}
-use Rattle.error.specs.Outcome.{Outcome, accept}
-use Rattle.error.specs.Parse.{value, many, outcomeOr}
+use Rattle.parse.specs.Outcome.{Outcome, accept}
+use Rattle.parse.specs.Parse.{value, many, outcomeOr}
 use Rattle.boxes.specs.Bytes.{toBe, chunk, toChunk}
 use Rattle.boxes.specs.Parts.{held}
 use Rattle.boxes.specs.declared.Span.{Span}
 use Rattle.boxes.proofs.Numbers.{length-toBe}
-use Rattle.boxes.proofs.Many.{many-nil, many-step}
+use Rattle.parse.proofs.Many.{many-nil, many-step}
 use Rattle.boxes.proofs.Fields.{chunk-toChunk, held-toChunk, chunk-advances}
 use Rattle.unit_list.specs.UnitList.{Array, array, largestType, decode, unitsOf, unitsOfType, heldArray, heldArrays, encodeUnits, encodeArray, encodeArrays, encode}
 use Rattle.unit_list.specs.Answers.{listUnits, listUnitsOfType}
@@ -36,7 +36,7 @@ unfolding toChunk
 length-toChunk w u = length-append (toBe w (length u)) u ∙ rw (length-toBe w (length u))
 
 module _ (w : ℕ) (some : 1 ≤ w) (s : List ℕ) where
-  -- units that stand behind others at the end of s
+  -- units that follow others at the end of s
   units-written : (us : List (List ℕ)) (pre : List ℕ) (p : ℕ) → s ≡ pre ++ encodeUnits w us → length pre ≡ p → length (encodeUnits w us) < 256 ^ w
       → many (chunk w) s p ≡ value (placedUnits w p us) (length s)
   unfolding encodeUnits placedUnits
@@ -67,14 +67,14 @@ module _ (w : ℕ) (s : List ℕ) where
       let m : length (pre ++ toChunk w u) ≡ p + w + length u = omega (arith, length-append pre (toChunk w u)) in
       rw (h, units-hold us (pre ++ toChunk w u) post (p + w + length u) (g ∙ sym (append-assoc pre (toChunk w u) (encodeUnits w us ++ post))) m (omega arith))
 
--- what stands behind an array's length, and what stands before its units
+-- what follows an array's length, and what comes before its units
 abbrev restOf : ℕ → Array (List ℕ) → List ℕ
 restOf w a = a .complete ∷ a .unitType ∷ encodeUnits w (a .units)
 
 abbrev headOf : ℕ → Array (List ℕ) → List ℕ
 headOf w a = toBe w (length (restOf w a)) ++ (a .complete ∷ a .unitType ∷ [])
 
--- one array behind others and in front of others
+-- one array after others and in front of others
 module _ (w : ℕ) (s : List ℕ) (a : Array (List ℕ)) (pre post : List ℕ) (p : ℕ) (e : s ≡ pre ++ (encodeArray w a ++ post)) (l : length pre ≡ p)
     (f : length (encodeArray w a) < 256 ^ w) where
   length-array : length (encodeArray w a) ≡ w + length (restOf w a)
@@ -85,15 +85,15 @@ module _ (w : ℕ) (s : List ℕ) (a : Array (List ℕ)) (pre post : List ℕ) (
   length-head =
       length-append pre (headOf w a) ∙ rw (length-append (toBe w (length (restOf w a))) (a .complete ∷ a .unitType ∷ []), length-toBe w (length (restOf w a)), l) (omega arith)
 
-  units-behind : pre ++ encodeArray w a ≡ (pre ++ headOf w a) ++ encodeUnits w (a .units)
+  units-after : pre ++ encodeArray w a ≡ (pre ++ headOf w a) ++ encodeUnits w (a .units)
   unfolding encodeArray toChunk
-  units-behind =
+  units-after =
       ap (λ (x : List ℕ). pre ++ x) (sym (append-assoc (toBe w (length (restOf w a))) (a .complete ∷ a .unitType ∷ []) (encodeUnits w (a .units))))
       ∙ sym (append-assoc pre (headOf w a) (encodeUnits w (a .units)))
 
   split : s ≡ (pre ++ headOf w a) ++ (encodeUnits w (a .units) ++ post)
   split =
-      e ∙ sym (append-assoc pre (encodeArray w a) post) ∙ ap (λ (x : List ℕ). x ++ post) units-behind
+      e ∙ sym (append-assoc pre (encodeArray w a) post) ∙ ap (λ (x : List ℕ). x ++ post) units-after
       ∙ append-assoc (pre ++ headOf w a) (encodeUnits w (a .units)) post
 
   pub array-held : heldArray s (placedArray w p a) ≡ a
@@ -127,7 +127,7 @@ module _ (w : ℕ) (s : List ℕ) (a : Array (List ℕ)) (pre post : List ℕ) (
   rest-at =
       let k = length-array in
       let m : length (pre ++ encodeArray w a) ≡ p + w + length (restOf w a) = length-append pre (encodeArray w a) ∙ rw l (omega arith) in
-      rw (e, ← append-assoc pre (encodeArray w a) post) (take-at (pre ++ encodeArray w a) post (p + w + length (restOf w a)) m) ∙ units-behind
+      rw (e, ← append-assoc pre (encodeArray w a) post) (take-at (pre ++ encodeArray w a) post (p + w + length (restOf w a)) m) ∙ units-after
 
   module _ (some : 1 ≤ w) (one : a .complete ≤ 1) (small : a .unitType ≤ largestType) where
     pub array-written : array w s p ≡ value (placedArray w p a) (p + length (encodeArray w a))
@@ -141,7 +141,7 @@ module _ (w : ℕ) (s : List ℕ) (a : Array (List ℕ)) (pre post : List ℕ) (
         array-reads w s p (record { start = p + w; len = length (restOf w a) }) c (omega arith) (rw complete-at one) (rw type-at small)
         ∙ rw (u, m, complete-at, type-at)
 
--- arrays one behind the other
+-- arrays one after the other
 module _ (w : ℕ) (s : List ℕ) where
   arrays-written : 1 ≤ w → {xs : List (Array (List ℕ))} → Sound xs → (pre : List ℕ) (p : ℕ) → s ≡ pre ++ encodeArrays w xs → length pre ≡ p
       → length (encodeArrays w xs) < 256 ^ w → many (array w) s p ≡ value (placedArrays w p xs) (length s)

@@ -1,25 +1,25 @@
--- Laws of what is left behind a cursor: from the start of a list to its end, step by step.
+-- Laws of what is left after a cursor: from the start of a list to its end, step by step.
 use Prim.Native.Nat.{ℕ, _-_, _^_, _≤_, _<_}
 use mathlib.Core.Path.{_≡_, refl, sym, ap, _∙_, subst}
 use mathlib.Core.List.{List, [], _∷_, _++_}
 use native.Mathlib.Omega.{arith}
 use lib.ListN.{length, getD, take, length-take}
 use borrow.Author.Tests.{le-leb, lt-leb, eq-eqb, ne-eqb}
-use Rattle.error.specs.Outcome.{Outcome, accept, refuse, andThen}
+use Rattle.parse.specs.Outcome.{Outcome, accept, refuse, andThen}
 use Rattle.boxes.specs.Bytes.{chunk}
-use Rattle.boxes.specs.Walk.{more}
 use Rattle.boxes.specs.declared.Span.{Span}
 use Rattle.boxes.proofs.Fields.{uint-there, uint-short}
 use Rattle.unit_list.specs.UnitList.{Array, unitList, decode}
-use Rattle.unit_list.specs.Walk.{typed, typedUnits, typedList, leftOf, unitsFrom, arraysFrom, front, arraysStepped, unitsStepped, stepped, Fits, Entered, ArrayStepFits, UnitStepFits, StepFits}
+use Rattle.unit_list.specs.inner.Walk.{typed, typedUnits, typedList, typedUnitsFrom, arrayUnitsFrom, arraysFrom, front, arraysStepped, unitsStepped, stepped, Fits, Entered, ArrayStepFits, UnitStepFits, StepFits}
 use Rattle.unit_list.specs.declared.ListCursor.{ListCursor}
 use Rattle.unit_list.specs.declared.ListStep.{ListStep}
 use Rattle.unit_list.specs.declared.ListStep.the-variants as L
 use Rattle.unit_list.specs.declared.ArrayStep.{ArrayStep}
 use Rattle.unit_list.specs.declared.ArrayStep.the-variants as A
 use Rattle.unit_list.proofs.Arrays.{be-one, run-nil}
+use Rattle.boxes.specs.inner.Walk.{more}
 
--- the start: too long, another version or none, and behind the version
+-- the start: too long, another version or none, and after the version
 pub decode-too-long : (s : List ℕ) → 2 ^ 30 < length s → decode s ≡ refuse 23
 unfolding decode
 decode-too-long s h = rw (lt-leb (length s) (2 ^ 30) h)
@@ -43,21 +43,21 @@ decode-arrays [] l h = absurd (omega arith)
 decode-arrays (b ∷ s) l h =
     rw (le-leb (length (b ∷ s)) (2 ^ 30) l, uint-there 1 (b ∷ s) 0 (omega arith), be-one (b ∷ s) 0, eq-eqb b 1 h)
 
--- what is left at the end of an array: the arrays behind it
-pub left-arrays : (s : List ℕ) (c : ListCursor) → c .at ≡ c .end → leftOf s c ≡ andThen (arraysFrom s c) (λ xs. accept (typedUnits xs))
-unfolding leftOf typed
+-- what is left at the end of an array: the arrays after it
+pub left-arrays : (s : List ℕ) (c : ListCursor) → c .at ≡ c .end → typedUnitsFrom s c ≡ andThen (arraysFrom s c) (λ xs. accept (typedUnits xs))
+unfolding typedUnitsFrom typed
 left-arrays s c e =
     let l = length-take (c .end) s in
     rw (run-nil (chunk 4) (take (c .end) s) (c .at) 21 (omega arith))
 
-pub left-start : (s : List ℕ) → length s ≤ 2 ^ 30 → getD s 0 0 ≡ 1 → leftOf s front ≡ typedList s
+pub left-start : (s : List ℕ) → length s ≤ 2 ^ 30 → getD s 0 0 ≡ 1 → typedUnitsFrom s front ≡ typedList s
 left-start s l h = left-arrays s front refl ∙ rw (decode-arrays s l h)
 
 -- one array passed
 module _ (s : List ℕ) (c : ListCursor) (e : c .at ≡ c .end) where
-  pub left-entered : (b : ℕ) (d : ListCursor) → arraysStepped s (A.Array b d) ≡ arraysFrom s c → leftOf s d ≡ leftOf s c
-  unfolding leftOf typedUnits
-  left-entered b d f = go (unitsFrom s d) (arraysFrom s d) ∙ ap (λ (o : Outcome (List (Array Span))). andThen o (λ xs. accept (typedUnits xs))) f ∙ sym (left-arrays s c e)
+  pub left-entered : (b : ℕ) (d : ListCursor) → arraysStepped s (A.Array b d) ≡ arraysFrom s c → typedUnitsFrom s d ≡ typedUnitsFrom s c
+  unfolding typedUnitsFrom typedUnits
+  left-entered b d f = go (arrayUnitsFrom s d) (arraysFrom s d) ∙ ap (λ (o : Outcome (List (Array Span))). andThen o (λ xs. accept (typedUnits xs))) f ∙ sym (left-arrays s c e)
     where
       go : (u : Outcome (List Span)) (o : Outcome (List (Array Span)))
           → andThen u (λ us. andThen o (λ xs. accept (typed (d .«unit_type») us ++ typedUnits xs)))
@@ -66,19 +66,19 @@ module _ (s : List ℕ) (c : ListCursor) (e : c .at ≡ c .end) where
       go (accept us) (refuse m) = refl
       go (accept us) (accept xs) = refl
 
-  pub left-end : accept [] ≡ arraysFrom s c → accept [] ≡ leftOf s c
+  pub left-end : accept [] ≡ arraysFrom s c → accept [] ≡ typedUnitsFrom s c
   unfolding typedUnits
   left-end f = sym (left-arrays s c e ∙ rw (← f))
 
-  pub left-malformed : refuse 21 ≡ arraysFrom s c → refuse 21 ≡ leftOf s c
+  pub left-malformed : refuse 21 ≡ arraysFrom s c → refuse 21 ≡ typedUnitsFrom s c
   left-malformed f = sym (left-arrays s c e ∙ rw (← f))
 
 -- one unit passed, in an array that has units left
 module _ (s : List ℕ) (c : ListCursor) where
-  left-unit : (a : Span) (d : ListCursor) → d .end ≡ c .end → d .«unit_type» ≡ c .«unit_type» → unitsStepped s (L.Unit a d) ≡ unitsFrom s c
-      → stepped s (L.Unit a d) ≡ leftOf s c
-  unfolding leftOf typed
-  left-unit a d e t f = rw (← f, ← e, ← t) (go (unitsFrom s d) (arraysFrom s d))
+  left-unit : (a : Span) (d : ListCursor) → d .end ≡ c .end → d .«unit_type» ≡ c .«unit_type» → unitsStepped s (L.Unit a d) ≡ arrayUnitsFrom s c
+      → stepped s (L.Unit a d) ≡ typedUnitsFrom s c
+  unfolding typedUnitsFrom typed
+  left-unit a d e t f = rw (← f, ← e, ← t) (go (arrayUnitsFrom s d) (arraysFrom s d))
     where
       go : (u : Outcome (List Span)) (o : Outcome (List (Array Span)))
           → more (record { unit = a; unitType = d .«unit_type» }) (andThen u (λ us. andThen o (λ xs. accept (typed (d .«unit_type») us ++ typedUnits xs))))
@@ -87,29 +87,29 @@ module _ (s : List ℕ) (c : ListCursor) where
       go (accept us) (refuse m) = refl
       go (accept us) (accept xs) = refl
 
-  left-unread : refuse 21 ≡ unitsFrom s c → refuse 21 ≡ leftOf s c
-  unfolding leftOf
+  left-unread : refuse 21 ≡ arrayUnitsFrom s c → refuse 21 ≡ typedUnitsFrom s c
+  unfolding typedUnitsFrom
   left-unread f = rw (← f)
 
 -- the turns of a step from c, which has come to `here`: what is left is the same
-module _ (s : List ℕ) (c here : ListCursor) (inv : Fits s here × (leftOf s here ≡ leftOf s c) × (c .at ≤ here .at)) where
+module _ (s : List ℕ) (c here : ListCursor) (inv : Fits s here × (typedUnitsFrom s here ≡ typedUnitsFrom s c) × (c .at ≤ here .at)) where
   module _ (e : here .at ≡ here .end) (r : ArrayStep) (f : (arraysStepped s r ≡ arraysFrom s here) × ArrayStepFits s here r) where
     module _ (b : ℕ) (d : ListCursor) (g : r ≡ A.Array b d) where
       entered : (arraysStepped s (A.Array b d) ≡ arraysFrom s here) × Entered s here b d
       entered = subst (λ (r : ArrayStep). (arraysStepped s r ≡ arraysFrom s here) × ArrayStepFits s here r) g f
 
-      pub turn-entered : (length s - d .end < length s - here .end) × (Fits s d × (leftOf s d ≡ leftOf s c) × (c .at ≤ d .at))
+      pub turn-entered : (length s - d .end < length s - here .end) × (Fits s d × (typedUnitsFrom s d ≡ typedUnitsFrom s c) × (c .at ≤ d .at))
       turn-entered =
           let h = entered .1 in
           (omega (arith, h .first, h .fits .before, h .fits .within), (h .fits, left-entered s here e b d (entered .0) ∙ inv .1, omega (arith, inv .2, h .first)))
 
-    pub turn-end : r ≡ A.End → accept [] ≡ leftOf s c
+    pub turn-end : r ≡ A.End → accept [] ≡ typedUnitsFrom s c
     turn-end g = left-end s here e (sym (ap (arraysStepped s) g) ∙ f .0) ∙ inv .1
 
-    pub turn-malformed : r ≡ A.Malformed → refuse 21 ≡ leftOf s c
+    pub turn-malformed : r ≡ A.Malformed → refuse 21 ≡ typedUnitsFrom s c
     turn-malformed g = left-malformed s here e (sym (ap (arraysStepped s) g) ∙ f .0) ∙ inv .1
 
-  pub turn-unit : ((here .at ≡ here .end) → ⊥) → (r : ListStep) → (unitsStepped s r ≡ unitsFrom s here) × UnitStepFits s here r → (stepped s r ≡ leftOf s c) × StepFits s c r
+  pub turn-unit : ((here .at ≡ here .end) → ⊥) → (r : ListStep) → (unitsStepped s r ≡ arrayUnitsFrom s here) × UnitStepFits s here r → (stepped s r ≡ typedUnitsFrom s c) × StepFits s c r
   turn-unit h (L.Unit a d) f =
       (left-unit s here a d (f .1 .1) (f .1 .2) (f .0) ∙ inv .1, record { start = omega (arith, f .1 .0 .start, inv .2); next = f .1 .0 .next; fits = f .1 .0 .fits })
   turn-unit h L.End f = absurd (h (f .1))

@@ -5,20 +5,20 @@ use mathlib.Core.List.{List, []}
 use native.Mathlib.Omega.{arith}
 use lib.ListN.{length, getD, take}
 use lib.Seq.{take-length, length-take-le}
-use Rattle.error.specs.Outcome.{accept, refuse}
-use Rattle.error.specs.Parse.{Parsed, value, refused}
+use Rattle.parse.specs.Outcome.{accept, refuse}
+use Rattle.parse.specs.Parse.{Parsed, value, refused}
 use Rattle.boxes.specs.Bytes.{be, chunk}
-use Rattle.boxes.specs.Walk.{more}
 use Rattle.boxes.specs.declared.Span.{Span}
 use Rattle.boxes.proofs.Numbers.{be-take}
 use Rattle.boxes.proofs.Fields.{chunk-there, chunk-short, chunk-read, chunk-advances}
 use Rattle.unit_list.specs.UnitList.{array, largestType}
-use Rattle.unit_list.specs.Walk.{chunkStepped, unitsFrom, arraysFrom, arraysStepped, Fits, Passed, Entered}
+use Rattle.unit_list.specs.inner.Walk.{chunkStepped, arrayUnitsFrom, arraysFrom, arraysStepped, Fits, Passed, Entered}
 use Rattle.unit_list.specs.declared.ListCursor.{ListCursor}
 use Rattle.unit_list.specs.declared.ArrayStep.the-variants as A
 use Rattle.unit_list.specs.declared.ChunkRead.{ChunkRead}
 use Rattle.unit_list.specs.declared.ChunkRead.the-variants as C
 use Rattle.unit_list.proofs.Arrays.{IsRefused, run-nil, run-step, run-refused, array-no-chunk, array-short, array-complete, array-type, arrays-step}
+use Rattle.boxes.specs.inner.Walk.{more}
 
 -- a chunk before an end
 module _ (w : ℕ) (s : List ℕ) (p e : ℕ) (h : e ≤ length s) where
@@ -48,26 +48,26 @@ chunk-bytes r x a f e = sym f ∙ ap chunkStepped e
 pub chunk-refused : (r : ChunkRead) (x : Parsed Span) → chunkStepped r ≡ x → r ≡ C.Short → x ≡ refused 1
 chunk-refused r x f e = sym f ∙ ap chunkStepped e
 
--- the units behind a cursor
+-- the units after a cursor
 module _ (s : List ℕ) (c : ListCursor) (fits : Fits s c) where
   whole : length (take (c .end) s) ≡ c .end
   whole = length-take-le (c .end) s (fits .within)
 
-  pub units-end : c .at ≡ c .end → accept [] ≡ unitsFrom s c
+  pub units-end : c .at ≡ c .end → accept [] ≡ arrayUnitsFrom s c
   units-end e = let l = whole in sym (run-nil (chunk 4) (take (c .end) s) (c .at) 21 (omega arith))
 
   module _ (left : (c .at ≡ c .end) → ⊥) where
     some-left : c .at < length (take (c .end) s)
     some-left = let l = whole in let h = fits .before in omega (arith, left)
 
-    pub units-unread : chunk 4 (take (c .end) s) (c .at) ≡ refused 1 → refuse 21 ≡ unitsFrom s c
+    pub units-unread : chunk 4 (take (c .end) s) (c .at) ≡ refused 1 → refuse 21 ≡ arrayUnitsFrom s c
     units-unread e = sym (run-refused (chunk 4) (take (c .end) s) (c .at) 21 some-left (rw e tt))
 
     module _ (a : Span) (e : chunk 4 (take (c .end) s) (c .at) ≡ value a (a .start + a .len)) where
       pub unit-inside : a .start + a .len ≤ c .end
       unit-inside = let l = whole in let h = chunk-read 4 (take (c .end) s) (c .at) a (a .start + a .len) e .fits in omega arith
 
-      pub units-next : more a (unitsFrom s (record { at = a .start + a .len; end = c .end; «unit_type» = c .«unit_type» })) ≡ unitsFrom s c
+      pub units-next : more a (arrayUnitsFrom s (record { at = a .start + a .len; end = c .end; «unit_type» = c .«unit_type» })) ≡ arrayUnitsFrom s c
       units-next = sym (run-step (chunk 4) (take (c .end) s) (c .at) 21 some-left (chunk-advances 4 (take (c .end) s) (omega arith)) a (a .start + a .len) e)
 
       pub unit-passed : Passed s c a (record { at = a .start + a .len; end = c .end; «unit_type» = c .«unit_type» })
@@ -75,7 +75,7 @@ module _ (s : List ℕ) (c : ListCursor) (fits : Fits s c) where
           let b = chunk-read 4 (take (c .end) s) (c .at) a (a .start + a .len) e in
           record { start = omega arith; next = refl; fits = record { before = unit-inside; within = fits .within; lent = fits .lent } }
 
--- the arrays behind a cursor's end
+-- the arrays after a cursor's end
 module _ (s : List ℕ) (c : ListCursor) where
   pub arrays-end : c .end ≡ length s → accept [] ≡ arraysFrom s c
   arrays-end e = sym (run-nil (array 4) s (c .end) 21 (omega arith))

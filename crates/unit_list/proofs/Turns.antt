@@ -8,15 +8,14 @@ use native.Mathlib.Omega.{arith}
 use lib.ListN.{length}
 use types.Run.{OneOf}
 use denote.Enum.Declared.{tagOf}
-use Rattle.error.specs.Outcome.{Outcome, accept, refuse}
+use Rattle.parse.specs.Outcome.{Outcome, accept, refuse}
 use Rattle.error.specs.Refusals.{numberOf}
 use Rattle.error.specs.declared.Refusal.{Refusal}
-use Rattle.boxes.specs.Walk.{more}
 use Rattle.boxes.specs.declared.Span.{Span}
 use Rattle.unit_list.specs.UnitList.{decode}
 use Rattle.unit_list.specs.Answers.{listUnits}
-use Rattle.unit_list.specs.Walk.{TypedUnit, typedList, leftOf, started, arraysStarted, StartFits, stepped, Fits, Passed, StepFits}
-use Rattle.unit_list.specs.Find.{wants, wantedUnits, wantedOf, unitsLeft}
+use Rattle.unit_list.specs.inner.Walk.{TypedUnit, typedList, typedUnitsFrom, started, arraysStarted, StartFits, stepped, Fits, Passed, StepFits}
+use Rattle.unit_list.specs.inner.Find.{wants, wantedUnits, wantedOf, unitsLeft}
 use Rattle.unit_list.specs.declared.ListCursor.{ListCursor}
 use Rattle.unit_list.specs.declared.ListStart.{ListStart}
 use Rattle.unit_list.specs.declared.ListStart.the-variants as S
@@ -26,6 +25,7 @@ use Rattle.unit_list.specs.declared.Wanted.{Wanted}
 use Rattle.unit_list.specs.declared.Wanted.the-variants.{Every}
 use Rattle.unit_list.proofs.ListStep.{the-type}
 use Rattle.unit_list.proofs.Units.{list-every}
+use Rattle.boxes.specs.inner.Walk.{more}
 
 -- the first unit is wanted, or it is not
 module _ (w : Wanted) (x : TypedUnit) where
@@ -39,36 +39,36 @@ module _ (w : Wanted) (x : TypedUnit) where
   wanted-less h (accept xs) = rw h
   wanted-less h (refuse e) = refl
 
--- a turn of the walk: the unit found behind a cursor, in front of those behind it
+-- a turn of the walk: the unit found after a cursor, in front of those after it
 pub record ListTurn (list : List ℕ) (here : ListCursor) (a : Span) (next : ListCursor) : Type 0 where
   pub passed : Passed list here a next
   pub ahead : here .at + 4 + a .len ≤ next .at
   pub within : next .at ≤ length list
   pub inside : a .start + a .len ≤ length list
-  pub typed : more (record { unit = a; unitType = next .«unit_type» }) (leftOf list next) ≡ leftOf list here
+  pub typed : more (record { unit = a; unitType = next .«unit_type» }) (typedUnitsFrom list next) ≡ typedUnitsFrom list here
   pub rest : unitsLeft list here ≡ more a (unitsLeft list next)
 
-module _ (list : List ℕ) (here : ListCursor) (r : ListStep) (said : (stepped list r ≡ leftOf list here) × StepFits list here r) where
+module _ (list : List ℕ) (here : ListCursor) (r : ListStep) (said : (stepped list r ≡ typedUnitsFrom list here) × StepFits list here r) where
   pub list-found : (a : Span) (next : ListCursor) → r ≡ L.Unit a next → ListTurn list here a next
   list-found a next e =
       let p : Passed list here a next = subst (StepFits list here) e (said .1) in
-      let t : stepped list (L.Unit a next) ≡ leftOf list here = sym (ap (stepped list) e) ∙ said .0 in
+      let t : stepped list (L.Unit a next) ≡ typedUnitsFrom list here = sym (ap (stepped list) e) ∙ said .0 in
       record {
         passed = p;
         ahead = omega (arith, p .start, p .next);
         within = omega (arith, p .fits .before, p .fits .within);
         inside = omega (arith, p .next, p .fits .before, p .fits .within);
         typed = t;
-        rest = ap (wantedOf Every) (sym t) ∙ wanted-more Every (record { unit = a; unitType = next .«unit_type» }) refl (leftOf list next);
+        rest = ap (wantedOf Every) (sym t) ∙ wanted-more Every (record { unit = a; unitType = next .«unit_type» }) refl (typedUnitsFrom list next);
       }
 
   -- the walk's end and a malformed list, whichever units are wanted
   module _ (w : Wanted) where
-    pub wanted-end : r ≡ L.End → wantedOf w (leftOf list here) ≡ accept []
+    pub wanted-end : r ≡ L.End → wantedOf w (typedUnitsFrom list here) ≡ accept []
     unfolding wantedUnits
     wanted-end e = ap (wantedOf w) (sym (said .0) ∙ ap (stepped list) e)
 
-    pub wanted-malformed : r ≡ L.Malformed → wantedOf w (leftOf list here) ≡ refuse 21
+    pub wanted-malformed : r ≡ L.Malformed → wantedOf w (typedUnitsFrom list here) ≡ refuse 21
     wanted-malformed e = ap (wantedOf w) (sym (said .0) ∙ ap (stepped list) e)
 
   pub list-end : r ≡ L.End → unitsLeft list here ≡ accept []
@@ -79,7 +79,7 @@ module _ (list : List ℕ) (here : ListCursor) (r : ListStep) (said : (stepped l
 
 -- a step that found no unit
 module _ (list : List ℕ) (here : ListCursor) where
-  pub list-stops : (r : ListStep) → stepped list r ≡ leftOf list here → OneOf (1 ∷ 2 ∷ []) (tagOf the-type r)
+  pub list-stops : (r : ListStep) → stepped list r ≡ typedUnitsFrom list here → OneOf (1 ∷ 2 ∷ []) (tagOf the-type r)
       → (unitsLeft list here ≡ accept []) ⊎ (unitsLeft list here ≡ refuse 21)
   unfolding wantedUnits
   list-stops (L.Unit a next) e k = absurd (⊎-elim (λ h. omega arith) (λ h. omega arith) k)
@@ -87,7 +87,7 @@ module _ (list : List ℕ) (here : ListCursor) where
   list-stops L.Malformed e k = inr (ap (wantedOf Every) (sym e))
 
   -- where units are found: none are left
-  pub list-none : (r : ListStep) → stepped list r ≡ leftOf list here → OneOf (1 ∷ 2 ∷ []) (tagOf the-type r)
+  pub list-none : (r : ListStep) → stepped list r ≡ typedUnitsFrom list here → OneOf (1 ∷ 2 ∷ []) (tagOf the-type r)
       → (us : List Span) → unitsLeft list here ≡ accept us → us ≡ []
   list-none r e k us f =
       ⊎-elim (λ h. let w : accept [] ≡ accept us = sym h ∙ f in cc)
@@ -98,7 +98,7 @@ module _ (list : List ℕ) (r : ListStart) (said : (started list r ≡ typedList
   pub start-fits : (c : ListCursor) → r ≡ S.At c → Fits list c
   start-fits c e = subst (StartFits list) e (said .2)
 
-  pub start-typed : (c : ListCursor) → r ≡ S.At c → leftOf list c ≡ typedList list
+  pub start-typed : (c : ListCursor) → r ≡ S.At c → typedUnitsFrom list c ≡ typedList list
   start-typed c e = ap (started list) (sym e) ∙ said .0
 
   pub start-units : (c : ListCursor) → r ≡ S.At c → unitsLeft list c ≡ listUnits list

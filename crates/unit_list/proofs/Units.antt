@@ -4,14 +4,14 @@ use mathlib.Core.Path.{_≡_, refl, ap, _∙_}
 use mathlib.Core.Bool.{Bool, true, false}
 use mathlib.Core.List.{List, [], _∷_, _++_, map, map-append}
 use lib.Dec.{eqb}
-use Rattle.error.specs.Logic.{if_then_else_}
-use Rattle.error.specs.Outcome.{Outcome, accept, refuse, andThen}
+use Rattle.parse.specs.Logic.{if_then_else_}
+use Rattle.parse.specs.Outcome.{Outcome, accept, refuse, andThen}
 use Rattle.boxes.specs.Parts.{held}
 use Rattle.boxes.specs.declared.Span.{Span}
 use Rattle.unit_list.specs.UnitList.{Array, decode, unitsOf, unitsOfType, heldArrays}
 use Rattle.unit_list.specs.Answers.{listUnits, listUnitsOfType}
-use Rattle.unit_list.specs.Walk.{TypedUnit, typed, typedUnits, typedList}
-use Rattle.unit_list.specs.Find.{wants, wantedUnits, wantedList}
+use Rattle.unit_list.specs.inner.Walk.{TypedUnit, typed, typedUnits, typedList}
+use Rattle.unit_list.specs.inner.Find.{wants, wantedUnits, wantedList}
 use Rattle.unit_list.specs.declared.Wanted.{Wanted}
 use Rattle.unit_list.specs.declared.Wanted.the-variants.{Every, OfType}
 

@@ -1,7 +1,7 @@
 -- What the calls on a list find.
 use Prim.Native.Nat.{ℕ}
 use mathlib.Core.List.{List}
-use Rattle.error.specs.Outcome.{Outcome, accept, andThen}
+use Rattle.parse.specs.Outcome.{Outcome, accept, andThen}
 use Rattle.boxes.specs.declared.Span.{Span}
 use Rattle.unit_list.specs.UnitList.{decode, unitsOf, unitsOfType}
 

@@ -1,4 +1,3 @@
 pub mod UnitList
 pub mod Answers
-pub mod Walk
-pub mod Find
+pub mod inner

@@ -4,9 +4,9 @@ use Prim.Native.Nat.{ℕ}
 use mathlib.Core.Bool.{not}
 use mathlib.Core.List.{List, [], _∷_, _++_, map}
 use lib.Dec.{eqb, ltb}
-use Rattle.error.specs.Logic.{if_then_else_}
-use Rattle.error.specs.Outcome.{Outcome, lentInput}
-use Rattle.error.specs.Parse.{Parser, _>>=_, _>>_, give, refuseIf, many, outcomeOr}
+use Rattle.parse.specs.Logic.{if_then_else_}
+use Rattle.parse.specs.Outcome.{Outcome, lentInput}
+use Rattle.parse.specs.Parse.{Parser, _>>=_, _>>_, give, refuseIf, many, outcomeOr}
 use Rattle.boxes.specs.Bytes.{uint, chunk, toChunk, inside}
 use Rattle.boxes.specs.Parts.{held}
 use Rattle.boxes.specs.declared.Span.{Span}
@@ -21,7 +21,7 @@ pub record Array (U : Type 0) : Type 0 where
 abbrev pub largestType : ℕ
 largestType = 31
 
--- what stands behind an array's length, unit lengths being w bytes wide
+-- what follows an array's length, unit lengths being w bytes wide
 unfoldable pub arrayRest : ℕ → Parser (Array Span)
 arrayRest w = do
   c ← uint 1
@@ -69,7 +69,7 @@ heldArray s a = record { complete = a .complete; unitType = a .unitType; units =
 abbrev pub heldArrays : List ℕ → List (Array Span) → List (Array (List ℕ))
 heldArrays s xs = map (heldArray s) xs
 
--- Written. The units of an array, each behind its length
+-- Written. The units of an array, each after its length
 unfoldable pub encodeUnits : ℕ → List (List ℕ) → List ℕ
 encodeUnits w [] = []
 encodeUnits w (u ∷ us) = toChunk w u ++ encodeUnits w us

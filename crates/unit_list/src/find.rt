@@ -13,8 +13,8 @@ ghost use mathlib.Core.Path.{_≡_};
 ghost use mathlib.Core.List.{[]};
 ghost use Prim.Native.Nat.{_+_, _<_, _^_};
 ghost use Rattle.boxes.specs.Places.{inFirst, placeOf, placeFound, PlaceFits};
-ghost use Rattle.unit_list.specs.Walk.{Fits, leftOf};
-ghost use Rattle.unit_list.specs.Find.{wants, Finds, wantedOf, wantedList, seeing};
+ghost use Rattle.unit_list.specs.inner.Walk.{Fits, typedUnitsFrom};
+ghost use Rattle.unit_list.specs.inner.Find.{wants, Finds, wantedOf, wantedList, seeing};
 
 // The units seen so far: how many, and number k of them.
 pub struct Seen {
@@ -55,10 +55,10 @@ fn see(seen: Seen, w: Wanted, k: usize, t: u8, a: Span) -> Seen
     }
 }
 
-// What the units behind a cursor give.
+// What the units after a cursor give.
 pub fn find_from(list: &[u8], c: ListCursor, w: Wanted, k: usize) -> Found
     requires { ⌜ Fits (now list) c ⌝ }
-    ensures { λ r. ⌜ Finds (now (list .entry)) (wantedOf w (leftOf (now (list .entry)) c)) k r ⌝ }
+    ensures { λ r. ⌜ Finds (now (list .entry)) (wantedOf w (typedUnitsFrom (now (list .entry)) c)) k r ⌝ }
 {
     let nowhere = Span { start: 0, len: 0 };
     let mut here = c;

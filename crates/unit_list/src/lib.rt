@@ -10,7 +10,7 @@ use error::Counted;
 use error::Refusal;
 ghost use mathlib.Core.Path.{_≡_};
 ghost use mathlib.Core.List.{[]};
-ghost use Rattle.error.specs.Answers.{countOf};
+ghost use Rattle.parse.specs.Answers.{countOf};
 ghost use Rattle.boxes.specs.Parts.{PartOf};
 ghost use Rattle.boxes.specs.Walk.{countFound, found};
 ghost use Rattle.boxes.specs.Places.{inFirst, placeOf, placeFound, PlaceFits};
@@ -19,8 +19,8 @@ ghost use Rattle.unit_list.specs.Answers.{listUnits, listUnitsOfType};
 // The largest type that an array may have.
 pub const LARGEST_TYPE: u8 = 31;
 
-// Where a walk over a list stands: behind `at` come the units of the array that ends at `end`, whose type is `unit_type`, and then the
-// arrays behind it.
+// Where a walk over a list stands: after `at` come the units of the array that ends at `end`, whose type is `unit_type`, and then the
+// arrays after it.
 pub struct ListCursor {
     pub at: usize,
     pub end: usize,

@@ -1,4 +1,4 @@
-// For the crates further down: one walk over the units of a list, array after array.
+// Internal: one walk over the units of a list, array after array.
 use super::ArrayStep;
 use super::ChunkRead;
 use super::LARGEST_TYPE;
@@ -14,7 +14,7 @@ ghost use Prim.Native.Nat.{_≤_, _^_};
 ghost use lib.ListN.{length, take};
 ghost use Rattle.boxes.specs.Bytes.{chunk as chunkOf};
 ghost use Rattle.unit_list.specs.UnitList.{decode};
-ghost use Rattle.unit_list.specs.Walk.{Fits, StartFits, chunkStepped, unitsFrom, unitsStepped, UnitStepFits, arraysFrom, arraysStepped, ArrayStepFits, typedList, started, arraysStarted, leftOf, stepped, StepFits};
+ghost use Rattle.unit_list.specs.inner.Walk.{Fits, StartFits, chunkStepped, arrayUnitsFrom, unitsStepped, UnitStepFits, arraysFrom, arraysStepped, ArrayStepFits, typedList, started, arraysStarted, typedUnitsFrom, stepped, StepFits};
 
 // A length of `width` bytes and that many bytes, all before `end`.
 pub fn chunk(s: &[u8], at: usize, end: usize, width: usize) -> ChunkRead
@@ -35,7 +35,7 @@ pub fn chunk(s: &[u8], at: usize, end: usize, width: usize) -> ChunkRead
     })
 }
 
-// The cursor behind the version, in front of the first array. Refusals: 23, 21 for no byte or another version.
+// The cursor after the version, in front of the first array. Refusals: 23, 21 for no byte or another version.
 pub fn start(list: &[u8]) -> ListStart
     ensures { λ r. ⌜ (started (now (list .entry)) r ≡ typedList (now (list .entry))) × (arraysStarted (now (list .entry)) r ≡ decode (now (list .entry))) × StartFits (now (list .entry)) r ⌝ }
 {
@@ -52,7 +52,7 @@ pub fn start(list: &[u8]) -> ListStart
     })
 }
 
-// The array behind a cursor's end: its length, complete and type are read, its units are not.
+// The array after a cursor's end: its length, complete and type are read, its units are not.
 pub fn array_step(list: &[u8], c: ListCursor) -> ArrayStep
     requires { ⌜ Fits (now list) c ⌝ }
     ensures { λ r. ⌜ (arraysStepped (now (list .entry)) r ≡ arraysFrom (now (list .entry)) c) × ArrayStepFits (now (list .entry)) c r ⌝ }
@@ -85,7 +85,7 @@ pub fn array_step(list: &[u8], c: ListCursor) -> ArrayStep
 // The unit at a cursor, before its array's end.
 pub fn unit_step(list: &[u8], c: ListCursor) -> ListStep
     requires { ⌜ Fits (now list) c ⌝ }
-    ensures { λ r. ⌜ (unitsStepped (now (list .entry)) r ≡ unitsFrom (now (list .entry)) c) × UnitStepFits (now (list .entry)) c r ⌝ }
+    ensures { λ r. ⌜ (unitsStepped (now (list .entry)) r ≡ arrayUnitsFrom (now (list .entry)) c) × UnitStepFits (now (list .entry)) c r ⌝ }
 {
     if c.at == c.end {
         return ListStep::End;
@@ -98,10 +98,10 @@ pub fn unit_step(list: &[u8], c: ListCursor) -> ListStep
     ListStep::Unit(a, next)
 }
 
-// The next unit behind a cursor, past arrays that have none left.
+// The next unit after a cursor, past arrays that have none left.
 pub fn step(list: &[u8], c: ListCursor) -> ListStep
     requires { ⌜ Fits (now list) c ⌝ }
-    ensures { λ r. ⌜ (stepped (now (list .entry)) r ≡ leftOf (now (list .entry)) c) × StepFits (now (list .entry)) c r ⌝ }
+    ensures { λ r. ⌜ (stepped (now (list .entry)) r ≡ typedUnitsFrom (now (list .entry)) c) × StepFits (now (list .entry)) c r ⌝ }
 {
     let mut here = c;
     while here.at == here.end {

@@ -1,41 +1,42 @@
--- The VPS's first PTL behind what stands in front of it.
+-- The VPS's first-read PTL after what comes before it.
 use mathlib.Core.Path.{_≡_, refl, ap, sym, _∙_}
 use mathlib.Core.Bool.{not}
 use mathlib.Core.List.{List}
 use Prim.Native.Nat.{ℕ, _%_, _≤_}
 use native.Mathlib.Omega.{arith}
 use lib.Dec.{eqb}
-use Rattle.error.specs.Parse.{Parsed, value, refused, bind, refuseIf, outcome}
+use Rattle.parse.specs.Parse.{Parsed, value, refused, bind, refuseIf, outcome}
 use Rattle.bit_reader.specs.Bits.{u, align}
-use Rattle.bit_reader.specs.Answers.{parsed, numberIn, placeIn, partBehind}
+use Rattle.bit_reader.specs.inner.Answers.{parsed, numberIn, placeIn, partAfter}
 use Rattle.bit_reader.specs.declared.BitsRead.{BitsRead}
 use Rattle.bit_reader.specs.declared.BitsRead.the-variants.{Value, Refused}
-use Rattle.bit_reader.proofs.Binds.{first, into}
-use Rattle.bit_reader.proofs.Chain.{on}
+use Rattle.parse.proofs.Binds.{first-read, into-section}
+use Rattle.bit_reader.proofs.Chain.{bind-number}
 use Rattle.bit_reader.proofs.Numbers.{u-read, align-read}
 use Rattle.ptl.specs.Ptl.{profileTierLevel, zeroPtl}
-use Rattle.ptl.specs.Answers.{orZeroPtl}
-use Rattle.ptl.specs.Answers as bits
+use Rattle.ptl.specs.inner.Answers as bits
 use Rattle.ptl.specs.declared.PtlBits.{PtlBits}
 use Rattle.ptl.specs.declared.VvcPtlRecord.{VvcPtlRecord}
-use Rattle.params.specs.Answers.{readOf, readOr}
+use Rattle.params.specs.Answers.{paramsReadOf}
 use Rattle.params.specs.declared.ParamsAnswer.{ParamsAnswer}
-use Rattle.vps.specs.Vps.{vpsPtl, vpsFront}
-use Rattle.vps.specs.Answers.{answerOf}
+use Rattle.vps.specs.Vps.{vpsPtl}
+use Rattle.params.specs.inner.Answers.{readOr}
+use Rattle.ptl.specs.inner.Answers.{orZeroPtl}
+use Rattle.vps.specs.inner.Front.{paramsAnswerOf, vpsFront}
 
 -- the front and the PTL make up the VPS
 pub vps-sections : (s : List ℕ) (p : ℕ) → vpsPtl s p ≡ bind (vpsFront s p) (λ m q. profileTierLevel m s q)
 unfolding vpsPtl vpsFront
 vps-sections s p =
-    into (u 4 s p) _ _ _ (λ id p₁. into (u 6 s p₁) _ _ _ (λ layers p₂. into (u 3 s p₂) _ _ _ (λ m p₃.
-    into (refuseIf (not (eqb layers 0)) 15 s p₃) _ _ _ (λ _ p₄. into (u 6 s p₄) _ _ _ (λ layer p₅. into (align s p₅) _ _ _ (λ _ p₆. refl))))))
+    into-section (u 4 s p) _ _ _ (λ id p₁. into-section (u 6 s p₁) _ _ _ (λ layers p₂. into-section (u 3 s p₂) _ _ _ (λ m p₃.
+    into-section (refuseIf (not (eqb layers 0)) 15 s p₃) _ _ _ (λ _ p₄. into-section (u 6 s p₄) _ _ _ (λ layer p₅. into-section (align s p₅) _ _ _ (λ _ p₆. refl))))))
 
 -- the sublayers number has three bits, and the PTL starts at a whole byte
 pub front-bounds : (s : List ℕ) (p m q : ℕ) → vpsFront s p ≡ value m q → (m ≤ 7) × (q % 8 ≡ 0)
 unfolding vpsFront
 front-bounds s p m q e =
-    first (u 4 s p) _ e (λ id p₁ h₁ e₁. first (u 6 s p₁) _ e₁ (λ layers p₂ h₂ e₂. first (u 3 s p₂) _ e₂ (λ k p₃ h₃ e₃.
-    first (refuseIf (not (eqb layers 0)) 15 s p₃) _ e₃ (λ _ p₄ h₄ e₄. first (u 6 s p₄) _ e₄ (λ layer p₅ h₅ e₅. first (align s p₅) _ e₅ (λ _ p₆ h₆ e₆.
+    first-read (u 4 s p) _ e (λ id p₁ h₁ e₁. first-read (u 6 s p₁) _ e₁ (λ layers p₂ h₂ e₂. first-read (u 3 s p₂) _ e₂ (λ k p₃ h₃ e₃.
+    first-read (refuseIf (not (eqb layers 0)) 15 s p₃) _ e₃ (λ _ p₄ h₄ e₄. first-read (u 6 s p₄) _ e₄ (λ layer p₅ h₅ e₅. first-read (align s p₅) _ e₅ (λ _ p₆ h₆ e₆.
     let x : k ≡ m = cc in
     let y : p₆ ≡ q = cc in
     let r = u-read 3 s p₂ k p₃ h₃ in
@@ -48,7 +49,7 @@ front-answer s p (Value m q) h = front-bounds s p m (q .0) (sym h)
 front-answer s p (Refused e) h = (omega arith, refl)
 
 -- the PTL's answer, without the position
-bits-answer : (a : BitsRead) (p : VvcPtlRecord) → readOf (answerOf a) p ≡ outcome (partBehind a p)
+bits-answer : (a : BitsRead) (p : VvcPtlRecord) → paramsReadOf (paramsAnswerOf a) p ≡ outcome (partAfter a p)
 bits-answer (Value v q) p = refl
 bits-answer (Refused e) p = refl
 
@@ -56,8 +57,8 @@ bits-zero : (x : Parsed VvcPtlRecord) → (outcome (orZeroPtl x .0), orZeroPtl x
 bits-zero (value p q) = refl
 bits-zero (refused e) = refl
 
-pub ptl-answered : (s : List ℕ) (f : BitsRead) (m : ℕ) (r : PtlBits) (a : ParamsAnswer) → parsed f ≡ vpsFront s 0 → m ≡ numberIn f → a ≡ answerOf (r .answer)
-    → bits.ptlOf r ≡ orZeroPtl (bind (parsed f) (λ _ q. profileTierLevel m s q)) → (readOf a (r .ptl), r .ptl) ≡ readOr zeroPtl (vpsPtl s 0)
+pub ptl-answered : (s : List ℕ) (f : BitsRead) (m : ℕ) (r : PtlBits) (a : ParamsAnswer) → parsed f ≡ vpsFront s 0 → m ≡ numberIn f → a ≡ paramsAnswerOf (r .answer)
+    → bits.ptlBitsOf r ≡ orZeroPtl (bind (parsed f) (λ _ q. profileTierLevel m s q)) → (paramsReadOf a (r .ptl), r .ptl) ≡ readOr zeroPtl (vpsPtl s 0)
 ptl-answered s f m r a k n e h =
-    rw (e, bits-answer (r .answer) (r .ptl), vps-sections s 0, on f (λ m q. profileTierLevel m s q) k, ← n)
+    rw (e, bits-answer (r .answer) (r .ptl), vps-sections s 0, bind-number f (λ m q. profileTierLevel m s q) k, ← n)
     (ap (λ (w : Parsed VvcPtlRecord × VvcPtlRecord). (outcome (w .0), w .1)) h ∙ bits-zero (bind (parsed f) (λ _ q. profileTierLevel m s q)))

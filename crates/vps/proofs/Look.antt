@@ -8,12 +8,12 @@ use lib.Dec.{eqb, lit≤}
 use lib.ListN.{take}
 use Rattle.bit_reader.specs.Bits.{u}
 use Rattle.bit_reader.proofs.Numbers.{u-read}
-use Rattle.bit_reader.proofs.Local.{Local, local-u, local-align, local-refuse-if, local-bind, local-bind-of}
-use Rattle.ptl.proofs.Local.{local-ptl}
+use Rattle.bit_reader.proofs.Looks.{LooksWithin, local-u, local-align, local-refuse-if, local-bind, local-bind-of}
+use Rattle.ptl.proofs.Looks.{local-ptl}
 use Rattle.vps.specs.Vps.{vpsPtl}
 
 -- ---- the bits
-pub local-vps : Local 8618 vpsPtl
+pub local-vps : LooksWithin 8618 vpsPtl
 unfolding vpsPtl
 local-vps =
     local-bind 4 8614 (local-u 4) (λ id.

@@ -8,12 +8,12 @@ use lib.Dec.{eqb}
 use lib.ListN.{length}
 use borrow.Author.Tests.{eq-eqb, ne-eqb}
 use denote.Ref.{RefT, now}
-use Rattle.error.specs.Logic.{if_then_else_}
-use Rattle.error.specs.Parse.{Parsed, value, refused, bind, Parser, refuseIf}
+use Rattle.parse.specs.Logic.{if_then_else_}
+use Rattle.parse.specs.Parse.{Parsed, value, refused, bind, Parser, refuseIf}
 use Rattle.error.specs.declared.Refusal.{Refusal}
 use Rattle.bit_reader.specs.Bits.{u, skip, align}
-use Rattle.bit_reader.specs.Answers.{parsed}
-use Rattle.bit_reader.specs.Reader.{skipping, placeBehind, Stepped, AlignedFrom}
+use Rattle.bit_reader.specs.inner.Answers.{parsed}
+use Rattle.bit_reader.specs.inner.Reader.{skipping, readerPlaceAfter, Stepped, AlignedFrom}
 use Rattle.bit_reader.specs.declared.BitPosition.{BitPosition}
 use Rattle.bit_reader.specs.declared.BitsRead.{BitsRead}
 use Rattle.bit_reader.specs.declared.BitsRead.the-variants.{Value, Refused}
@@ -22,7 +22,7 @@ use Rattle.bit_reader.specs.declared.reader.ReaderStep.{ReaderStep}
 use Rattle.bit_reader.proofs.Numbers.{u-read, skip-read}
 use Rattle.bit_reader.proofs.Chain.{passed-for-read}
 use Rattle.bit_reader.proofs.ReaderCalls.{AtStart}
-use Rattle.vps.specs.Vps.{vpsFront, frontOf}
+use Rattle.vps.specs.inner.Front.{vpsFront, frontOf}
 
 -- ---- the answers where the three reads before the layer test gave values
 module _ (x₁ x₂ x₃ x₄ : BitsRead) (start i : ℕ) (p₁ : BitPosition) (h₁ : x₁ ≡ Value i p₁) (n : ℕ) (p₂ : BitPosition) (h₂ : x₂ ≡ Value n p₂) (m : ℕ) (p₃ : BitPosition) (h₃ : x₃ ≡ Value m p₃) where
@@ -41,66 +41,66 @@ module _ (x₁ x₂ x₃ x₄ : BitsRead) (start i : ℕ) (p₁ : BitPosition) (
 -- ---- the definition as four reads and the alignment, each from where the one before it left the reader
 module _ (s : List ℕ) where
   -- vps_layer_id[ 0 ]
-  layer-read : (m : ℕ) (x : Parsed ℕ) (p q : ℕ) → align s (placeBehind x p) ≡ value tt q → bind x (λ _ t. bind (align s t) (λ _ r. value m r)) ≡ bind x (λ _ _. value m q)
+  layer-read : (m : ℕ) (x : Parsed ℕ) (p q : ℕ) → align s (readerPlaceAfter x p) ≡ value tt q → bind x (λ _ t. bind (align s t) (λ _ r. value m r)) ≡ bind x (λ _ _. value m q)
   layer-read m (value v t) p q h = ap (λ y. bind y (λ _ r. value m r)) h
   layer-read m (refused e) p q h = refl
 
-  abbrev behindLayer : ℕ → ℕ
-  behindLayer p = placeBehind (skipping 6 s p) p
+  abbrev afterLayer : ℕ → ℕ
+  afterLayer p = readerPlaceAfter (skipping 6 s p) p
 
   -- the layer test b, and what follows it
-  tested : (b : Bool) (m t q : ℕ) → align s (behindLayer t) ≡ value tt q
+  tested : (b : Bool) (m t q : ℕ) → align s (afterLayer t) ≡ value tt q
       → bind (refuseIf (not b) 15 s t) (λ _ r. bind (u 6 s r) (λ _ r. bind (align s r) (λ _ r. value m r))) ≡ (if b then bind (skipping 6 s t) (λ _ _. value m q) else refused 15)
   tested true m t q h = passed-for-read 6 s t (λ r. bind (align s r) (λ _ r. value m r)) ∙ layer-read m (skipping 6 s t) t q h
   tested false m t q h = refl
 
   -- what follows vps_max_layers_minus1, and vps_max_sublayers_minus1
-  abbrev behindLayers : ℕ → ℕ → Parsed ℕ
-  behindLayers n t = bind (u 3 s t) (λ m t. bind (refuseIf (not (eqb n 0)) 15 s t) (λ _ t. bind (u 6 s t) (λ _ t. bind (align s t) (λ _ r. value m r))))
+  abbrev afterLayers : ℕ → ℕ → Parsed ℕ
+  afterLayers n t = bind (u 3 s t) (λ m t. bind (refuseIf (not (eqb n 0)) 15 s t) (λ _ t. bind (u 6 s t) (λ _ t. bind (align s t) (λ _ r. value m r))))
 
-  sublayers-read : (n : ℕ) (x : Parsed ℕ) (p q : ℕ) → align s (behindLayer (placeBehind x p)) ≡ value tt q
+  sublayers-read : (n : ℕ) (x : Parsed ℕ) (p q : ℕ) → align s (afterLayer (readerPlaceAfter x p)) ≡ value tt q
       → bind x (λ m t. bind (refuseIf (not (eqb n 0)) 15 s t) (λ _ t. bind (u 6 s t) (λ _ t. bind (align s t) (λ _ r. value m r))))
-      ≡ bind x (λ m _. if eqb n 0 then bind (skipping 6 s (placeBehind x p)) (λ _ _. value m q) else refused 15)
+      ≡ bind x (λ m _. if eqb n 0 then bind (skipping 6 s (readerPlaceAfter x p)) (λ _ _. value m q) else refused 15)
   sublayers-read n (value m t) p q h = tested (eqb n 0) m t q h
   sublayers-read n (refused e) p q h = refl
 
-  abbrev behindSublayers : ℕ → ℕ
-  behindSublayers p = placeBehind (u 3 s p) p
+  abbrev afterSublayers : ℕ → ℕ
+  afterSublayers p = readerPlaceAfter (u 3 s p) p
 
-  layers-read : (x : Parsed ℕ) (p q : ℕ) → align s (behindLayer (behindSublayers (placeBehind x p))) ≡ value tt q
-      → bind x behindLayers ≡ bind x (λ n _. bind (u 3 s (placeBehind x p)) (λ m _. if eqb n 0 then bind (skipping 6 s (behindSublayers (placeBehind x p))) (λ _ _. value m q) else refused 15))
+  layers-read : (x : Parsed ℕ) (p q : ℕ) → align s (afterLayer (afterSublayers (readerPlaceAfter x p))) ≡ value tt q
+      → bind x afterLayers ≡ bind x (λ n _. bind (u 3 s (readerPlaceAfter x p)) (λ m _. if eqb n 0 then bind (skipping 6 s (afterSublayers (readerPlaceAfter x p))) (λ _ _. value m q) else refused 15))
   layers-read (value n t) p q h = sublayers-read n (u 3 s t) t q h
   layers-read (refused e) p q h = refl
 
-  abbrev behindBoth : ℕ → ℕ
-  behindBoth p = placeBehind (u 6 s p) p
+  abbrev afterBoth : ℕ → ℕ
+  afterBoth p = readerPlaceAfter (u 6 s p) p
 
-  id-read : (x : Parsed ℕ) (p q : ℕ) → align s (behindLayer (behindSublayers (behindBoth (placeBehind x p)))) ≡ value tt q
-      → bind x (λ _ t. bind (u 6 s t) behindLayers)
-      ≡ frontOf x (u 6 s (placeBehind x p)) (u 3 s (behindBoth (placeBehind x p))) (skipping 6 s (behindSublayers (behindBoth (placeBehind x p)))) q
+  id-read : (x : Parsed ℕ) (p q : ℕ) → align s (afterLayer (afterSublayers (afterBoth (readerPlaceAfter x p)))) ≡ value tt q
+      → bind x (λ _ t. bind (u 6 s t) afterLayers)
+      ≡ frontOf x (u 6 s (readerPlaceAfter x p)) (u 3 s (afterBoth (readerPlaceAfter x p))) (skipping 6 s (afterSublayers (afterBoth (readerPlaceAfter x p)))) q
   id-read (value i t) p q h = layers-read (u 6 s t) t q h
   id-read (refused e) p q h = refl
 
   -- over the places that the steps leave
-  pub front-read : (p p₁ p₂ p₃ p₄ q : ℕ) → p₁ ≡ placeBehind (skipping 4 s p) p → p₂ ≡ placeBehind (u 6 s p₁) p₁ → p₃ ≡ placeBehind (u 3 s p₂) p₂ → p₄ ≡ placeBehind (skipping 6 s p₃) p₃
+  pub front-read : (p p₁ p₂ p₃ p₄ q : ℕ) → p₁ ≡ readerPlaceAfter (skipping 4 s p) p → p₂ ≡ readerPlaceAfter (u 6 s p₁) p₁ → p₃ ≡ readerPlaceAfter (u 3 s p₂) p₂ → p₄ ≡ readerPlaceAfter (skipping 6 s p₃) p₃
       → align s p₄ ≡ value tt q → vpsFront s p ≡ frontOf (skipping 4 s p) (u 6 s p₁) (u 3 s p₂) (skipping 6 s p₃) q
   unfolding vpsFront
   front-read p p₁ p₂ p₃ p₄ q e₁ e₂ e₃ e₄ h =
-      rw (e₃, e₂, e₁) (passed-for-read 4 s p (λ t. bind (u 6 s t) behindLayers)
-      ∙ id-read (skipping 4 s p) p q (ap (align s) (sym (e₄ ∙ ap behindLayer (e₃ ∙ ap behindSublayers (e₂ ∙ ap behindBoth e₁)))) ∙ h))
+      rw (e₃, e₂, e₁) (passed-for-read 4 s p (λ t. bind (u 6 s t) afterLayers)
+      ∙ id-read (skipping 4 s p) p q (ap (align s) (sym (e₄ ∙ ap afterLayer (e₃ ∙ ap afterSublayers (e₂ ∙ ap afterBoth e₁)))) ∙ h))
 
   -- a step stays within the bytes
-  within-u : (n p : ℕ) → p ≤ 8 * length s → placeBehind (u n s p) p ≤ 8 * length s
+  within-u : (n p : ℕ) → p ≤ 8 * length s → readerPlaceAfter (u n s p) p ≤ 8 * length s
   within-u n p le = go (u n s p) refl
     where
-      go : (x : Parsed ℕ) → u n s p ≡ x → placeBehind x p ≤ 8 * length s
+      go : (x : Parsed ℕ) → u n s p ≡ x → readerPlaceAfter x p ≤ 8 * length s
       go (value v q) e = u-read n s p v q e .within
       go (refused e) h = le
 
-  within-skip : (n p : ℕ) → p ≤ 8 * length s → placeBehind (skipping n s p) p ≤ 8 * length s
+  within-skip : (n p : ℕ) → p ≤ 8 * length s → readerPlaceAfter (skipping n s p) p ≤ 8 * length s
   within-skip n p le = go (skip n s p) refl
     where
-      go : (x : Parsed (Unit {0})) → skip n s p ≡ x → placeBehind (bind x (λ _ q. value 0 q)) p ≤ 8 * length s
+      go : (x : Parsed (Unit {0})) → skip n s p ≡ x → readerPlaceAfter (bind x (λ _ q. value 0 q)) p ≤ 8 * length s
       go (value tt q) e = skip-read n s p q e .within
       go (refused e) h = le
 
@@ -108,13 +108,13 @@ module _ (s : List ℕ) where
 record Over (P : Parser ℕ) (s : RefT (List ℕ)) (p : ℕ) (t : ReaderStep) : Type 0 where
   answer : parsed (t .answer) ≡ P (now s) p
   bytes : t .reader .src ≡ s
-  place : t .reader .pos .0 ≡ placeBehind (P (now s) p) p
+  place : t .reader .pos .0 ≡ readerPlaceAfter (P (now s) p) p
 
 over : (P : Parser ℕ) (s : RefT (List ℕ)) (d : BitReader) (t : ReaderStep) → d .src ≡ s → Stepped P d t → Over P s (d .pos .0) t
 over P s d t e h = record {
   answer = h .answer ∙ ap (λ x. P (now x) (d .pos .0)) e;
   bytes = h .bytes ∙ e;
-  place = h .place ∙ ap (λ x. placeBehind (P (now x) (d .pos .0)) (d .pos .0)) e;
+  place = h .place ∙ ap (λ x. readerPlaceAfter (P (now x) (d .pos .0)) (d .pos .0)) e;
 }
 
 -- the four steps, from the first bit on

@@ -1,2 +1,3 @@
 pub mod Vps
 pub mod Answers
+pub mod inner

@@ -3,9 +3,8 @@ use mathlib.Core.Bool.{not}
 use mathlib.Core.List.{List}
 use Prim.Native.Nat.{ℕ}
 use lib.Dec.{eqb}
-use Rattle.error.specs.Logic.{if_then_else_}
-use Rattle.error.specs.Outcome.{Outcome}
-use Rattle.error.specs.Parse.{Parsed, value, refused, bind, Parser, _>>=_, _>>_, give, refuseIf}
+use Rattle.parse.specs.Outcome.{Outcome}
+use Rattle.parse.specs.Parse.{Parser, _>>=_, _>>_, refuseIf}
 use Rattle.bit_reader.specs.Bits.{u, align}
 use Rattle.ptl.specs.Ptl.{profileTierLevel}
 use Rattle.ptl.specs.declared.VvcPtlRecord.{VvcPtlRecord}
@@ -26,18 +25,3 @@ vpsPtl = do
 -- `vps_first_ptl`: 23, 10, then in bit order 11, 15
 unfoldable pub vpsFirstPtl : List ℕ → Outcome VvcPtlRecord
 vpsFirstPtl unit = ofUnit 14 vpsPtl unit
-
--- the VPS up to vps_ptl_alignment_zero_bit: vps_max_sublayers_minus1, and the position at which the PTL starts
-unfoldable pub vpsFront : Parser ℕ
-vpsFront = do
-  u 4
-  layers ← u 6
-  s ← u 3
-  refuseIf (not (eqb layers 0)) 15
-  u 6
-  align
-  give s
-
--- the same from the answers of the four reads, each from where the one before it left the reader, and from the PTL's position
-abbrev pub frontOf : Parsed ℕ → Parsed ℕ → Parsed ℕ → Parsed ℕ → ℕ → Parsed ℕ
-frontOf id layers sublayers layer start = bind id (λ _ _. bind layers (λ n _. bind sublayers (λ s _. if eqb n 0 then bind layer (λ _ _. value s start) else refused 15)))

@@ -1,26 +1,27 @@
-// For the crates further down: a VPS's first PTL from the first bytes of its RBSP.
+// Internal: a VPS's first PTL from the first bytes of its RBSP.
 use super::PtlRead;
 use bit_reader::BitPosition;
 use bit_reader::BitsRead;
-use bit_reader::behind;
 use bit_reader::reader::BitReader;
+use bit_reader::then;
 use error::Refusal;
 use params::ParamsAnswer;
 ghost use mathlib.Core.Path.{_≡_};
 ghost use Prim.Native.Nat.{_≤_};
 ghost use lib.ListN.{length};
-ghost use Rattle.error.specs.Outcome.{refuse};
+ghost use Rattle.parse.specs.Outcome.{refuse};
 ghost use Rattle.error.specs.Refusals.{numberOf};
 ghost use Rattle.rbsp.specs.Rbsp.{rbsp};
-ghost use Rattle.bit_reader.specs.Answers.{parsed};
+ghost use Rattle.bit_reader.specs.inner.Answers.{parsed};
 ghost use Rattle.ptl.specs.Ptl.{zeroPtl};
-ghost use Rattle.vps.specs.Vps.{vpsPtl, vpsFront, frontOf};
-ghost use Rattle.params.specs.Answers.{readOr};
-ghost use Rattle.vps.specs.Answers.{ptlOf, answerOf};
+ghost use Rattle.vps.specs.Vps.{vpsPtl};
+ghost use Rattle.vps.specs.Answers.{vpsPtlOf};
+ghost use Rattle.params.specs.inner.Answers.{readOr};
+ghost use Rattle.vps.specs.inner.Front.{paramsAnswerOf, vpsFront, frontOf};
 
 // A refusal, with all zeros beside it.
 pub fn no_ptl(e: Refusal) -> PtlRead
-    ensures { λ r. ⌜ ptlOf r ≡ (refuse (numberOf e), zeroPtl) ⌝ }
+    ensures { λ r. ⌜ vpsPtlOf r ≡ (refuse (numberOf e), zeroPtl) ⌝ }
 {
     let zeros = ptl::bits::zero_ptl();
     let answer = ParamsAnswer::Refused(e);
@@ -29,7 +30,7 @@ pub fn no_ptl(e: Refusal) -> PtlRead
 
 // The answer of a PTL's last read, without its number and the position.
 fn params_answer(answer: BitsRead) -> ParamsAnswer
-    ensures { λ r. ⌜ r ≡ answerOf answer ⌝ }
+    ensures { λ r. ⌜ r ≡ paramsAnswerOf answer ⌝ }
 {
     match answer {
         BitsRead::Value(_, _) => ParamsAnswer::Read,
@@ -89,20 +90,20 @@ fn front(rbsp: &[u8]) -> BitsRead
 // A VPS's first PTL from the first bytes of its RBSP. Refusals in bit order: 11, 15.
 fn parse_rbsp(rbsp: &[u8]) -> PtlRead
     requires { ⌜ length (now rbsp) ≤ 1132 ⌝ }
-    ensures { λ r. ⌜ ptlOf r ≡ readOr zeroPtl (vpsPtl (now (rbsp .entry)) 0) ⌝ }
+    ensures { λ r. ⌜ vpsPtlOf r ≡ readOr zeroPtl (vpsPtl (now (rbsp .entry)) 0) ⌝ }
 {
     let sublayers = front(rbsp);
-    let s = behind::number(sublayers) as u8;
+    let s = then::number(sublayers) as u8;
     let ptl_read = ptl::bits::parse_ptl(rbsp, sublayers, s);
-    let behind_ptl = ptl_read.answer;
-    let answer = params_answer(behind_ptl);
+    let after_ptl = ptl_read.answer;
+    let answer = params_answer(after_ptl);
     let first = ptl_read.ptl;
     PtlRead { answer, ptl: first }
 }
 
 // A VPS's first PTL from its payload, of whose RBSP 1,132 bytes are enough. Refusals in bit order: 11, 15.
 pub fn parse_payload(payload: &[u8]) -> PtlRead
-    ensures { λ r. ⌜ ptlOf r ≡ readOr zeroPtl (vpsPtl (rbsp (now (payload .entry))) 0) ⌝ }
+    ensures { λ r. ⌜ vpsPtlOf r ≡ readOr zeroPtl (vpsPtl (rbsp (now (payload .entry))) 0) ⌝ }
 {
     let mut buf = [0u8; 1132];
     let n = rbsp::fill::fill_rbsp(payload, &mut buf);

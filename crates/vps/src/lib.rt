@@ -8,7 +8,7 @@ use nal::header;
 use params::ParamsAnswer;
 use ptl::VvcPtlRecord;
 ghost use mathlib.Core.Path.{_≡_};
-ghost use Rattle.vps.specs.Answers.{ptlOf, ptlGiven};
+ghost use Rattle.vps.specs.Answers.{vpsPtlOf, ptlGiven};
 
 // A PTL, all zeros on a refusal.
 pub struct PtlRead {
@@ -18,7 +18,7 @@ pub struct PtlRead {
 
 // The first PTL of a VPS unit. Refusals: 23, 10, then in bit order 11, 15.
 pub fn vps_first_ptl(nal: &[u8]) -> PtlRead
-    ensures { λ r. ⌜ ptlOf r ≡ ptlGiven (now (nal .entry)) ⌝ }
+    ensures { λ r. ⌜ vpsPtlOf r ≡ ptlGiven (now (nal .entry)) ⌝ }
 {
     if LARGEST_INPUT < nal.len() {
         return first_ptl::no_ptl(Refusal::InputTooLong);

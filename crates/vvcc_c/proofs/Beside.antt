@@ -9,15 +9,15 @@ use lib.Dec.{leb}
 use lib.ListN.{length, take, drop, length-append}
 use lib.Seq.{take-at}
 use borrow.Author.Tests.{le-leb, lt-leb}
-use Rattle.error.specs.Logic.{if_then_else_}
-use Rattle.error.specs.Outcome.{Outcome, accept, refuse, andThen, lentOutput, counted, overlay, handsBack}
-use Rattle.error.specs.Parse.{Parsed, value, refused}
+use Rattle.parse.specs.Logic.{if_then_else_}
+use Rattle.parse.specs.Outcome.{Outcome, accept, refuse, andThen, lentOutput, counted, overlay, handsBack}
+use Rattle.parse.specs.Parse.{Parsed, value, refused}
 use Rattle.boxes.specs.declared.Span.{Span}
-use Rattle.boxes.proofs.Lent.{lent-too-long, lent-within}
+use Rattle.parse.proofs.Lent.{lent-too-long, lent-within}
 use Rattle.unit_list.specs.UnitList.{Array, encode, heldArrays}
 use Rattle.full.specs.Read.{FullParsed, fullParsed, vvcRecord, parseFull, zeroHead}
 use Rattle.full.specs.declared.VvcConfig.{VvcConfig}
-use Rattle.full_read.specs.Answers.{answerOf, fullOf, fullGiven}
+use Rattle.full_read.specs.Answers.{fullAnswerOf, fullOf, fullGiven}
 use Rattle.full_read.specs.declared.FullAnswer.{FullAnswer}
 use Rattle.full_read.specs.declared.FullAnswer.the-variants as A
 use Rattle.full_read.specs.declared.FullRead.{FullRead}
@@ -50,7 +50,7 @@ pub accepted : {A : Type 0} (o : Outcome (A × List ℕ)) (out exit : List ℕ) 
 accepted (accept (b, bytes)) out exit a e f = accepted-bytes b bytes out exit a e f
 accepted (refuse n) out exit a e f = let z : _≡_ {A = ℕ} 0 1 = cc in absurd (omega arith)
 
--- what comes behind it where the bytes fit the scratch, else 20
+-- what comes after it where the bytes fit the scratch, else 20
 abbrev onward : {A B : Type 0} → Outcome (A × List ℕ) → List ℕ → (A × List ℕ → Outcome B) → Outcome B
 onward o scratch f = andThen o (λ r. if leb (length (r .1)) (length scratch) then f r else refuse 20)
 
@@ -79,8 +79,8 @@ hands-first f z (refuse e) = refl
 -- an accepted record: the head and arrays that were read, and their list, as long as reading says
 pub record ReadAs (s : List ℕ) (r : FullParsed) (list : List ℕ) : Type 0 where
   pub what : VvcConfig × List (Array Span)
-  pub behind : ℕ
-  pub reads : vvcRecord s 0 ≡ value what behind
+  pub after : ℕ
+  pub reads : vvcRecord s 0 ≡ value what after
   pub head : r .head ≡ what .0
   pub same : list ≡ encode (heldArrays s (what .1))
   pub long : r .listLength ≡ length list
@@ -93,7 +93,7 @@ parsed-as s (value (head, arrays) p) w r list h =
     let l = ap (λ (v : FullParsed × List ℕ). v .1) y in
     record {
       what = (head, arrays);
-      behind = p;
+      after = p;
       reads = w;
       head = sym (ap (λ (v : FullParsed × List ℕ). v .0 .head) y);
       same = sym l;
@@ -125,7 +125,7 @@ module _ (rec item scratch : List ℕ) (tols : Option ℕ) where
   -- what is known once the record was read into the scratch
   pub record ReadInto (exit : List ℕ) (r : FullRead) : Type 0 where
     pub filled : exit ≡ scratchFilled rec item scratch
-    pub refused : (n : ℕ) → answerOf (r .answer) (r .head) ≡ refuse n → streamBeside rec item tols scratch ≡ refuse n
+    pub refused : (n : ℕ) → fullAnswerOf (r .answer) (r .head) ≡ refuse n → streamBeside rec item tols scratch ≡ refuse n
     pub fits : (q n : ℕ) → r .answer ≡ A.Read q n → n ≤ length exit
     pub made : (q n : ℕ) → r .answer ≡ A.Read q n → streamBeside rec item tols scratch ≡ assemble (r .head) (take (n - 0) exit) item tols
 
@@ -134,7 +134,7 @@ module _ (rec item scratch : List ℕ) (tols : Option ℕ) where
     unfolding readBeside
     read-here = lent-within item (parseFull rec) lent
 
-    answered : answerOf (r .answer) (r .head) ≡ lentOutput (parseFull rec) scratch .0
+    answered : fullAnswerOf (r .answer) (r .head) ≡ lentOutput (parseFull rec) scratch .0
     answered = ap (λ (y : (Outcome FullParsed × VvcConfig) × List ℕ). y .0 .0) gave ∙ hands-first (λ f. f .head) zeroHead (lentOutput (parseFull rec) scratch .0)
 
     left : exit ≡ lentOutput (parseFull rec) scratch .1
@@ -147,16 +147,16 @@ module _ (rec item scratch : List ℕ) (tols : Option ℕ) where
     unfolding streamBeside
     stream-here = rw read-here
 
-    stream-refused : (n : ℕ) → answerOf (r .answer) (r .head) ≡ refuse n → streamBeside rec item tols scratch ≡ refuse n
+    stream-refused : (n : ℕ) → fullAnswerOf (r .answer) (r .head) ≡ refuse n → streamBeside rec item tols scratch ≡ refuse n
     stream-refused n e = stream-here ∙ onward-refused (parseFull rec) scratch _ n (sym e ∙ answered)
 
-    -- the list stands in front of the scratch
+    -- the list comes before the scratch
     module _ (q n : ℕ) (is : r .answer ≡ A.Read q n) where
       abbrev parsed : FullParsed
       parsed = record { head = r .head; consumed = q; listLength = n }
 
       into : Accepted (parseFull rec) scratch exit parsed
-      into = accepted (parseFull rec) scratch exit parsed (sym (ap (λ (x : FullAnswer). answerOf x (r .head)) is) ∙ answered) left
+      into = accepted (parseFull rec) scratch exit parsed (sym (ap (λ (x : FullAnswer). fullAnswerOf x (r .head)) is) ∙ answered) left
 
       long : n ≡ length (into .bytes)
       long = read-as rec parsed (into .bytes) (into .given) .long

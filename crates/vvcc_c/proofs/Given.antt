@@ -4,7 +4,7 @@ use mathlib.Core.Path.{_≡_, ap, _∙_}
 use mathlib.Core.List.{List}
 use mathlib.Core.Option.{Option, none, some}
 use borrow.Author.Tests.{eq-eqb, ne-eqb}
-use Rattle.error.specs.Outcome.{Outcome, refuse, lentOutput, counted}
+use Rattle.parse.specs.Outcome.{Outcome, refuse, lentOutput, counted}
 use Rattle.vvcc_c.specs.Exports.{writtenAnswer, writtenGiven, unitAnswer, targetFrom}
 use Rattle.vvcc_c.specs.declared.VvccWritten.{VvccWritten}
 use Rattle.vvcc_c.specs.declared.VvccUnit.{VvccUnit}
@@ -12,7 +12,7 @@ use Rattle.vvcc_c.specs.declared.VvccUnit.{VvccUnit}
 pub written-number : {n e : ℕ} → n ≡ e → _≡_ {A = VvccWritten} (record { refusal = n; len = 0 }) (writtenAnswer (refuse e))
 written-number h = rw h
 
-pub unit-number : {n e : ℕ} → n ≡ e → _≡_ {A = VvccUnit} (record { refusal = n; found = 0; start = 0; len = 0; behind = 0 }) (unitAnswer (refuse e))
+pub unit-number : {n e : ℕ} → n ≡ e → _≡_ {A = VvccUnit} (record { refusal = n; found = 0; start = 0; len = 0; after = 0 }) (unitAnswer (refuse e))
 unit-number h = rw h
 
 pub no-target : (h t : ℕ) → h ≡ 0 → none ≡ targetFrom h t

@@ -4,9 +4,9 @@ use mathlib.Core.List.{List}
 use mathlib.Core.Option.{Option, none, some}
 use lib.Dec.{eqb, leb}
 use lib.ListN.{length}
-use Rattle.error.specs.Logic.{if_then_else_}
-use Rattle.error.specs.Outcome.{Outcome, accept, refuse, lentInput, lentOutput, counted}
-use Rattle.error.specs.Steps.{_>>=_}
+use Rattle.parse.specs.Logic.{if_then_else_}
+use Rattle.parse.specs.Outcome.{Outcome, accept, refuse, lentInput, lentOutput, counted}
+use Rattle.parse.specs.Steps.{_>>=_}
 use Rattle.split.specs.Answers.{Next}
 use Rattle.full.specs.Read.{FullParsed, parseFull}
 use Rattle.access_unit.specs.AccessUnit.{assemble}
@@ -22,11 +22,11 @@ writtenAnswer (refuse e) = record { refusal = e; len = 0 }
 abbrev pub writtenGiven : Outcome (List ℕ) → List ℕ → VvccWritten × List ℕ
 writtenGiven o out = (writtenAnswer (lentOutput (counted o) out .0), lentOutput (counted o) out .1)
 
--- where a unit lies and the place behind it
+-- where a unit lies and the place after it
 abbrev pub unitAnswer : Outcome (Option Next) → VvccUnit
-unitAnswer (accept (some n)) = record { refusal = 0; found = 1; start = n .unit .start; len = n .unit .len; behind = n .behind }
-unitAnswer (accept none) = record { refusal = 0; found = 0; start = 0; len = 0; behind = 0 }
-unitAnswer (refuse e) = record { refusal = e; found = 0; start = 0; len = 0; behind = 0 }
+unitAnswer (accept (some n)) = record { refusal = 0; found = 1; start = n .unit .start; len = n .unit .len; after = n .next }
+unitAnswer (accept none) = record { refusal = 0; found = 0; start = 0; len = 0; after = 0 }
+unitAnswer (refuse e) = record { refusal = e; found = 0; start = 0; len = 0; after = 0 }
 
 -- the operating point that a caller asks for: none where the first number is 0
 abbrev pub targetFrom : ℕ → ℕ → Option ℕ

@@ -1,4 +1,4 @@
-// For this crate's calls: the answers of the calls beneath as structs of numbers.
+// Internal: the answers of the calls beneath as structs of numbers.
 use super::VvccUnit;
 use super::VvccWritten;
 use access_unit::Target;
@@ -8,9 +8,9 @@ use error::number;
 use split::NextUnit;
 ghost use mathlib.Core.Path.{_≡_};
 ghost use mathlib.Core.Option.{none, some};
-ghost use Rattle.error.specs.Outcome.{accept, refuse};
+ghost use Rattle.parse.specs.Outcome.{accept, refuse};
 ghost use Rattle.error.specs.Refusals.{numberOf};
-ghost use Rattle.error.specs.Answers.{writtenOf};
+ghost use Rattle.parse.specs.Answers.{writtenOf};
 ghost use Rattle.split.specs.Answers.{nextOf};
 ghost use Rattle.access_unit.specs.Answers.{tolsOf};
 ghost use Rattle.vvcc_c.specs.Exports.{writtenAnswer, unitAnswer, targetFrom};
@@ -54,7 +54,7 @@ pub fn no_unit(e: Refusal) -> VvccUnit
         found: 0,
         start: 0,
         len: 0,
-        behind: 0,
+        after: 0,
     }
 }
 
@@ -67,20 +67,20 @@ pub fn end() -> VvccUnit
         found: 0,
         start: 0,
         len: 0,
-        behind: 0,
+        after: 0,
     }
 }
 
-// A unit, and the place behind it.
-pub fn unit(start: usize, len: usize, behind: usize) -> VvccUnit
-    ensures { λ r. ⌜ r ≡ unitAnswer (accept (some (record { unit = record { start = start; len = len }; behind = behind }))) ⌝ }
+// A unit, and the place after it.
+pub fn unit(start: usize, len: usize, after: usize) -> VvccUnit
+    ensures { λ r. ⌜ r ≡ unitAnswer (accept (some (record { unit = record { start = start; len = len }; next = after }))) ⌝ }
 {
     VvccUnit {
         refusal: 0,
         found: 1,
         start: start,
         len: len,
-        behind: behind,
+        after: after,
     }
 }
 
@@ -89,7 +89,7 @@ pub fn next(n: NextUnit) -> VvccUnit
     ensures { λ r. ⌜ r ≡ unitAnswer (nextOf n) ⌝ }
 {
     match n {
-        NextUnit::Unit(a, behind) => unit(a.start, a.len, behind),
+        NextUnit::Unit(a, after) => unit(a.start, a.len, after),
         NextUnit::End => end(),
         NextUnit::Refused(e) => no_unit(e),
     }

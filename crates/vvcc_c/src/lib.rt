@@ -17,14 +17,14 @@ pub struct VvccWritten {
     pub len: usize,
 }
 
-// Where a unit lies and the place behind it, to go on from; zeros at the end; a refusal's number and zeros.
+// Where a unit lies and the place after it, to go on from; zeros at the end; a refusal's number and zeros.
 #[repr(C)]
 pub struct VvccUnit {
     pub refusal: u32,
     pub found: u32,
     pub start: usize,
     pub len: usize,
-    pub behind: usize,
+    pub after: usize,
 }
 
 // The full record of a still. Refusals: those of `still_record`.

@@ -3,9 +3,9 @@ use mathlib.Core.Path.{_≡_, sym, ap, _∙_}
 use lib.Seq.{sets}
 use Rattle.access_unit.specs.AccessUnit.{assemble}
 use Rattle.access_unit.specs.Answers.{tolsOf}
-use Rattle.access_unit.specs.Inside.{measuredOf}
+use Rattle.access_unit.specs.inner.Gathered.{sizesAnswerOf}
 use Rattle.access_unit.specs.declared.sizes.Sizes.{Sizes}
-use Rattle.access_unit.specs.declared.sizes.Measured.the-variants.{Sized}
+use Rattle.access_unit.specs.declared.sizes.SizesAnswer.the-variants.{Sized}
 use Rattle.boxes.proofs.Output.{written-refused, written-short, written-fits}
 use Rattle.access_unit.proofs.Gathering.{Known, known, unknown, known-small}
 use Rattle.access_unit.proofs.Answering.{assemble-unknown, Assembled, assemble-known}
@@ -24,7 +24,7 @@ measure-requires c κs = search needs
 -- what was measured
 known-at : (d : tie.After-measure) (v : Sizes) → d .measure .result ≡ Sized v
     → Known (d .before .before .before .before .before .args .head .«length_size») (tolsOf (d .before .target-of .result)) (d .before .before .before .before .before .args .list .now) (d .before .before .before .before .before .args .item .now) v
-known-at d v e = known _ _ _ _ v (ap measuredOf (sym e) ∙ d .measure .ensures)
+known-at d v e = known _ _ _ _ v (ap sizesAnswerOf (sym e) ∙ d .measure .ensures)
 
 made-at : (d : tie.After-measure) (v : Sizes) → d .measure .result ≡ Sized v
     → Assembled (d .before .before .before .before .before .args .head) (d .before .before .before .before .before .args .list .now) (d .before .before .before .before .before .args .item .now) (tolsOf (d .before .before .before .before .before .args .tols)) (tolsOf (d .before .target-of .result)) (d .before .target-of .ensures) v
@@ -68,7 +68,7 @@ returns-3 c =
     let a = c .before .before .before .before .before .before .before .before .args in
     written-refused (assemble (a .head) (a .list .now) (a .item .now) (tolsOf (a .tols))) (a .out .now) _
     (assemble-unknown (a .head) (a .list .now) (a .item .now) (tolsOf (a .tols)) _ (c .before .before .before .before .target-of .ensures) _
-    (unknown _ _ _ _ _ (ap measuredOf (sym (c .before .measured2 .given .1)) ∙ c .before .before .before .measure .ensures)))
+    (unknown _ _ _ _ _ (ap sizesAnswerOf (sym (c .before .measured2 .given .1)) ∙ c .before .before .before .measure .ensures)))
 
 pub access-unit-annex-b-spec : {M : Type 1} → statement M
 access-unit-annex-b-spec =

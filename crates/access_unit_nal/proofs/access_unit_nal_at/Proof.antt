@@ -1,7 +1,7 @@
 -- `access_unit_nal_at` says where unit k of the access unit lies.
 use mathlib.Core.Path.{ap, _∙_}
 use mathlib.Core.List.{List}
-use Rattle.error.specs.Outcome.{Outcome}
+use Rattle.parse.specs.Outcome.{Outcome}
 use Rattle.boxes.specs.Places.{placeFound}
 use Rattle.access_unit.specs.AccessUnit.{Source}
 use Rattle.access_unit.specs.Answers.{tolsOf}

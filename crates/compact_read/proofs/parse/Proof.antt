@@ -8,11 +8,11 @@ use lib.Seq.{sets}
 use Rattle.boxes.specs.Parts.{held}
 use Rattle.boxes.proofs.Output.{output-refused, output-short, output-fits}
 use Rattle.compact.specs.Compact.{oneArray, parseCompact}
-use Rattle.compact.specs.Units.{recordUnits, configOf}
+use Rattle.compact.specs.inner.Units.{recordUnits, configOf}
 use Rattle.compact.proofs.OneArray.{list-long}
 use Rattle.compact.proofs.RecordRead.{parse-read}
-use Rattle.compact_read.specs.Inside.{RoomRead, RoomSays}
-use Rattle.compact_read.proofs.RecordUnits.{Measured, measured-copies, measured-room, measured-list}
+use Rattle.compact_read.specs.inner.Room.{RoomRead, RoomSays}
+use Rattle.compact_read.proofs.RecordUnits.{UnitsMeasured, measured-copies, measured-room, measured-list}
 use Rattle.compact_read.proofs.parse.Statement.{statement}
 use Rattle.compact_read.proofs.parse.Tie as tie
 
@@ -21,7 +21,7 @@ room-at : (c : tie.After-count) → RoomRead (c .before .before .before .before 
 room-at c = subst (RoomSays (c .before .before .before .before .before .args .«record» .now)) (c .count .given .1) (c .before .before .record-room .ensures)
 
 measured-at : (c : tie.After-count)
-    → Measured (c .before .before .before .before .before .args .«record» .now) (recordUnits (c .before .before .before .before .before .args .«record» .now) (c .count .given .0 .0)) (c .count .given .0 .1 .0) (room-at c .behind)
+    → UnitsMeasured (c .before .before .before .before .before .args .«record» .now) (recordUnits (c .before .before .before .before .before .args .«record» .now) (c .count .given .0 .0)) (c .count .given .0 .1 .0) (room-at c .after)
 measured-at c = let r = room-at c in record { units = r .units; read = r .read; long = r .long }
 
 record-room-requires : tie.Need-record-room-requires

@@ -1,10 +1,10 @@
--- `serialize` gives the record of the units behind the list's start, or the refusal of the start.
+-- `serialize` gives the record of the units after the list's start, or the refusal of the start.
 use Prim.Native.Nat.{ℕ}
 use mathlib.Core.Path.{ap, _∙_, subst}
 use mathlib.Core.List.{List}
 use borrow.Author.Needs.{needs}
-use Rattle.error.specs.Outcome.{Outcome, lentOutput, counted}
-use Rattle.unit_list.specs.Walk.{StartFits}
+use Rattle.parse.specs.Outcome.{Outcome, lentOutput, counted}
+use Rattle.unit_list.specs.inner.Walk.{StartFits}
 use Rattle.boxes.proofs.Output.{written-refused}
 use Rattle.compact_write.proofs.ListUnits.{serialize-start, serialize-refused}
 use Rattle.compact_write.proofs.serialize.Statement.{statement}
@@ -16,8 +16,8 @@ start-requires c κs = search needs
 enum-known-c : tie.Need-enum-known-c
 enum-known-c c = search needs
 
-put-record-requires : tie.Need-put-record-requires
-put-record-requires c κs = let g = c .before .before .c .given in subst (StartFits (c .before .before .before .before .before .before .before .args .list .now)) (g .1) (c .before .before .before .before .start .ensures .2)
+put-compact-requires : tie.Need-put-compact-requires
+put-compact-requires c κs = let g = c .before .before .c .given in subst (StartFits (c .before .before .before .before .before .before .before .args .list .now)) (g .1) (c .before .before .before .before .start .ensures .2)
 
 enum-known-e : tie.Need-enum-known-e
 enum-known-e c = search needs
@@ -30,7 +30,7 @@ returns c =
     let a = c .before .before .before .before .before .before .before .before .before .before .args in
     let s = c .before .before .before .before .before .before .before .start in
     let g = c .before .before .before .before .before .c .given in
-    c .before .before .put-record .ensures
+    c .before .before .put-compact .ensures
     ∙ ap (λ (o : Outcome (List ℕ)). lentOutput (counted o) (a .out .now)) (serialize-start (a .config) (a .list .now) (s .result) (s .ensures) (g .0 .0) (g .1))
 
 returns-2 : tie.Need-returns-2
@@ -46,7 +46,7 @@ serialize-spec =
     (tie.spec
     start-requires
     enum-known-c
-    put-record-requires
+    put-compact-requires
     enum-known-e
     same-length
     returns

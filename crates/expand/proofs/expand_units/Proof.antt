@@ -3,13 +3,13 @@ use Prim.Native.Nat.{ℕ}
 use mathlib.Core.Path.{sym, ap, _∙_}
 use mathlib.Core.List.{List}
 use borrow.Author.Needs.{needs}
-use Rattle.error.specs.Outcome.{Outcome}
+use Rattle.parse.specs.Outcome.{Outcome}
 use Rattle.ptl.specs.Ptl.{zeroPtl}
 use Rattle.full.specs.declared.VvcConfig.{VvcConfig}
 use Rattle.expand.specs.Expand.{FullHead, Picture}
 use Rattle.expand.specs.Answers.{expandedGiven}
-use Rattle.grouping.specs.Units.{unitsAt}
-use Rattle.expand.specs.Inside.{withUnits, setsPtl}
+use Rattle.grouping.specs.inner.Units.{unitsAt}
+use Rattle.expand.specs.inner.ParameterSets.{withUnits, setsPtl}
 use Rattle.expand.proofs.SetsRead.{read-value, read-refusal, sets-read, sets-refused}
 use Rattle.expand.proofs.Expansion.{expanded-refused}
 use Rattle.expand.proofs.expand_units.Statement.{statement}

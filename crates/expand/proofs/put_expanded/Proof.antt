@@ -2,11 +2,11 @@
 use mathlib.Core.Path.{ap, _∙_}
 use native.Mathlib.Omega.{arith}
 use borrow.Author.Needs.{needs}
-use Rattle.error.specs.Outcome.{Outcome}
+use Rattle.parse.specs.Outcome.{Outcome}
 use Rattle.unit_list.specs.UnitList.{encode}
 use Rattle.full.specs.declared.VvcConfig.{VvcConfig}
 use Rattle.expand.specs.Expand.{FullHead}
-use Rattle.grouping.specs.Units.{unitsAt}
+use Rattle.grouping.specs.inner.Units.{unitsAt}
 use Rattle.expand.proofs.Expansion.{expanded-short, expanded-fits}
 use Rattle.expand.proofs.put_expanded.Statement.{statement}
 use Rattle.expand.proofs.put_expanded.Tie as tie

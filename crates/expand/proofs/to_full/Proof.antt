@@ -1,13 +1,13 @@
--- `to_full` expands the units behind the list's start, or gives its refusal.
+-- `to_full` expands the units after the list's start, or gives its refusal.
 use Prim.Native.Nat.{ℕ}
 use mathlib.Core.Path.{sym, ap, _∙_, subst}
 use mathlib.Core.List.{List}
 use borrow.Author.Needs.{needs}
-use Rattle.error.specs.Outcome.{Outcome}
+use Rattle.parse.specs.Outcome.{Outcome}
 use Rattle.full.specs.declared.VvcConfig.{VvcConfig}
 use Rattle.expand.specs.Expand.{FullHead, Picture}
 use Rattle.expand.specs.Answers.{expandedGiven}
-use Rattle.grouping.specs.Units.{startedUnits, StartReads}
+use Rattle.grouping.specs.inner.Units.{startedUnits, StartReads}
 use Rattle.expand.proofs.Expansion.{expanded-refused, list-expanded, list-refused}
 use Rattle.expand.proofs.to_full.Statement.{statement}
 use Rattle.expand.proofs.to_full.Tie as tie

@@ -1,9 +1,9 @@
 -- What the arrays gave stands beside the head, a refusal beside zeros.
 use mathlib.Core.Path.{sym, ap, _∙_}
 use borrow.Author.Needs.{needs}
-use Rattle.record_arrays_read.specs.Inside.{listOf}
+use Rattle.record_arrays_read.specs.inner.Arrays.{listOf}
 use Rattle.record_arrays_read.specs.declared.ListRead.{ListRead}
-use Rattle.full_read.specs.Inside.{besideHead}
+use Rattle.full_read.specs.inner.Heads.{besideHead}
 use Rattle.full_read.proofs.with_head.Statement.{statement}
 use Rattle.full_read.proofs.with_head.Tie as tie
 

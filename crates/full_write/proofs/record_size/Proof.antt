@@ -1,12 +1,12 @@
--- The size of the arrays behind the version, or the refusal of the list.
+-- The size of the arrays after the version, or the refusal of the list.
 use Prim.Native.Nat.{ℕ}
 use mathlib.Core.Path.{sym, ap, subst, _∙_}
 use mathlib.Core.List.{List}
 use borrow.Author.Needs.{needs}
-use Rattle.error.specs.Outcome.{Outcome, refuse}
+use Rattle.parse.specs.Outcome.{Outcome, refuse}
 use Rattle.error.specs.Refusals.{numberOf}
-use Rattle.unit_list.specs.Walk.{StartFits, arraysStarted, arraysFrom}
-use Rattle.full_write.specs.Inside.{SizeOf}
+use Rattle.unit_list.specs.inner.Walk.{StartFits, arraysStarted, arraysFrom}
+use Rattle.full_write.specs.inner.Record.{SizeOf}
 use Rattle.full_write.proofs.Records.{serialize-arrays}
 use Rattle.full_write.proofs.record_size.Statement.{statement}
 use Rattle.full_write.proofs.record_size.Tie as tie

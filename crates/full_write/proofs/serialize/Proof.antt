@@ -12,8 +12,8 @@ record-size-requires c κs = search needs
 enum-known-c : tie.Need-enum-known-c
 enum-known-c c = search needs
 
-put-record-requires : tie.Need-put-record-requires
-put-record-requires c κs =
+put-full-requires : tie.Need-put-full-requires
+put-full-requires c κs =
     let a = c .before .before .before .before .before .before .before .args in
     let g = c .before .before .c .given in
     size-is (a .head) (a .list .now) (serializeFull (a .head) (a .list .now)) (c .before .before .before .before .record-size .result) (c .before .before .before .before .record-size .ensures) (g .0 .0) (g .0 .1 .0) (g .0 .1 .1 .0) (g .1)
@@ -40,7 +40,7 @@ serialize-spec =
     (tie.spec
     record-size-requires
     enum-known-c
-    put-record-requires
+    put-full-requires
     enum-known-e
     same-length
     returns

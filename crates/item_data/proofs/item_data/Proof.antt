@@ -3,17 +3,17 @@ use mathlib.Core.Path.{sym, ap, _∙_}
 use native.Mathlib.Omega.{arith}
 use borrow.Author.Needs.{needs}
 use lib.Seq.{sets}
-use Rattle.error.specs.Answers.{countOf}
+use Rattle.parse.specs.Answers.{countOf}
 use Rattle.boxes.proofs.Output.{written-refused, written-short, written-fits}
 use Rattle.compact.specs.ItemData.{restore}
-use Rattle.item_data.specs.Inside.{restoredBytes}
-use Rattle.item_data.proofs.Measured.{Told, told, told-refused}
+use Rattle.item_data.specs.inner.Still.{restoredBytes}
+use Rattle.item_data.proofs.Measured.{MeasuredAs, measured-as, measured-refused}
 use Rattle.item_data.proofs.item_data.Statement.{statement}
 use Rattle.item_data.proofs.item_data.Tie as tie
 
 -- the item that was measured
-told-at : (c : tie.After-len) → Told (restore (c .before .before .before .before .before .args .config) (c .before .before .before .before .before .args .stored .now)) (c .len .given .0 .0)
-told-at c = told _ _ (sym (ap countOf (c .len .given .1)) ∙ c .before .before .item-len .ensures)
+told-at : (c : tie.After-len) → MeasuredAs (restore (c .before .before .before .before .before .args .config) (c .before .before .before .before .before .args .stored .now)) (c .len .given .0 .0)
+told-at c = measured-as _ _ (sym (ap countOf (c .len .given .1)) ∙ c .before .before .item-len .ensures)
 
 item-len-requires : tie.Need-item-len-requires
 item-len-requires c κs = search needs
@@ -46,7 +46,7 @@ returns-3 : tie.Need-returns-3
 returns-3 c =
     let a = c .before .before .before .before .before .before .args in
     written-refused (restore (a .config) (a .stored .now)) (a .out .now) _
-    (told-refused _ _ (sym (ap countOf (c .before .e .given .1)) ∙ c .before .before .before .item-len .ensures))
+    (measured-refused _ _ (sym (ap countOf (c .before .e .given .1)) ∙ c .before .before .before .item-len .ensures))
 
 pub item-data-spec : {M : Type 1} → statement M
 item-data-spec =

@@ -5,7 +5,7 @@ use mathlib.Core.List.{List}
 use native.Mathlib.Omega.{arith}
 use mathlib.Core.Bool.{true, false}
 use lib.ListN.{length}
-use Rattle.boxes.proofs.Lent.{lent-too-long, lent-within}
+use Rattle.parse.proofs.Lent.{lent-too-long, lent-within}
 use Rattle.nal.specs.StartCode.{endsInZero}
 use Rattle.nal.proofs.Checks.{unchecked-empty, unchecked-code, checked-end}
 use borrow.Author.Needs.{needs}

@@ -1,4 +1,4 @@
--- `next_unit` gives the first unit from a place on. The loop's invariant: `code` is a start code or the end, and no unit stands before it.
+-- `next_unit` gives the first unit from a place on. The loop's invariant: `code` is a start code or the end, and no unit comes before it.
 use Prim.Native.Nat.{ℕ, _+_, _-_, _≤_, _<_}
 use mathlib.Core.Path.{_≡_, sym, _∙_}
 use mathlib.Core.List.{List}
@@ -6,13 +6,13 @@ use native.Mathlib.Omega.{arith}
 use borrow.Author.Needs.{needs}
 use lib.ListN.{length, drop}
 use Rattle.nal.specs.StartCode.{scan}
-use Rattle.split.specs.Stream.{unitsFrom}
+use Rattle.split.specs.Stream.{streamUnitsFrom}
 use Rattle.split.proofs.Streams.{scan-stays, code-room, units-end, units-scan, next-settled, step-empty, step-unit, given-too-long, given-lent}
 use Rattle.split.proofs.next_unit.Statement.{statement}
 use Rattle.split.proofs.next_unit.Tie as tie
 
 abbrev Inv-walk : tie.InvT-walk
-Inv-walk stream from code₀ code = (code ≤ length stream) × (scan (drop code stream) ≡ 0) × (unitsFrom stream code ≡ unitsFrom stream from)
+Inv-walk stream from code₀ code = (code ≤ length stream) × (scan (drop code stream) ≡ 0) × (streamUnitsFrom stream code ≡ streamUnitsFrom stream from)
 
 abbrev μ-walk : tie.MeasureT-walk
 μ-walk stream from code₀ code = length stream - code
@@ -49,8 +49,8 @@ start-code-requires-2 c κs = room c
 trimmed-requires : tie.Need-trimmed-requires Inv-walk μ-walk
 trimmed-requires c κs = (omega arith, c .start-code2 .ensures .1)
 
-add-behind : tie.Need-add-behind Inv-walk μ-walk
-add-behind c = search needs
+add-after : tie.Need-add-after Inv-walk μ-walk
+add-after c = search needs
 
 returns-3 : tie.Need-returns-3 Inv-walk μ-walk
 returns-3 c =
@@ -96,7 +96,7 @@ next-unit-spec =
     add-start
     start-code-requires-2
     trimmed-requires
-    add-behind
+    add-after
     returns-3
     walk-less
     walk-again

@@ -2,7 +2,7 @@
 use mathlib.Core.Path.{_≡_, sym, ap, _∙_}
 use native.Mathlib.Omega.{arith}
 use borrow.Author.Needs.{needs}
-use Rattle.error.specs.Answers.{countOf}
+use Rattle.parse.specs.Answers.{countOf}
 use Rattle.boxes.specs.Walk.{countFound}
 use Rattle.boxes.specs.Places.{inFirst}
 use Rattle.boxes.proofs.Places.{place-refused, place-past, place-there}

@@ -1,5 +1,5 @@
 -- `answer` writes the stream, which lies in the output, or the refusal's number.
-use Rattle.error.specs.Answers.{writtenOf}
+use Rattle.parse.specs.Answers.{writtenOf}
 use Rattle.error.specs.declared.Written.{Written}
 use Rattle.still_main.specs.Input.{inputStream}
 use Rattle.still_main.proofs.Inputs.{written-within}

@@ -1,7 +1,7 @@
 -- `input_stream` takes the input apart and gives the stream of its still.
-use Rattle.unit_list.specs.Walk.{chunkStepped}
+use Rattle.unit_list.specs.inner.Walk.{chunkStepped}
 use Rattle.boxes.proofs.Output.{written-refused}
-use Rattle.still.proofs.Local.{given-as}
+use Rattle.still.proofs.LocalArrays.{given-as}
 use Rattle.still_main.specs.Input.{inputStream}
 use Rattle.still_main.proofs.Inputs.{input-too-long, inside, input-cut, input-given}
 use Prim.Native.Nat.{_+_, _≤_}
@@ -36,8 +36,8 @@ returns-2 c =
 inside-at : (c : tie.After-struct-known) → c .before .before .read .given .0 .0 .start + c .before .before .read .given .0 .0 .len ≤ length (c .before .before .before .before .before .before .before .before .args .input .now)
 inside-at c = inside (c .before .before .before .before .before .before .before .before .args .input .now) (c .before .before .read .given .0 .0) (sym (ap chunkStepped (c .before .before .read .given .1)) ∙ c .before .before .before .before .chunk .ensures)
 
-add-behind : tie.Need-add-behind
-add-behind c = omega (arith, inside-at c, c .before .before .before .before .before .before .before .before .good)
+add-after : tie.Need-add-after
+add-after c = omega (arith, inside-at c, c .before .before .before .before .before .before .before .before .good)
 
 part-requires : tie.Need-part-requires
 part-requires c κs = inside-at c
@@ -73,7 +73,7 @@ input-stream-spec =
     enum-known-read
     enum-told
     returns-2
-    add-behind
+    add-after
     part-requires
     sub-still-stream
     part-still-stream-start

@@ -6,11 +6,11 @@ use Rattle.compact.specs.Answers.{compactOf}
 use Rattle.compact.specs.declared.CompactRead.{CompactRead}
 use Rattle.expand.specs.Expand.{Picture}
 use Rattle.boxes.proofs.Output.{written-refused}
-use Rattle.path.specs.Still.{Bytes}
 use Rattle.still.specs.Stills.{stillRecord}
-use Rattle.still.proofs.Local.{Read, was-read, not-read, given-as, record-read, record-unread}
+use Rattle.still.proofs.LocalArrays.{Read, was-read, not-read, given-as, record-read, record-unread}
 use Rattle.still_record.proofs.still_record.Statement.{statement}
 use Rattle.still_record.proofs.still_record.Tie as tie
+use Rattle.boxes.specs.Bytes.{AllBytes}
 
 slice-aggregate-parse : tie.Need-slice-aggregate-parse
 slice-aggregate-parse c = search needs
@@ -22,7 +22,7 @@ enum-known-read : tie.Need-enum-known-read
 enum-known-read c = search needs
 
 -- the lent record is bytes
-bytes-at : (c : tie.After-list) → Bytes (c .before .before .before .args .«record» .now)
+bytes-at : (c : tie.After-list) → AllBytes (c .before .before .before .args .«record» .now)
 bytes-at c i = omega (arith, c .before .before .shared-slice-known .given i)
 
 -- what compact read gave stands at the front of the array
@@ -36,11 +36,11 @@ read-at c =
 array-share-prefix-list : tie.Need-array-share-prefix-list
 array-share-prefix-list c = read-at c .within
 
-slice-aggregate-put-record : tie.Need-slice-aggregate-put-record
-slice-aggregate-put-record c = sym (read-at (c .before) .long)
+slice-aggregate-put-still : tie.Need-slice-aggregate-put-still
+slice-aggregate-put-still c = sym (read-at (c .before) .long)
 
-put-record-requires : tie.Need-put-record-requires
-put-record-requires c κs = read-at (c .before .before) .from
+put-still-requires : tie.Need-put-still-requires
+put-still-requires c κs = read-at (c .before .before) .from
 
 enum-known-read-2 : tie.Need-enum-known-read-2
 enum-known-read-2 c = search needs
@@ -49,7 +49,7 @@ same-length : tie.Need-same-length
 same-length c = search needs
 
 returns : tie.Need-returns
-returns c = given-as _ _ _ _ (record-read _ _ _ _ (read-at (c .before .before .before .before .before) .given)) (c .before .before .put-record .ensures)
+returns c = given-as _ _ _ _ (record-read _ _ _ _ (read-at (c .before .before .before .before .before) .given)) (c .before .before .put-still .ensures)
 
 returns-2 : tie.Need-returns-2
 returns-2 c =
@@ -68,8 +68,8 @@ still-record-spec =
     parse-requires
     enum-known-read
     array-share-prefix-list
-    slice-aggregate-put-record
-    put-record-requires
+    slice-aggregate-put-still
+    put-still-requires
     enum-known-read-2
     same-length
     returns

@@ -1,11 +1,11 @@
 -- `put_expanded` gives the refusal of full write or restore, and otherwise the stream: of the stored item, or of its one unit.
 use mathlib.Core.Path.{sym, ap, _∙_}
-use Rattle.error.specs.Answers.{countOf}
+use Rattle.parse.specs.Answers.{countOf}
 use Rattle.access_unit.specs.Answers.{tolsOf}
 use Rattle.boxes.proofs.Output.{written-refused}
-use Rattle.still.specs.Inside.{streamExpanded}
+use Rattle.still.specs.inner.Steps.{streamExpanded}
 use Rattle.still.proofs.Lists.{ready}
-use Rattle.still.proofs.Local.{given-as}
+use Rattle.still.proofs.LocalArrays.{given-as}
 use Rattle.still.proofs.Steps.{stream-refused, stream-layers, stream-plain, plain-item}
 use borrow.Author.Needs.{needs}
 use Rattle.still_stream.proofs.put_expanded.Statement.{statement}

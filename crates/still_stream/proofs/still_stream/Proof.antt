@@ -6,12 +6,12 @@ use Rattle.compact.specs.Answers.{compactOf}
 use Rattle.compact.specs.declared.CompactRead.{CompactRead}
 use Rattle.access_unit.specs.Answers.{tolsOf}
 use Rattle.boxes.proofs.Output.{written-refused}
-use Rattle.path.specs.Still.{Bytes}
 use Rattle.still.specs.Stills.{stillStream}
-use Rattle.still.proofs.Local.{Read, was-read, not-read, given-as, stream-too-long, stream-read, stream-unread}
+use Rattle.still.proofs.LocalArrays.{Read, was-read, not-read, given-as, stream-too-long, stream-read, stream-unread}
 use borrow.Author.Needs.{needs}
 use Rattle.still_stream.proofs.still_stream.Statement.{statement}
 use Rattle.still_stream.proofs.still_stream.Tie as tie
+use Rattle.boxes.specs.Bytes.{AllBytes}
 
 returns : tie.Need-returns
 returns c =
@@ -29,7 +29,7 @@ enum-known-read : tie.Need-enum-known-read
 enum-known-read c = search needs
 
 -- the lent record is bytes
-bytes-at : (c : tie.After-list) → Bytes (c .before .before .before .before .before .args .«record» .now)
+bytes-at : (c : tie.After-list) → AllBytes (c .before .before .before .before .before .args .«record» .now)
 bytes-at c i = omega (arith, c .before .before .before .before .shared-slice-known .given i)
 
 -- what compact read gave stands at the front of the array

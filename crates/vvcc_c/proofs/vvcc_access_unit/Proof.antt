@@ -1,7 +1,7 @@
 -- `vvcc_access_unit` reads the record into the scratch and assembles, or gives the refusal that comes first.
 use mathlib.Core.Path.{ap}
 use borrow.Author.Needs.{needs}
-use Rattle.full_read.specs.Answers.{answerOf}
+use Rattle.full_read.specs.Answers.{fullAnswerOf}
 use Rattle.full_read.specs.declared.FullAnswer.{FullAnswer}
 use Rattle.vvcc_c.specs.Exports.{targetFrom}
 use Rattle.vvcc_c.proofs.Given.{given-refused}
@@ -71,7 +71,7 @@ returns-3 c =
     let d = c .before .before .before .before .before .before .before in
     let a = d .before .before .before .before .before .before .before .args in
     let k = read-into (a .«record» .now) (a .item .now) (a .scratch .now) (targetFrom (a .has-target) (a .target)) (d .before .before .if1 .left) _ (d .parse .result) (d .parse .ensures) in
-    (given-refused _ (a .out .now) _ _ (c .refused2 .ensures) (k .refused _ (ap (λ (x : FullAnswer). answerOf x (d .parse .result .head)) (c .before .before .answer2 .given .1))), k .filled)
+    (given-refused _ (a .out .now) _ _ (c .refused2 .ensures) (k .refused _ (ap (λ (x : FullAnswer). fullAnswerOf x (d .parse .result .head)) (c .before .before .answer2 .given .1))), k .filled)
 
 pub vvcc-access-unit-spec : {M : Type 1} → statement M
 vvcc-access-unit-spec =

@@ -1,9 +1,9 @@
 -- `lengths::access_unit_len` measures the stream of the access unit.
 use mathlib.Core.Path.{_≡_, sym, ap, _∙_}
 use Rattle.access_unit.specs.Answers.{tolsOf}
-use Rattle.access_unit.specs.Inside.{measuredOf}
+use Rattle.access_unit.specs.inner.Gathered.{sizesAnswerOf}
 use Rattle.access_unit.specs.declared.sizes.Sizes.{Sizes}
-use Rattle.access_unit.specs.declared.sizes.Measured.the-variants.{Sized}
+use Rattle.access_unit.specs.declared.sizes.SizesAnswer.the-variants.{Sized}
 use Rattle.access_unit.proofs.Gathering.{Known, known, unknown, known-small}
 use Rattle.access_unit.proofs.Answering.{length-known, length-unknown}
 use borrow.Author.Needs.{needs}
@@ -20,7 +20,7 @@ measure-requires c κs = search needs
 -- what was measured
 known-at : (d : tie.After-measure) (v : Sizes) → d .measure .result ≡ Sized v
     → Known (d .before .before .before .before .args .head .«length_size») (tolsOf (d .before .target-of .result)) (d .before .before .before .before .args .list .now) (d .before .before .before .before .args .item .now) v
-known-at d v e = known _ _ _ _ v (ap measuredOf (sym e) ∙ d .measure .ensures)
+known-at d v e = known _ _ _ _ v (ap sizesAnswerOf (sym e) ∙ d .measure .ensures)
 
 enum-known-measured : tie.Need-enum-known-measured
 enum-known-measured c = search needs
@@ -43,7 +43,7 @@ returns-2 : tie.Need-returns-2
 returns-2 c =
     let a = c .before .before .before .before .before .before .before .args in
     length-unknown (a .head) (a .list .now) (a .item .now) (tolsOf (a .tols)) _ (c .before .before .before .before .target-of .ensures) _
-    (unknown _ _ _ _ _ (ap measuredOf (sym (c .before .measured2 .given .1)) ∙ c .before .before .before .measure .ensures))
+    (unknown _ _ _ _ _ (ap sizesAnswerOf (sym (c .before .measured2 .given .1)) ∙ c .before .before .before .measure .ensures))
 
 pub access-unit-len-spec : {M : Type 1} → statement M
 access-unit-len-spec =

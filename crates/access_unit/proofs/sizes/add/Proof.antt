@@ -1,6 +1,6 @@
 -- `sizes::add` counts one unit more.
 use mathlib.Core.Logic.{⊎-elim}
-use Rattle.access_unit.proofs.Sums.{add-leads, add-last, add-behind}
+use Rattle.access_unit.proofs.Sums.{add-leads, add-last, add-after}
 use borrow.Author.Needs.{needs}
 use borrow.Author.Tests.{eqb-true, eqb-false}
 use Rattle.access_unit.proofs.sizes.add.Statement.{statement}
@@ -16,7 +16,7 @@ returns : tie.Need-returns
 returns c = add-leads _ _ _ (c .before .before .if1 .taken) (eqb-true _ _ (c .if2 .taken))
 
 returns-2 : tie.Need-returns-2
-returns-2 c = ⊎-elim (λ h. add-behind _ _ _ (h .0 .taken) (eqb-false _ _ (h .2 .left))) (λ h. add-last _ _ _ (h .left)) (c .if1 .came)
+returns-2 c = ⊎-elim (λ h. add-after _ _ _ (h .0 .taken) (eqb-false _ _ (h .2 .left))) (λ h. add-last _ _ _ (h .left)) (c .if1 .came)
 
 pub add-spec : {M : Type 1} → statement M
 add-spec = tie.close (tie.spec add-count add-lengths returns returns-2)

@@ -1,6 +1,5 @@
 -- `sizes::add_kept` adds a unit of the item that is kept.
 use mathlib.Core.Path.{_≡_, sym, ap, _∙_}
-use mathlib.Core.Bool.{true, false}
 use borrow.Author.Needs.{needs}
 use Rattle.boxes.specs.Parts.{held}
 use Rattle.nal.specs.Kinds.{kindOf, isRecordOf}

@@ -1,9 +1,9 @@
--- `sizes::item_sum` sums the kept units of an item. The loop's invariant: the sum is that of the units passed, and those left come behind them.
+-- `sizes::item_sum` sums the kept units of an item. The loop's invariant: the sum is that of the units passed, and those left come after them.
 use Prim.Native.Nat.{_-_, _≤_}
 use lib.ListN.{length}
 use Rattle.split.proofs.Items.{Turn, found-unit, found-end, found-refusal}
 use Rattle.access_unit.specs.Answers.{tolsOf}
-use Rattle.access_unit.specs.Inside.{keptLeft, itemSum}
+use Rattle.access_unit.specs.inner.Gathered.{keptLeft, itemSum}
 use Rattle.access_unit.proofs.KeptUnits.{over-end, over-refused}
 use Rattle.access_unit.proofs.Sums.{Summing, summing-start, summing-small, summing-kept, summing-end, summing-refused, item-sum-none, leading-le}
 use borrow.Author.Needs.{needs}

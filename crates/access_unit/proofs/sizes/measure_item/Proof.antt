@@ -1,10 +1,10 @@
 -- `sizes::measure_item` measures an access unit whose list is measured, or gives the refusal that comes first.
 use Prim.Native.Nat.{_+_, _≤_, _^_}
 use mathlib.Core.Path.{_≡_, sym, ap, _∙_}
-use Rattle.error.specs.Outcome.{accept, andThen}
+use Rattle.parse.specs.Outcome.{accept, andThen}
 use Rattle.split.proofs.Items.{size-inside}
 use Rattle.access_unit.specs.Answers.{tolsOf}
-use Rattle.access_unit.specs.Inside.{keptLeft, itemSum, summedOf, bothSums, sizesWith}
+use Rattle.access_unit.specs.inner.Gathered.{keptLeft, itemSum, summedOf, bothSums, sizesWith}
 use Rattle.access_unit.specs.declared.sizes.UnitSum.{UnitSum}
 use Rattle.access_unit.specs.declared.sizes.Summed.{Summed}
 use Rattle.access_unit.specs.declared.sizes.Summed.the-variants.{Sum}

@@ -1,10 +1,10 @@
--- `sizes::units_sum` sums the units of a list behind a cursor. The loop's invariant: the sum is that of the units passed, and those left come behind them.
+-- `sizes::units_sum` sums the units of a list after a cursor. The loop's invariant: the sum is that of the units passed, and those left come after them.
 use Prim.Native.Nat.{_-_}
 use mathlib.Core.Bool.{false}
 use lib.ListN.{length}
-use Rattle.unit_list.specs.Walk.{Fits}
-use Rattle.unit_list.specs.Find.{unitsLeft}
-use Rattle.access_unit.specs.Inside.{listSum}
+use Rattle.unit_list.specs.inner.Walk.{Fits}
+use Rattle.unit_list.specs.inner.Find.{unitsLeft}
+use Rattle.access_unit.specs.inner.Gathered.{listSum}
 use Rattle.unit_list.proofs.Turns.{ListTurn, list-found, list-end, list-malformed}
 use Rattle.access_unit.proofs.Sums.{Summing, summing-start, summing-small, summing-more, summing-end, summing-refused, list-sum-none, list-sum-more}
 use borrow.Author.Needs.{needs}

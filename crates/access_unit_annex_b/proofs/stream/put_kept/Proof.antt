@@ -5,8 +5,8 @@ use lib.ListN.{length}
 use lib.Seq.{sets}
 use Rattle.split.proofs.Items.{Turn, found-unit, found-none}
 use Rattle.access_unit.specs.Answers.{tolsOf}
-use Rattle.access_unit.specs.Inside.{keptLeft}
-use Rattle.access_unit_annex_b.specs.Inside.{foundBytes, firstOf, restOf}
+use Rattle.access_unit.specs.inner.Gathered.{keptLeft}
+use Rattle.access_unit_annex_b.specs.inner.Stream.{foundStream, firstUnits, restUnits}
 use Rattle.access_unit.proofs.KeptUnits.{over-kept, over-dropped, over-nothing}
 use Rattle.access_unit_annex_b.proofs.Storing.{FirstLeft, first-start, first-end, first-room, first-more, first-on, first-some}
 use borrow.Author.Needs.{needs}
@@ -17,8 +17,8 @@ use Rattle.access_unit_annex_b.proofs.stream.put_kept.Tie as tie
 abbrev Inv-loop : tie.InvT-loop
 Inv-loop item size target from n out₀ to at₀ end₀ left₀ out at end left =
     (at ≤ length item)
-    × FirstLeft item (length out₀) (to + length (foundBytes item (firstOf n (keptLeft size (tolsOf target) item from))))
-    (sets out₀ to (foundBytes item (firstOf n (keptLeft size (tolsOf target) item from)))) (restOf n (keptLeft size (tolsOf target) item from)) (keptLeft size (tolsOf target) item at) left out end
+    × FirstLeft item (length out₀) (to + length (foundStream item (firstUnits n (keptLeft size (tolsOf target) item from))))
+    (sets out₀ to (foundStream item (firstUnits n (keptLeft size (tolsOf target) item from)))) (restUnits n (keptLeft size (tolsOf target) item from)) (keptLeft size (tolsOf target) item at) left out end
 
 abbrev μ-loop : tie.MeasureT-loop
 μ-loop item size target from n out₀ to at₀ end₀ left₀ out at end left = length item - at
@@ -103,7 +103,7 @@ returns-2 : tie.Need-returns-2 Inv-loop μ-loop
 returns-2 c =
     let l = c .before .loop in
     let w = first-end _ _ _ _ _ _ (l .left) _ _ (l .inv .1) (c .loop-test .left) in
-    record { within = l .inv .0; next = w .2; behind = w .0; stored = w .1 }
+    record { within = l .inv .0; next = w .2; ends = w .0; stored = w .1 }
 
 pub put-kept-spec : {M : Type 1} → statement M
 put-kept-spec =

@@ -1,4 +1,4 @@
--- `stream::put_unit` stores a start code and a unit behind it.
+-- `stream::put_unit` stores a start code and a unit after it.
 use mathlib.Core.Path.{ap, _∙_}
 use Rattle.boxes.specs.Parts.{held}
 use lib.ListN.{length}

@@ -1,10 +1,10 @@
--- `stream::put_units` stores the units of a list behind a cursor. The loop's invariant: what is stored and what is left make the whole.
+-- `stream::put_units` stores the units of a list after a cursor. The loop's invariant: what is stored and what is left make the whole.
 use Prim.Native.Nat.{_+_, _-_}
 use lib.ListN.{length}
 use lib.Seq.{sets}
-use Rattle.unit_list.specs.Walk.{Fits}
-use Rattle.unit_list.specs.Find.{unitsLeft}
-use Rattle.access_unit_annex_b.specs.Inside.{foundBytes}
+use Rattle.unit_list.specs.inner.Walk.{Fits}
+use Rattle.unit_list.specs.inner.Find.{unitsLeft}
+use Rattle.access_unit_annex_b.specs.inner.Stream.{foundStream}
 use Rattle.unit_list.proofs.Turns.{ListTurn, list-found, list-none}
 use Rattle.access_unit_annex_b.proofs.Storing.{Remaining, remaining-start, remaining-room, remaining-more, remaining-end}
 use borrow.Author.Needs.{needs}
@@ -15,7 +15,7 @@ use Rattle.access_unit_annex_b.proofs.stream.put_units.Tie as tie
 abbrev Inv-loop : tie.InvT-loop
 Inv-loop list out₀ to here₀ end₀ out here end =
     Fits list here
-    × Remaining list (length out₀) (to + length (foundBytes list (unitsLeft list here₀))) (sets out₀ to (foundBytes list (unitsLeft list here₀))) (unitsLeft list here) out end
+    × Remaining list (length out₀) (to + length (foundStream list (unitsLeft list here₀))) (sets out₀ to (foundStream list (unitsLeft list here₀))) (unitsLeft list here) out end
 
 abbrev μ-loop : tie.MeasureT-loop
 μ-loop list out₀ to here₀ end₀ out here end = length list - here .at

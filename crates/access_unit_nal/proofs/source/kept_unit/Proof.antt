@@ -6,7 +6,7 @@ use Rattle.boxes.specs.Walk.{found}
 use Rattle.boxes.proofs.Walk.{total}
 use Rattle.split.proofs.Walks.{find-here, find-on}
 use Rattle.access_unit.specs.Answers.{tolsOf}
-use Rattle.access_unit.specs.Inside.{keptLeft}
+use Rattle.access_unit.specs.inner.Gathered.{keptLeft}
 use Rattle.access_unit_nal.proofs.KeptWalk.{KeptTurn, kept-found, kept-none}
 use borrow.Author.Needs.{needs}
 use native.Mathlib.Omega.{arith}

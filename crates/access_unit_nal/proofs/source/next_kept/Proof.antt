@@ -3,7 +3,7 @@ use Prim.Native.Nat.{_-_, _≤_}
 use mathlib.Core.Path.{_≡_, refl, sym, _∙_}
 use lib.ListN.{length}
 use Rattle.access_unit.specs.Answers.{tolsOf}
-use Rattle.access_unit.specs.Inside.{keptLeft}
+use Rattle.access_unit.specs.inner.Gathered.{keptLeft}
 use Rattle.split.specs.declared.NextUnit.the-variants.{Unit}
 use Rattle.split.proofs.Items.{Turn, found-unit, found-onward}
 use Rattle.access_unit_nal.proofs.KeptWalk.{onward-earlier, over-none}

@@ -5,9 +5,9 @@ use Rattle.boxes.specs.Places.{inFirst, placeFound}
 use Rattle.boxes.proofs.Places.{fits-more}
 use Rattle.unit_list.specs.Answers.{listUnits}
 use Rattle.access_unit.specs.Answers.{tolsOf}
-use Rattle.access_unit.specs.Inside.{measuredOf}
+use Rattle.access_unit.specs.inner.Gathered.{sizesAnswerOf}
 use Rattle.access_unit.proofs.Gathering.{Known, known, unknown}
-use Rattle.access_unit_nal.specs.Inside.{Numbered}
+use Rattle.access_unit_nal.specs.inner.Kept.{Numbered}
 use Rattle.access_unit_nal.proofs.Sources.{source-unknown, has-kept, at-listed, at-past, KeptAt, kept-number}
 use borrow.Author.Needs.{needs}
 use Rattle.access_unit_nal.proofs.source.source_at.Statement.{statement}
@@ -16,7 +16,7 @@ use Rattle.access_unit_nal.proofs.source.source_at.Tie as tie
 -- what was measured
 known-at : (c : tie.After-known-told)
     → Known (c .before .before .before .before .before .before .args .length-size) (tolsOf (c .before .before .before .before .before .before .args .target)) (c .before .before .before .before .before .before .args .list .now) (c .before .before .before .before .before .before .args .item .now) (c .before .measured .given .0 .0)
-known-at c = known _ _ _ _ _ (ap measuredOf (sym (c .before .measured .given .1)) ∙ c .before .before .before .measure .ensures)
+known-at c = known _ _ _ _ _ (ap sizesAnswerOf (sym (c .before .measured .given .1)) ∙ c .before .before .before .measure .ensures)
 
 -- the kept unit that stands as number k
 kept-at : (c : tie.After-wide)
@@ -73,7 +73,7 @@ returns-3 c =
 returns-4 : tie.Need-returns-4
 returns-4 c =
     let a = c .before .before .before .before .before .before .args in
-    (source-unknown (a .length-size) (tolsOf (a .target)) (a .list .now) (a .item .now) (a .k) _ (unknown _ _ _ _ _ (ap measuredOf (sym (c .before .measured2 .given .1)) ∙ c .before .before .before .measure .ensures)), tt)
+    (source-unknown (a .length-size) (tolsOf (a .target)) (a .list .now) (a .item .now) (a .k) _ (unknown _ _ _ _ _ (ap sizesAnswerOf (sym (c .before .measured2 .given .1)) ∙ c .before .before .before .measure .ensures)), tt)
 
 pub source-at-spec : {M : Type 1} → statement M
 source-at-spec =

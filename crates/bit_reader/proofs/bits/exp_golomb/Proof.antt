@@ -3,9 +3,9 @@ use Prim.Native.Nat.{ℕ}
 use mathlib.Core.Path.{_≡_, sym, ap, _∙_}
 use native.Mathlib.Omega.{arith}
 use borrow.Author.Needs.{needs}
-use Rattle.error.specs.Parse.{value}
+use Rattle.parse.specs.Parse.{value}
 use Rattle.bit_reader.specs.Bits.{u, zerosBeforeOne}
-use Rattle.bit_reader.proofs.Chain.{told, told-refused}
+use Rattle.bit_reader.proofs.Chain.{answer-value, answer-refused}
 use Rattle.bit_reader.proofs.Numbers.{zeros-read, Sized, sized, ue-there, ue-zeros, ue-low}
 use Rattle.bit_reader.proofs.bits.exp_golomb.Statement.{statement}
 use Rattle.bit_reader.proofs.bits.exp_golomb.Tie as tie
@@ -22,7 +22,7 @@ enum-told c = search needs
 returns : tie.Need-returns
 returns c =
     let k = c .before .before .zeros-before-one .ensures in
-    k ∙ told-refused k (c .enum-told .given .1) ∙ sym (ue-zeros _ _ _ (told-refused k (c .enum-told .given .1)))
+    k ∙ answer-refused k (c .enum-told .given .1) ∙ sym (ue-zeros _ _ _ (answer-refused k (c .enum-told .given .1)))
 
 cast-read-bits : tie.Need-cast-read-bits
 cast-read-bits c = search needs
@@ -31,7 +31,7 @@ cast-read-bits c = search needs
 led : (c : tie.After-known-told) →
     zerosBeforeOne 0 32 (c .before .before .before .before .before .args .s .now) (c .before .before .before .before .before .args .at .0)
     ≡ value (c .before .zeros .given .0 .0) (c .before .zeros .given .0 .1 .0 .0)
-led c = told (c .before .before .before .zeros-before-one .ensures) (c .before .zeros .given .1)
+led c = answer-value (c .before .before .before .zeros-before-one .ensures) (c .before .zeros .given .1)
 
 read-bits-requires : tie.Need-read-bits-requires
 read-bits-requires c κs = omega (arith, zeros-read _ _ _ _ _ _ (led c))
@@ -45,13 +45,13 @@ enum-told-2 c = search needs
 returns-2 : tie.Need-returns-2
 returns-2 c =
     let k = c .before .before .read-bits .ensures in
-    k ∙ told-refused k (c .enum-told2 .given .1) ∙ sym (ue-low _ _ _ _ _ (led (c .before .before .before)) (told-refused k (c .enum-told2 .given .1)))
+    k ∙ answer-refused k (c .enum-told2 .given .1) ∙ sym (ue-low _ _ _ _ _ (led (c .before .before .before)) (answer-refused k (c .enum-told2 .given .1)))
 
--- the bits behind the 1
+-- the bits after the 1
 rest : (c : tie.After-known-told2) →
     u (c .before .before .before .before .before .zeros .given .0 .0) (c .before .before .before .before .before .before .before .before .before .args .s .now) (c .before .before .before .before .before .zeros .given .0 .1 .0 .0)
     ≡ value (c .before .low .given .0 .0) (c .before .low .given .0 .1 .0 .0)
-rest c = told (c .before .before .before .read-bits .ensures) (c .before .low .given .1)
+rest c = answer-value (c .before .before .before .read-bits .ensures) (c .before .low .given .1)
 
 both : (c : tie.After-known-told2) → Sized (c .before .before .before .before .before .zeros .given .0 .0) (c .before .low .given .0 .0)
 both c = sized _ _ _ _ _ _ (led (c .before .before .before .before)) (rest c)

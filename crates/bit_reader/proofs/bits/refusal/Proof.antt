@@ -1,7 +1,7 @@
 -- `refusal` gives the refusal of a refused read: by cases.
 use mathlib.Core.Path.{sym, ap}
 use borrow.Author.Needs.{needs}
-use Rattle.bit_reader.specs.Answers.{refusalOf}
+use Rattle.bit_reader.specs.inner.Answers.{refusalOf}
 use Rattle.bit_reader.proofs.bits.refusal.Statement.{statement}
 use Rattle.bit_reader.proofs.bits.refusal.Tie as tie
 

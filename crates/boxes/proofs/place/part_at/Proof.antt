@@ -2,11 +2,12 @@
 use mathlib.Core.Path.{sym, ap, subst}
 use borrow.Author.Needs.{needs}
 use Rattle.boxes.specs.Parts.{PartOf}
-use Rattle.boxes.specs.Places.{placeOf, lying, firstOf, PlaceFits}
+use Rattle.boxes.specs.Places.{placeOf, PlaceFits}
 use Rattle.boxes.specs.declared.UnitPlace.{UnitPlace}
 use Rattle.boxes.proofs.Places.{not-first}
 use Rattle.boxes.proofs.place.part_at.Statement.{statement}
 use Rattle.boxes.proofs.place.part_at.Tie as tie
+use Rattle.boxes.specs.inner.Places.{lying, spanInFirst}
 
 enum-known-unit : tie.Need-enum-known-unit
 enum-known-unit c = search needs
@@ -25,7 +26,7 @@ part-requires-2 c κs = let a = c .before .before .before .before .args in subst
 returns-2 : tie.Need-returns-2
 returns-2 c =
     let a = c .before .before .before .before .before .args in
-    subst (PartOf (c .part2 .result) (a .s)) (ap (λ (r : UnitPlace). firstOf (lying (placeOf r))) (sym (c .before .before .unit .given .1))) (c .part2 .ensures)
+    subst (PartOf (c .part2 .result) (a .s)) (ap (λ (r : UnitPlace). spanInFirst (lying (placeOf r))) (sym (c .before .before .unit .given .1))) (c .part2 .ensures)
 
 pub part-at-spec : {M : Type 1} → statement M
 part-at-spec = tie.close (tie.spec enum-known-unit part-requires returns part-requires-2 returns-2)

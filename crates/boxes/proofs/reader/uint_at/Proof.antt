@@ -34,8 +34,8 @@ cast-value c =
     let a = c .before .before .before .before .before .args in
     omega (arith, below-four (c .number .result) (a .width) (omega (arith, ltb-false)) (c .number .ensures .1))
 
-add-behind : tie.Need-add-behind
-add-behind c = omega (arith, ltb-false)
+add-after : tie.Need-add-after
+add-after c = omega (arith, ltb-false)
 
 returns-3 : tie.Need-returns-3
 returns-3 c =
@@ -46,4 +46,4 @@ returns-3 c =
 pub uint-at-spec : {M : Type 1} → statement M
 uint-at-spec =
     tie.close
-    (tie.spec returns sub-if3 returns-2 number-requires cast-value add-behind returns-3)
+    (tie.spec returns sub-if3 returns-2 number-requires cast-value add-after returns-3)

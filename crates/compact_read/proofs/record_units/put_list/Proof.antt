@@ -4,8 +4,8 @@ use mathlib.Core.Path.{_∙_}
 use native.Mathlib.Omega.{arith}
 use borrow.Author.Needs.{needs}
 use lib.ListN.{length}
-use Rattle.error.specs.Parse.{outcome}
-use Rattle.compact.specs.Units.{recordUnits}
+use Rattle.parse.specs.Parse.{outcome}
+use Rattle.compact.specs.inner.Units.{recordUnits}
 use Rattle.compact.proofs.Copying.{copies-room, copies-on}
 use Rattle.compact_read.proofs.RecordUnits.{list-stored}
 use Rattle.compact_read.proofs.record_units.put_list.Statement.{statement}

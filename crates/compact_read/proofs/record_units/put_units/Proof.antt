@@ -5,11 +5,11 @@ use mathlib.Core.List.{List}
 use native.Mathlib.Omega.{arith}
 use borrow.Author.Needs.{needs}
 use lib.ListN.{length}
-use Rattle.error.specs.Outcome.{Outcome}
-use Rattle.error.specs.Parse.{times, outcome}
+use Rattle.parse.specs.Outcome.{Outcome}
+use Rattle.parse.specs.Parse.{times, outcome}
 use Rattle.boxes.specs.Bytes.{chunk}
 use Rattle.boxes.specs.declared.Span.{Span}
-use Rattle.compact.specs.Units.{recordUnits}
+use Rattle.compact.specs.inner.Units.{recordUnits}
 use Rattle.compact.proofs.Copying.{Copying, copying-start, copying-never, copying-end, copying-room, copying-again}
 use Rattle.compact_read.proofs.RecordUnits.{Turn, turn, turn-short, times-done}
 use Rattle.compact_read.proofs.record_units.put_units.Statement.{statement}
@@ -54,7 +54,7 @@ unit-at c =
     let k = c .before .before .before .chunk in
     turn _ _ _ (c .before .before .before .before .loop-test .taken) (k .result) (k .ensures) _ (c .before .a .given .1)
 
--- what is left behind it
+-- what is left after it
 abbrev left-at : (c : tie.After-known-told Inv-loop μ-loop) → Outcome (List Span)
 left-at c =
     let a = c .before .a .given .0 .0 in

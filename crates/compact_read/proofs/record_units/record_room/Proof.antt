@@ -4,10 +4,10 @@ use mathlib.Core.Path.{_≡_, sym, ap, _∙_, subst}
 use native.Mathlib.Omega.{arith}
 use borrow.Author.Needs.{needs}
 use lib.ListN.{getD}
-use Rattle.compact.specs.Units.{recordUnits}
+use Rattle.compact.specs.inner.Units.{recordUnits}
 use Rattle.compact.proofs.RecordRead.{parse-too-long, parse-empty, parse-short, parse-over}
-use Rattle.compact_read.specs.Inside.{roomOf, RoomFits}
-use Rattle.compact_read.proofs.RecordUnits.{Measured, measured-units, measured-refused}
+use Rattle.compact_read.specs.inner.Room.{unitsRoomOf, RoomSmall}
+use Rattle.compact_read.proofs.RecordUnits.{UnitsMeasured, measured-units, measured-refused}
 use Rattle.compact_read.proofs.record_units.record_room.Statement.{statement}
 use Rattle.compact_read.proofs.record_units.record_room.Tie as tie
 
@@ -17,8 +17,8 @@ count-at c = ap (λ (b : ℕ). b % 32 + 2) (c .wide .ensures .0 ∙ c .before .b
 
 -- what the measurement says
 measured-at : (c : tie.After-known-told)
-    → Measured (c .before .before .before .before .before .before .before .before .before .args .«record» .now) (recordUnits (c .before .before .before .before .before .before .before .before .before .args .«record» .now) (c .before .before .before .before .wide .result % 32 + 2)) (c .before .room .given .0 .0) (c .before .room .given .0 .1 .0)
-measured-at c = measured-units _ _ _ _ (sym (ap roomOf (c .before .room .given .1)) ∙ c .before .before .before .units-room .ensures .0)
+    → UnitsMeasured (c .before .before .before .before .before .before .before .before .before .args .«record» .now) (recordUnits (c .before .before .before .before .before .before .before .before .before .args .«record» .now) (c .before .before .before .before .wide .result % 32 + 2)) (c .before .room .given .0 .0) (c .before .room .given .0 .1 .0)
+measured-at c = measured-units _ _ _ _ (sym (ap unitsRoomOf (c .before .room .given .1)) ∙ c .before .before .before .units-room .ensures .0)
 
 returns : tie.Need-returns
 returns c = parse-too-long (c .before .before .args .«record» .now) (c .if1 .taken)
@@ -48,7 +48,7 @@ returns-3 : tie.Need-returns-3
 returns-3 c =
     let s = c .before .before .before .before .before .before .before .before .args .«record» .now in
     parse-short s (c .before .before .before .before .before .before .if1 .left) (omega (arith, c .before .before .before .before .if2 .left)) _ (count-at (c .before .before .before)) 1
-    (measured-refused s _ 1 (sym (ap roomOf (c .enum-told .given .1)) ∙ c .before .before .units-room .ensures .0))
+    (measured-refused s _ 1 (sym (ap unitsRoomOf (c .enum-told .given .1)) ∙ c .before .before .units-room .ensures .0))
 
 returns-4 : tie.Need-returns-4
 returns-4 c =
@@ -64,11 +64,11 @@ returns-5 c =
       some = omega (arith, c .before .before .before .before .before .before .if2 .left);
       counted = count-at (c .before .before .before .before .before);
       units = m .units;
-      behind = c .before .before .room .given .0 .1 .0;
+      after = c .before .before .room .given .0 .1 .0;
       read = m .read;
       end = c .if3 .left;
       long = m .long;
-      few = subst RoomFits (c .before .before .room .given .1) (c .before .before .before .before .units-room .ensures .1);
+      few = subst RoomSmall (c .before .before .room .given .1) (c .before .before .before .before .units-room .ensures .1);
     }
 
 pub record-room-spec : {M : Type 1} → statement M

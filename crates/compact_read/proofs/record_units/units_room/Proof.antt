@@ -4,10 +4,10 @@ use mathlib.Core.Path.{_≡_, refl, sym, ap, _∙_}
 use native.Mathlib.Omega.{arith}
 use borrow.Author.Needs.{needs}
 use lib.ListN.{length}
-use Rattle.error.specs.Parse.{times}
+use Rattle.parse.specs.Parse.{times}
 use Rattle.boxes.specs.Bytes.{chunk}
-use Rattle.compact.specs.Units.{recordUnits}
-use Rattle.compact_read.specs.Inside.{measured}
+use Rattle.compact.specs.inner.Units.{recordUnits}
+use Rattle.compact_read.specs.inner.Room.{measured}
 use Rattle.compact_read.proofs.RecordUnits.{Turn, turn, turn-short, times-done, measured-done}
 use Rattle.compact_read.proofs.record_units.units_room.Statement.{statement}
 use Rattle.compact_read.proofs.record_units.units_room.Tie as tie

@@ -1,11 +1,11 @@
--- `list_units::put_units` stores the units behind a cursor. The loop's invariant: those stored and those left make the whole.
+-- `list_units::put_units` stores the units after a cursor. The loop's invariant: those stored and those left make the whole.
 use Prim.Native.Nat.{_+_, _-_, _≤_}
 use mathlib.Core.Logic.{⊎-elim}
 use native.Mathlib.Omega.{arith}
 use borrow.Author.Needs.{needs}
 use lib.ListN.{length}
-use Rattle.unit_list.specs.Walk.{Fits}
-use Rattle.unit_list.specs.Find.{unitsLeft}
+use Rattle.unit_list.specs.inner.Walk.{Fits}
+use Rattle.unit_list.specs.inner.Find.{unitsLeft}
 use Rattle.unit_list.proofs.Turns.{ListTurn, list-found, list-stops}
 use Rattle.compact.proofs.Copying.{Copying, copying-start, copying-never, copying-end, copying-room, copying-again}
 use Rattle.compact_write.proofs.list_units.put_units.Statement.{statement}

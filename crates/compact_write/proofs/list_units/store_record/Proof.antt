@@ -1,7 +1,7 @@
 -- `list_units::store_record` leaves the first byte and the units from the front on.
 use borrow.Author.Needs.{needs}
-use Rattle.unit_list.specs.Find.{unitsLeft}
-use Rattle.compact.specs.Units.{foundBytes}
+use Rattle.unit_list.specs.inner.Find.{unitsLeft}
+use Rattle.compact.specs.inner.Units.{foundUnitBytes}
 use Rattle.compact.proofs.Copying.{copies-on}
 use Rattle.compact_write.proofs.ListUnits.{record-stored}
 use Rattle.compact_write.proofs.list_units.store_record.Statement.{statement}
@@ -26,7 +26,7 @@ returns c =
     let b = c .before .before .before .before .before .before .before .before .before .before .before in
     let a = b .args in
     let p = c .before .before .before .before .before .before .put in
-    record-stored (a .out .now) (p .last .0) _ (foundBytes 1 (a .list .now) (unitsLeft (a .list .now) (a .c))) _ _ (c .before .before .before .before .before .before .before .before .first-byte .ensures) (p .ensures) (c .before .before .put-units .ensures)
+    record-stored (a .out .now) (p .last .0) _ (foundUnitBytes 1 (a .list .now) (unitsLeft (a .list .now) (a .c))) _ _ (c .before .before .before .before .before .before .before .before .first-byte .ensures) (p .ensures) (c .before .before .put-units .ensures)
 
 pub store-record-spec : {M : Type 1} → statement M
 store-record-spec = tie.close (tie.spec first-byte-requires put-requires put-units-requires same-length returns)

@@ -2,8 +2,8 @@
 use mathlib.Core.Path.{sym, ap, _∙_}
 use borrow.Author.Needs.{needs}
 use borrow.Author.Tests.{not-true, not-false}
-use Rattle.grouping.specs.Units.{unitsAt}
-use Rattle.expand.specs.Inside.{ptlOrZeros}
+use Rattle.grouping.specs.inner.Units.{unitsAt}
+use Rattle.expand.specs.inner.ParameterSets.{ptlOrZeros}
 use Rattle.expand.proofs.SetsRead.{sps-plain, sps-with-ptl}
 use Rattle.expand.proofs.parameter_sets.ptl_of_sets.Statement.{statement}
 use Rattle.expand.proofs.parameter_sets.ptl_of_sets.Tie as tie

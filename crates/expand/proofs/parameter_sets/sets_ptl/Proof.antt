@@ -1,11 +1,11 @@
 -- `parameter_sets::sets_ptl` tests the VPS, and then takes the PTL of the SPS.
 use mathlib.Core.Path.{sym, ap, _∙_}
 use borrow.Author.Needs.{needs}
-use Rattle.error.specs.Outcome.{Outcome, andThen}
-use Rattle.params.specs.Answers.{readOf}
+use Rattle.parse.specs.Outcome.{Outcome, andThen}
+use Rattle.params.specs.Answers.{paramsReadOf}
 use Rattle.params.specs.declared.ParamsAnswer.{ParamsAnswer}
-use Rattle.grouping.specs.Units.{unitsAt}
-use Rattle.expand.specs.Inside.{ptlOrZeros, firstSpsPtl}
+use Rattle.grouping.specs.inner.Units.{unitsAt}
+use Rattle.expand.specs.inner.ParameterSets.{ptlOrZeros, firstSpsPtl}
 use Rattle.expand.proofs.parameter_sets.sets_ptl.Statement.{statement}
 use Rattle.expand.proofs.parameter_sets.sets_ptl.Tie as tie
 
@@ -29,14 +29,14 @@ returns c =
     let a = c .before .before .before .before .before .args in
     c .sps-ptl .ensures
     ∙ ap (λ (o : Outcome (Unit {0})). ptlOrZeros (andThen o (λ _. firstSpsPtl (unitsAt (a .list .now) (a .c)))))
-    (sym (ap (λ (x : ParamsAnswer). readOf x tt) (c .before .enum-told .given .1)) ∙ c .before .before .before .multi-layer-vps .ensures)
+    (sym (ap (λ (x : ParamsAnswer). paramsReadOf x tt) (c .before .enum-told .given .1)) ∙ c .before .before .before .multi-layer-vps .ensures)
 
 returns-2 : tie.Need-returns-2
 returns-2 c =
     let a = c .before .before .before .before .before .before .args in
     c .no-ptl .ensures
     ∙ ap (λ (o : Outcome (Unit {0})). ptlOrZeros (andThen o (λ _. firstSpsPtl (unitsAt (a .list .now) (a .c)))))
-    (sym (ap (λ (x : ParamsAnswer). readOf x tt) (c .before .before .answer .given .1)) ∙ c .before .before .before .before .multi-layer-vps .ensures)
+    (sym (ap (λ (x : ParamsAnswer). paramsReadOf x tt) (c .before .before .answer .given .1)) ∙ c .before .before .before .before .multi-layer-vps .ensures)
 
 pub sets-ptl-spec : {M : Type 1} → statement M
 sets-ptl-spec =

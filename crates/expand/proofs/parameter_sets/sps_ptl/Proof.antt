@@ -4,8 +4,8 @@ use borrow.Author.Needs.{needs}
 use Rattle.boxes.specs.Parts.{held}
 use Rattle.sps.specs.Sps.{parseSps, zeroSps}
 use Rattle.sps.specs.Answers.{spsGiven}
-use Rattle.grouping.specs.Units.{unitsAt, firstOf, FirstFits}
-use Rattle.expand.specs.Inside.{ptlOrZeros}
+use Rattle.grouping.specs.inner.Units.{unitsAt, foundUnit, FirstFits}
+use Rattle.expand.specs.inner.ParameterSets.{ptlOrZeros}
 use Rattle.expand.proofs.SetsRead.{sps-missing, sps-found, sps-refused, read-value, read-refusal}
 use Rattle.expand.proofs.parameter_sets.sps_ptl.Statement.{statement}
 use Rattle.expand.proofs.parameter_sets.sps_ptl.Tie as tie
@@ -25,7 +25,7 @@ no-ptl-requires c κs = search needs
 returns : tie.Need-returns
 returns c =
     let s = c .before .before .before .before .before .args .list .now in
-    c .no-ptl .ensures ∙ sps-missing _ (sym (ap (firstOf s) (c .before .enum-told .given .1)) ∙ c .before .before .before .first-having .ensures .0)
+    c .no-ptl .ensures ∙ sps-missing _ (sym (ap (foundUnit s) (c .before .enum-told .given .1)) ∙ c .before .before .before .first-having .ensures .0)
 
 part-requires : tie.Need-part-requires
 part-requires c κs = subst (FirstFits (c .before .before .before .before .before .args .list .now)) (c .before .first .given .1) (c .before .before .before .first-having .ensures .1)
@@ -52,7 +52,7 @@ returns-2 c =
     let y = c .before .before .before .before .parse-nal in
     let g = c .before .before .before .before .before .before .before .first .given in
     let u = held s (g .0 .0) in
-    let e = sym (ap (firstOf s) (g .1)) ∙ c .before .before .before .before .before .before .before .before .before .first-having .ensures .0 in
+    let e = sym (ap (foundUnit s) (g .1)) ∙ c .before .before .before .before .before .before .before .before .before .first-having .ensures .0 in
     let f = y .ensures ∙ ap spsGiven (c .before .before .before .before .before .part .ensures .holds) in
     c .ptl-of-sets .ensures
     ∙ ap ptlOrZeros (sym (sps-found (unitsAt s (a .c)) u e (y .result .head) (read-value zeroSps (y .result .answer) (y .result .head) (parseSps u) f (c .before .enum-told2 .given .1))))
@@ -64,7 +64,7 @@ returns-3 c =
     let y = c .before .before .before .before .before .parse-nal in
     let g = c .before .before .before .before .before .before .before .before .first .given in
     let u = held s (g .0 .0) in
-    let e = sym (ap (firstOf s) (g .1)) ∙ c .before .before .before .before .before .before .before .before .before .before .first-having .ensures .0 in
+    let e = sym (ap (foundUnit s) (g .1)) ∙ c .before .before .before .before .before .before .before .before .before .before .first-having .ensures .0 in
     let f = y .ensures ∙ ap spsGiven (c .before .before .before .before .before .before .part .ensures .holds) in
     c .no-ptl2 .ensures
     ∙ ap ptlOrZeros (sym (sps-refused (unitsAt s (a .c)) u e _ (read-refusal zeroSps (y .result .answer) (y .result .head) (parseSps u) f _ (c .before .before .answer .given .1))))

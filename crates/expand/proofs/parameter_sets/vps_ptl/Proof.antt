@@ -2,7 +2,7 @@
 use mathlib.Core.Path.{sym, ap, _∙_, subst}
 use borrow.Author.Needs.{needs}
 use Rattle.vps.specs.Answers.{ptlGiven}
-use Rattle.grouping.specs.Units.{firstOf, FirstFits}
+use Rattle.grouping.specs.inner.Units.{foundUnit, FirstFits}
 use Rattle.expand.proofs.SetsRead.{vps-missing, vps-found}
 use Rattle.expand.proofs.parameter_sets.vps_ptl.Statement.{statement}
 use Rattle.expand.proofs.parameter_sets.vps_ptl.Tie as tie
@@ -22,7 +22,7 @@ no-ptl-requires c κs = search needs
 returns : tie.Need-returns
 returns c =
     let s = c .before .before .before .before .before .args .list .now in
-    c .no-ptl .ensures ∙ vps-missing _ _ (sym (ap (firstOf s) (c .before .enum-told .given .1)) ∙ c .before .before .before .first-having .ensures .0)
+    c .no-ptl .ensures ∙ vps-missing _ _ (sym (ap (foundUnit s) (c .before .enum-told .given .1)) ∙ c .before .before .before .first-having .ensures .0)
 
 part-requires : tie.Need-part-requires
 part-requires c κs = subst (FirstFits (c .before .before .before .before .before .args .list .now)) (c .before .first .given .1) (c .before .before .before .first-having .ensures .1)
@@ -34,7 +34,7 @@ returns-2 : tie.Need-returns-2
 returns-2 c =
     let s = c .before .before .before .before .before .before .before .args .list .now in
     c .vps-first-ptl .ensures ∙ ap ptlGiven (c .before .part .ensures .holds)
-    ∙ vps-found _ _ _ (sym (ap (firstOf s) (c .before .before .before .first .given .1)) ∙ c .before .before .before .before .before .first-having .ensures .0)
+    ∙ vps-found _ _ _ (sym (ap (foundUnit s) (c .before .before .before .first .given .1)) ∙ c .before .before .before .before .before .first-having .ensures .0)
 
 pub vps-ptl-spec : {M : Type 1} → statement M
 vps-ptl-spec =

@@ -4,7 +4,7 @@ use mathlib.Core.Path.{sym, ap, _∙_}
 use native.Mathlib.Omega.{arith}
 use lib.ListN.{length}
 use borrow.Author.Needs.{needs}
-use Rattle.full_read.specs.Inside.{orZeroHead}
+use Rattle.full_read.specs.inner.Heads.{orZeroHead}
 use Rattle.full_read.proofs.Heads.{head-none, head-three, head-with-ptl, head-plain}
 use Rattle.full_read.proofs.head.read_head.Statement.{statement}
 use Rattle.full_read.proofs.head.read_head.Tie as tie

@@ -7,7 +7,7 @@ use native.Mathlib.Omega.{arith}
 use lib.ListN.{length}
 use borrow.Author.Needs.{needs}
 use Rattle.boxes.specs.Bytes.{be}
-use Rattle.full_read.specs.Inside.{orZeroHead}
+use Rattle.full_read.specs.inner.Heads.{orZeroHead}
 use Rattle.full_read.proofs.Heads.{reads-sizes}
 use Rattle.full_read.proofs.head.read_sizes.Statement.{statement}
 use Rattle.full_read.proofs.head.read_sizes.Tie as tie

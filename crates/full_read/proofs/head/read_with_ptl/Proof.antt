@@ -4,7 +4,7 @@ use mathlib.Core.Path.{sym, ap, _∙_}
 use native.Mathlib.Omega.{arith}
 use lib.ListN.{length}
 use borrow.Author.Needs.{needs}
-use Rattle.full_read.specs.Inside.{orZeroHead}
+use Rattle.full_read.specs.inner.Heads.{orZeroHead}
 use Rattle.full_read.proofs.Heads.{reads-no-ptl, ptl-read, ptl-refused}
 use Rattle.full_read.proofs.head.read_with_ptl.Statement.{statement}
 use Rattle.full_read.proofs.head.read_with_ptl.Tie as tie

@@ -3,8 +3,7 @@ use mathlib.Core.Path.{ap}
 use native.Mathlib.Omega.{arith}
 use lib.ListN.{length}
 use borrow.Author.Needs.{needs}
-use Rattle.full.proofs.HeadRoundTrip.{small}
-use Rattle.full.proofs.HeadRoundTrip.{length-part}
+use Rattle.full.proofs.HeadRoundTrip.{small, length-part}
 use Rattle.full_write.proofs.Heads.{head-fits, head-part, head-plain}
 use Rattle.full_write.proofs.head.head_len.Statement.{statement}
 use Rattle.full_write.proofs.head.head_len.Tie as tie

@@ -1,8 +1,7 @@
--- The parts under the PTL flag, stored one behind the other.
+-- The parts under the PTL flag, stored one after the other.
 use native.Mathlib.Omega.{arith}
 use borrow.Author.Needs.{needs}
-use Rattle.full.proofs.HeadRoundTrip.{small}
-use Rattle.full.proofs.HeadRoundTrip.{length-part}
+use Rattle.full.proofs.HeadRoundTrip.{small, length-part}
 use Rattle.full_write.proofs.Heads.{part-stored}
 use Rattle.full_write.proofs.head.put_ptl_part.Statement.{statement}
 use Rattle.full_write.proofs.head.put_ptl_part.Tie as tie

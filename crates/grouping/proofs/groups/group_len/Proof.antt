@@ -4,14 +4,14 @@ use mathlib.Core.Path.{sym, _∙_}
 use native.Mathlib.Omega.{arith}
 use borrow.Author.Needs.{needs}
 use lib.ListN.{length}
-use Rattle.grouping.specs.Units.{unitsAt, Readable, Stepped}
+use Rattle.grouping.specs.inner.Units.{unitsAt, Readable, UnitStepped}
 use Rattle.grouping.proofs.Walks.{stepped-to, ended, nearer}
-use Rattle.grouping.proofs.OfType.{Measured, measured-start, measured-same, measured-other, measured-end}
+use Rattle.grouping.proofs.OfType.{TypeMeasured, measured-start, measured-same, measured-other, measured-end}
 use Rattle.grouping.proofs.groups.group_len.Statement.{statement}
 use Rattle.grouping.proofs.groups.group_len.Tie as tie
 
 abbrev Inv-loop : tie.InvT-loop
-Inv-loop list t here₀ len₀ here len = Readable list here × Measured t (unitsAt list here₀) (unitsAt list here) (here .at) len
+Inv-loop list t here₀ len₀ here len = Readable list here × TypeMeasured t (unitsAt list here₀) (unitsAt list here) (here .at) len
 
 abbrev μ-loop : tie.MeasureT-loop
 μ-loop list t here₀ len₀ here len = length list - here .at
@@ -36,7 +36,7 @@ returns c =
 
 -- the unit that the step found
 step-here : (c : tie.After-known-told Inv-loop μ-loop)
-    → Stepped (c .before .before .before .before .before .before .args .list .now) (c .before .before .before .before .loop .here) (c .before .a .given .0 .0) (c .before .a .given .0 .1 .0) (c .before .a .given .0 .1 .1 .0)
+    → UnitStepped (c .before .before .before .before .before .before .args .list .now) (c .before .before .before .before .loop .here) (c .before .a .given .0 .0) (c .before .a .given .0 .1 .0) (c .before .a .given .0 .1 .1 .0)
 step-here c = stepped-to _ _ _ (c .before .before .before .next-unit .ensures) _ _ _ (c .before .a .given .1)
 
 add-len : tie.Need-add-len Inv-loop μ-loop

@@ -4,7 +4,7 @@ use native.Mathlib.Omega.{arith}
 use borrow.Author.Needs.{needs}
 use borrow.Author.Tests.{not-true, not-false}
 use lib.ListN.{length}
-use Rattle.grouping.specs.Units.{unitsAt, Readable, Stepped}
+use Rattle.grouping.specs.inner.Units.{unitsAt, Readable, UnitStepped}
 use Rattle.grouping.proofs.Walks.{stepped-to, ended, nearer}
 use Rattle.grouping.proofs.ArrayWalk.{Summed, summed-start, summed-met, summed-new, summed-end}
 use Rattle.grouping.proofs.groups.groups_len.Statement.{statement}
@@ -36,7 +36,7 @@ returns c =
 
 -- the unit that the step found
 step-here : (c : tie.After-known-told Inv-loop μ-loop)
-    → Stepped (c .before .before .before .before .before .before .args .list .now) (c .before .before .before .before .loop .here) (c .before .t .given .0 .0) (c .before .t .given .0 .1 .0) (c .before .t .given .0 .1 .1 .0)
+    → UnitStepped (c .before .before .before .before .before .before .args .list .now) (c .before .before .before .before .loop .here) (c .before .t .given .0 .0) (c .before .t .given .0 .1 .0) (c .before .t .given .0 .1 .1 .0)
 step-here c = stepped-to _ _ _ (c .before .before .before .next-unit .ensures) _ _ _ (c .before .t .given .1)
 
 wide-requires : tie.Need-wide-requires Inv-loop μ-loop

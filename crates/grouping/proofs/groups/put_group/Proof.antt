@@ -5,7 +5,7 @@ use native.Mathlib.Omega.{arith}
 use borrow.Author.Needs.{needs}
 use lib.ListN.{length}
 use lib.Seq.{length-sets}
-use Rattle.grouping.specs.Units.{unitsAt}
+use Rattle.grouping.specs.inner.Units.{unitsAt}
 use Rattle.grouping.proofs.FirstAppearance.{array-long, array-stored, groupBytes}
 use Rattle.grouping.proofs.groups.put_group.Statement.{statement}
 use Rattle.grouping.proofs.groups.put_group.Tie as tie

@@ -1,10 +1,10 @@
 -- `put_group_units` stores the units of a type. The loop's invariant: those stored and those left make the whole.
 use Prim.Native.Nat.{_-_, _+_, _≤_}
-use mathlib.Core.Path.{_≡_, sym, _∙_}
+use mathlib.Core.Path.{sym, _∙_}
 use native.Mathlib.Omega.{arith}
 use borrow.Author.Needs.{needs}
 use lib.ListN.{length}
-use Rattle.grouping.specs.Units.{unitsAt, Readable, Stepped}
+use Rattle.grouping.specs.inner.Units.{unitsAt, Readable, UnitStepped}
 use Rattle.grouping.proofs.Walks.{stepped-to, ended, nearer}
 use Rattle.grouping.proofs.OfType.{Stored, stored-start, stored-room, stored-same, stored-other, stored-end}
 use Rattle.grouping.proofs.groups.put_group_units.Statement.{statement}
@@ -36,7 +36,7 @@ returns c = stored-end _ _ _ _ _ _ _ (c .before .before .before .loop .inv .1) (
 
 -- the unit that the step found
 step-here : (c : tie.After-known-told Inv-loop μ-loop)
-    → Stepped (c .before .before .before .before .before .before .before .args .list .now) (c .before .before .before .before .loop .here) (c .before .a .given .0 .0) (c .before .a .given .0 .1 .0) (c .before .a .given .0 .1 .1 .0)
+    → UnitStepped (c .before .before .before .before .before .before .before .args .list .now) (c .before .before .before .before .loop .here) (c .before .a .given .0 .0) (c .before .a .given .0 .1 .0) (c .before .a .given .0 .1 .1 .0)
 step-here c = stepped-to _ _ _ (c .before .before .before .next-unit .ensures) _ _ _ (c .before .a .given .1)
 
 -- there is room for it where it is of the type

@@ -1,4 +1,4 @@
--- `groups::put_list` stores the list's first byte, and the arrays behind it.
+-- `groups::put_list` stores the list's first byte, and the arrays after it.
 use Prim.Native.Nat.{ℕ}
 use mathlib.Core.Path.{ap, _∙_}
 use mathlib.Core.List.{List}
@@ -7,7 +7,7 @@ use borrow.Author.Needs.{needs}
 use lib.ListN.{length, length-set}
 use lib.Seq.{sets}
 use Rattle.unit_list.specs.UnitList.{encode}
-use Rattle.grouping.specs.Units.{unitsAt}
+use Rattle.grouping.specs.inner.Units.{unitsAt}
 use Rattle.grouping.proofs.ArrayWalk.{allArrays}
 use Rattle.grouping.proofs.groups.put_list.Statement.{statement}
 use Rattle.grouping.proofs.groups.put_list.Tie as tie

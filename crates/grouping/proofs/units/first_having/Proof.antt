@@ -1,4 +1,4 @@
--- `units::first_having` finds the first unit of a record kind. The loop's invariant: those of the type that are left are all of them.
+-- `units::first_having` finds the firstElement unit of a record kind. The loop's invariant: those of the type that are left are all of them.
 use Prim.Native.Nat.{_-_}
 use mathlib.Core.Path.{_≡_, refl, sym, ap, _∙_}
 use borrow.Author.Needs.{needs}
@@ -6,8 +6,8 @@ use lib.Dec.{eqb}
 use lib.ListN.{length}
 use borrow.Author.Tests.{eqb-true, eqb-false}
 use Rattle.nal.proofs.UnitKinds.{record-of}
-use Rattle.grouping.specs.Grouping.{havingType, first}
-use Rattle.grouping.specs.Units.{Readable, unitsAt, Stepped}
+use Rattle.grouping.specs.Grouping.{havingType, firstElement}
+use Rattle.grouping.specs.inner.Units.{Readable, unitsAt, UnitStepped}
 use Rattle.grouping.proofs.Walks.{stepped-to, ended, nearer}
 use Rattle.grouping.proofs.OfType.{having-none, having-same, having-other}
 use Rattle.grouping.proofs.units.first_having.Statement.{statement}
@@ -35,11 +35,11 @@ returns : tie.Need-returns Inv-loop μ-loop
 returns c =
     let e = ended _ _ _ (c .before .before .next-unit .ensures) (c .enum-told .given .1) in
     let t = c .before .before .before .before .before .args .t in
-    (sym (ap first (ap (havingType t) e ∙ having-none t)) ∙ ap first (c .before .before .before .loop .inv .1), tt)
+    (sym (ap firstElement (ap (havingType t) e ∙ having-none t)) ∙ ap firstElement (c .before .before .before .loop .inv .1), tt)
 
 -- the unit that the step found
 step-here : (c : tie.After-known-told Inv-loop μ-loop)
-    → Stepped (c .before .before .before .before .before .before .args .list .now) (c .before .before .before .before .loop .here) (c .before .a .given .0 .0) (c .before .a .given .0 .1 .0) (c .before .a .given .0 .1 .1 .0)
+    → UnitStepped (c .before .before .before .before .before .before .args .list .now) (c .before .before .before .before .loop .here) (c .before .a .given .0 .0) (c .before .a .given .0 .1 .0) (c .before .a .given .0 .1 .1 .0)
 step-here c = stepped-to _ _ _ (c .before .before .before .next-unit .ensures) _ _ _ (c .before .a .given .1)
 
 is-record-of-requires : tie.Need-is-record-of-requires Inv-loop μ-loop
@@ -53,7 +53,7 @@ returns-2 : tie.Need-returns-2 Inv-loop μ-loop
 returns-2 c =
     let u = step-here (c .before .before) in
     let h = having-same (c .before .before .before .before .before .before .before .before .args .t) _ _ _ _ _ (u .turn) (sym (u .type-is) ∙ eqb-true _ _ (sym (tested (c .before)) ∙ c .if1 .taken)) in
-    (sym (ap first h) ∙ ap first (c .before .before .before .before .before .before .loop .inv .1), u .inside)
+    (sym (ap firstElement h) ∙ ap firstElement (c .before .before .before .before .before .before .loop .inv .1), u .inside)
 
 loop-less : tie.Need-loop-less Inv-loop μ-loop
 loop-less c = nearer _ _ _ _ _ (step-here (c .before .before))

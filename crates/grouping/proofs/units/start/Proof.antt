@@ -1,8 +1,8 @@
 -- `units::start` gives the start of the walk where all units read, or the refusal.
 use mathlib.Core.Path.{ap, _∙_, subst}
 use borrow.Author.Needs.{needs}
-use Rattle.unit_list.specs.Walk.{StartFits}
-use Rattle.grouping.specs.Units.{heldUnits}
+use Rattle.unit_list.specs.inner.Walk.{StartFits}
+use Rattle.grouping.specs.inner.Units.{heldUnits}
 use Rattle.unit_list.proofs.Turns.{start-units, start-refused}
 use Rattle.grouping.proofs.units.start.Statement.{statement}
 use Rattle.grouping.proofs.units.start.Tie as tie

@@ -1,7 +1,7 @@
--- `units::start_at` gives the cursor where the units behind it can be counted, and their refusal where not.
+-- `units::start_at` gives the cursor where the units after it can be counted, and their refusal where not.
 use mathlib.Core.Path.{sym, ap, _∙_}
 use borrow.Author.Needs.{needs}
-use Rattle.error.specs.Answers.{countOf}
+use Rattle.parse.specs.Answers.{countOf}
 use Rattle.grouping.proofs.Opening.{counted-read, counted-refused}
 use Rattle.grouping.proofs.units.start_at.Statement.{statement}
 use Rattle.grouping.proofs.units.start_at.Tie as tie

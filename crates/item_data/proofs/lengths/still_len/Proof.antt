@@ -1,4 +1,4 @@
--- `lengths::still_len` measures the unit of stored bytes behind its length, or gives the refusal that comes first.
+-- `lengths::still_len` measures the unit of stored bytes after its length, or gives the refusal that comes first.
 use Prim.Native.Nat.{_^_, _≤_}
 use mathlib.Core.Path.{_≡_, sym, ap, _∙_}
 use native.Mathlib.Omega.{arith}

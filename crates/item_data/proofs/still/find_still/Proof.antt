@@ -4,22 +4,22 @@ use mathlib.Core.Path.{_≡_, sym, ap, _∙_}
 use mathlib.Core.List.{[]}
 use native.Mathlib.Omega.{arith}
 use borrow.Author.Needs.{needs}
-use Rattle.error.specs.Outcome.{accept}
-use Rattle.boxes.specs.Walk.{more}
+use Rattle.parse.specs.Outcome.{accept}
 use Rattle.split.specs.Item.{itemUnits}
-use Rattle.split.specs.Answers.{leftOf}
 use Rattle.split.proofs.Items.{Turn, size-inside, found-unit, found-none, items-outside, items-left, left-end}
 use Rattle.compact.specs.ItemData.{onlyStill}
-use Rattle.item_data.proofs.Stills.{none-still, more-behind}
+use Rattle.item_data.proofs.Stills.{none-still, more-after}
 use Rattle.item_data.proofs.still.find_still.Statement.{statement}
 use Rattle.item_data.proofs.still.find_still.Tie as tie
+use Rattle.boxes.specs.inner.Walk.{more}
+use Rattle.split.specs.inner.Walk.{itemUnitsFrom}
 
 -- the prefix size
 sized : (c : tie.After-wide) → (1 ≤ c .wide .result) × (c .wide .result ≤ 4)
 sized c = rw (c .wide .ensures .0) (size-inside _ (sym (c .before .before .outside .ensures) ∙ c .before .if1 .left))
 
 -- the units of the item are those left from its start
-left-at : (c : tie.After-wide) → leftOf (c .wide .result) (c .before .before .before .before .args .item .now) 0 ≡ itemUnits (c .before .before .before .before .args .length-size) (c .before .before .before .before .args .item .now)
+left-at : (c : tie.After-wide) → itemUnitsFrom (c .wide .result) (c .before .before .before .before .args .item .now) 0 ≡ itemUnits (c .before .before .before .before .args .length-size) (c .before .before .before .before .args .item .now)
 left-at c =
     let z = sized c in
     sym (items-left (c .wide .result) (c .before .before .before .before .args .item .now) (z .0) (z .1)) ∙ ap (λ (n : ℕ). itemUnits n (c .before .before .before .before .args .item .now)) (c .wide .ensures .0)
@@ -49,7 +49,7 @@ returns-2 : tie.Need-returns-2
 returns-2 c =
     let a = c .before .before .before .before .before .before .args in
     let k = c .before .item-step in (
-      none-still (a .item .now) (leftOf (c .before .before .wide .result) (a .item .now) 0) (found-none _ _ _ (k .result) (k .ensures) (c .match .keys2))
+      none-still (a .item .now) (itemUnitsFrom (c .before .before .wide .result) (a .item .now) 0) (found-none _ _ _ (k .result) (k .ensures) (c .match .keys2))
           ∙ ap (onlyStill (a .item .now)) (left-at (c .before .before)),
       tt,
     )
@@ -58,7 +58,7 @@ returns-3 : tie.Need-returns-3
 returns-3 c =
     let a = c .before .before .before .before .before .before .before .before .before .args in
     let u = unit-at (c .before) in
-    (more-behind (a .item .now) (c .before .before .before .before .before .wide .result) _ _ (c .if2 .taken) ∙ ap (onlyStill (a .item .now)) (sym (u .rest) ∙ left-at (c .before .before .before .before .before)), tt)
+    (more-after (a .item .now) (c .before .before .before .before .before .wide .result) _ _ (c .if2 .taken) ∙ ap (onlyStill (a .item .now)) (sym (u .rest) ∙ left-at (c .before .before .before .before .before)), tt)
 
 still-of-requires : tie.Need-still-of-requires
 still-of-requires c κs = let u = unit-at (c .before) in omega arith
@@ -67,7 +67,7 @@ returns-4 : tie.Need-returns-4
 returns-4 c =
     let a = c .before .before .before .before .before .before .before .before .before .before .args in
     let u = unit-at (c .before .before) in
-    let e : leftOf (c .before .before .before .before .before .before .wide .result) (a .item .now) (c .before .before .before .a .given .0 .1 .0) ≡ accept [] = left-end _ _ _ (c .before .if2 .left) in (
+    let e : itemUnitsFrom (c .before .before .before .before .before .before .wide .result) (a .item .now) (c .before .before .before .a .given .0 .1 .0) ≡ accept [] = left-end _ _ _ (c .before .if2 .left) in (
       c .still-of .ensures .0
           ∙ ap (onlyStill (a .item .now)) (ap (more (c .before .before .before .a .given .0 .0)) (sym e) ∙ sym (u .rest) ∙ left-at (c .before .before .before .before .before .before)),
       c .still-of .ensures .1,

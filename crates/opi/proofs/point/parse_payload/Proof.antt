@@ -4,7 +4,7 @@ use mathlib.Core.Path.{ap, sym, _∙_}
 use native.Mathlib.Omega.{arith}
 use lib.ListN.{length-replicate}
 use Rattle.rbsp.proofs.Filling.{front-count}
-use Rattle.error.specs.Outcome.{accept}
+use Rattle.parse.specs.Outcome.{accept}
 use Rattle.opi.specs.Opi.{whereRead, opiPoint}
 use Rattle.params.proofs.Look.{enough}
 use Rattle.opi.proofs.Look.{opi-looks}

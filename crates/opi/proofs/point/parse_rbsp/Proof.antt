@@ -36,8 +36,8 @@ use denote.Triple.Table.{entered, cited}
 use denote.Triple.Walked.{says, needs, Stays, stay-none-slice, walkOf, goes-none-slice, Walks, ends-at, walked, walk-meets}
 use denote.Exit.{yes}
 use denote.Triple.Clauses.{ensured, lasts}
-use Rattle.error.specs.Outcome.{accept}
-use Rattle.bit_reader.specs.Answers.{parsed}
+use Rattle.parse.specs.Outcome.{accept}
+use Rattle.bit_reader.specs.inner.Answers.{parsed}
 use Rattle.bit_reader.specs.declared.BitsRead.{BitsRead}
 use Rattle.bit_reader.specs.declared.reader.BitReader.{BitReader}
 use Rattle.bit_reader.proofs.BitsRead as Answer
@@ -61,7 +61,7 @@ use Rattle.bit_reader.proofs.reader.BitReader.skip.Met as skip-thm
 use Rattle.bit_reader.proofs.reader.BitReader.ue.Symbol as ue-def
 use Rattle.bit_reader.proofs.reader.BitReader.ue.Symbol.{name as #ue}
 use Rattle.bit_reader.proofs.reader.BitReader.ue.Met as ue-thm
-use Rattle.opi.specs.Opi.{whereRead, opiPoint, pointOf}
+use Rattle.opi.specs.Opi.{whereRead, opiPoint}
 use Rattle.opi.specs.Answers.{olsIdxOf}
 use Rattle.opi.specs.declared.OlsIdx.{OlsIdx}
 use Rattle.opi.proofs.OlsIdx as Result
@@ -75,6 +75,7 @@ use Rattle.opi.proofs.point.parse_rbsp.Key.{name as #parse-rbsp}
 use Rattle.opi.proofs.point.parse_rbsp as f
 use Rattle.opi.proofs.point.parse_rbsp.Statement as stated
 use Rattle.opi.proofs.point.parse_rbsp.Code as code
+use Rattle.opi.specs.inner.Point.{pointOf}
 
 abbrev stayed : Stays (f.ended .signature .params) (f.ended .kept)
 stayed = (stay-none-slice (0 ∷ []) tt (plain (λ _. u8)) yes, tt)

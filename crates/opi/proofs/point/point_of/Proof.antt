@@ -1,6 +1,6 @@
 -- `point_of` meets the five answers one by one.
 use mathlib.Core.Path.{ap, sym}
-use Rattle.error.specs.Outcome.{accept}
+use Rattle.parse.specs.Outcome.{accept}
 use Rattle.opi.proofs.OperatingPoint.{no-flag, no-second, unset, no-code, there}
 use borrow.Author.Needs.{needs}
 use Rattle.opi.proofs.point.point_of.Statement.{statement}

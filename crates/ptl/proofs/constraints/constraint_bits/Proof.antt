@@ -1,5 +1,5 @@
--- `constraint_bits` passes over the bits that the definition passes over, one part behind the other.
-use Rattle.ptl.proofs.ConstraintInfo.{bits-behind}
+-- `constraint_bits` passes over the bits that the definition passes over, one part after the other.
+use Rattle.ptl.proofs.ConstraintInfo.{bits-after}
 use borrow.Author.Needs.{needs}
 use Rattle.ptl.proofs.constraints.constraint_bits.Statement.{statement}
 use Rattle.ptl.proofs.constraints.constraint_bits.Tie as tie
@@ -23,7 +23,7 @@ returns : tie.Need-returns
 returns c =
     let k2 = c .before .before in
     let k1 = k2 .before in
-    bits-behind _ (k1 .before .before .args .prior) (k1 .skip-bits .result) (k2 .read-bits .result) (c .skip-bits2 .result) _ (c .before .number .ensures) (k1 .skip-bits .ensures) (k2 .read-bits .ensures) (c .skip-bits2 .ensures)
+    bits-after _ (k1 .before .before .args .prior) (k1 .skip-bits .result) (k2 .read-bits .result) (c .skip-bits2 .result) _ (c .before .number .ensures) (k1 .skip-bits .ensures) (k2 .read-bits .ensures) (c .skip-bits2 .ensures)
 
 pub constraint-bits-spec : {M : Type 1} → statement M
 constraint-bits-spec = tie.close (tie.spec skip-bits-requires read-bits-requires number-requires cast-skip-bits skip-bits-requires-2 returns)

@@ -22,8 +22,8 @@ bytes-between-requires c κs = search needs
 loop-holds : tie.Need-loop-holds Inv-loop μ-loop
 loop-holds c = (search needs, refl, refl)
 
-byte-behind-requires : tie.Need-byte-behind-requires Inv-loop μ-loop
-byte-behind-requires c κs = search needs
+byte-after-requires : tie.Need-byte-after-requires Inv-loop μ-loop
+byte-after-requires c κs = search needs
 
 array-write-info : tie.Need-array-write-info Inv-loop μ-loop
 array-write-info c = search needs
@@ -39,7 +39,7 @@ loop-again c =
     let l = c .before .before .loop in
     let a = c .before .before .before .before .before .args in (
       search needs,
-      ap (λ (x : List ℕ). set x (l .k) (c .byte-behind .result)) (l .inv .1) ∙ rw (c .byte-behind .ensures) (copied-more (a .rbsp .now) (a .from .0) (l .k) (omega arith) (omega arith)),
+      ap (λ (x : List ℕ). set x (l .k) (c .byte-after .result)) (l .inv .1) ∙ rw (c .byte-after .ensures) (copied-more (a .rbsp .now) (a .from .0) (l .k) (omega arith) (omega arith)),
       search needs,
     )
 
@@ -62,7 +62,7 @@ constraint-bytes-spec =
     μ-loop
     bytes-between-requires
     loop-holds
-    byte-behind-requires
+    byte-after-requires
     array-write-info
     add-k
     loop-less

@@ -1,6 +1,6 @@
 -- `general_constraints_info` ends where the definition does: at a whole byte.
 use native.Mathlib.Omega.{arith}
-use Rattle.ptl.proofs.ConstraintInfo.{info-behind, announced-place}
+use Rattle.ptl.proofs.ConstraintInfo.{info-after, announced-place}
 use borrow.Author.Needs.{needs}
 use Rattle.ptl.proofs.constraints.general_constraints_info.Statement.{statement}
 use Rattle.ptl.proofs.constraints.general_constraints_info.Tie as tie
@@ -23,7 +23,7 @@ returns : tie.Need-returns
 returns c =
     let d = c .before in
     let k = d .before .before in
-    info-behind _ (k .before .before .args .prior) (k .read-bits .result) (d .announced-bits .result) _ (k .read-bits .ensures) (d .announced-bits .ensures) (c .align .result) (d .before .number .ensures) (c .align .ensures _)
+    info-after _ (k .before .before .args .prior) (k .read-bits .result) (d .announced-bits .result) _ (k .read-bits .ensures) (d .announced-bits .ensures) (c .align .result) (d .before .number .ensures) (c .align .ensures _)
 
 pub general-constraints-info-spec : {M : Type 1} → statement M
 general-constraints-info-spec = tie.close (tie.spec read-bits-requires number-requires announced-bits-requires align-requires returns)

@@ -1,11 +1,11 @@
 -- `read_constraints` gives the section: the two flags, and the bytes between the two aligned places.
 use mathlib.Core.Path.{ap, refl, sym, _∙_}
 use native.Mathlib.Omega.{arith}
-use Rattle.error.specs.Parse.{value}
-use Rattle.bit_reader.specs.Answers.{numberIn, placeIn}
-use Rattle.bit_reader.proofs.Chain.{went, part-refused}
+use Rattle.parse.specs.Parse.{value}
+use Rattle.bit_reader.specs.inner.Answers.{numberIn, placeIn}
+use Rattle.bit_reader.proofs.Chain.{bind-value, part-refused}
 use Rattle.ptl.specs.declared.constraints.Constraints.{Constraints}
-use Rattle.ptl.proofs.ConstraintInfo.{FlagsAndInfo, constraints-behind, Run, run-of, held-bytes}
+use Rattle.ptl.proofs.ConstraintInfo.{FlagsAndInfo, constraints-after, Run, run-of, held-bytes}
 use borrow.Author.Needs.{needs}
 use Rattle.ptl.proofs.constraints.read_constraints.Statement.{statement}
 use Rattle.ptl.proofs.constraints.read_constraints.Tie as tie
@@ -39,7 +39,7 @@ no-constraints-requires c κs = search needs
 returns : tie.Need-returns
 returns c =
     let k = c .before .before .before in
-    part-refused _ (c .no-constraints .result .part) (constraints-behind _ _ (k .before .before .read-bits .result) (k .before .read-bits2 .result) (k .general-constraints-info .result) (reads k)) (c .no-constraints .ensures) (c .before .enum-told .given .1)
+    part-refused _ (c .no-constraints .result .part) (constraints-after _ _ (k .before .before .read-bits .result) (k .before .read-bits2 .result) (k .general-constraints-info .result) (reads k)) (c .no-constraints .ensures) (c .before .enum-told .given .1)
 
 position-requires : tie.Need-position-requires
 position-requires c κs = search needs
@@ -72,7 +72,7 @@ returns-2 c =
     rw (c .before .number .ensures, c .number2 .ensures, b .before .bytes-between .ensures)
     (ap (λ (x : Constraints). value x (e .before .info .given .0 .1 .0 .0))
     (held-bytes _ (numberIn (k .before .before .read-bits .result)) (numberIn (k .before .read-bits2 .result)) _ _ (o .byte-offset .result .0) (t .byte-offset2 .result .0) (b .constraint-bytes .result) (run e) (o .byte-offset .ensures ∙ o .before .position .ensures) (t .byte-offset2 .ensures) (b .constraint-bytes .ensures))
-    ∙ sym (constraints-behind _ _ (k .before .before .read-bits .result) (k .before .read-bits2 .result) (k .general-constraints-info .result) (reads k) ∙ went _ refl (e .before .info .given .1)))
+    ∙ sym (constraints-after _ _ (k .before .before .read-bits .result) (k .before .read-bits2 .result) (k .general-constraints-info .result) (reads k) ∙ bind-value _ refl (e .before .info .given .1)))
 
 pub read-constraints-spec : {M : Type 1} → statement M
 read-constraints-spec = tie.close (tie.spec read-bits-requires read-bits-requires-2 general-constraints-info-requires enum-known-info enum-told no-constraints-requires returns position-requires byte-offset-requires byte-offset-requires-2 bytes-between-requires constraint-bytes-requires number-requires number-requires-2 returns-2)

@@ -2,7 +2,7 @@
 use native.Mathlib.Omega.{arith}
 use lib.Dec.{ltb}
 use Rattle.bit_reader.proofs.Chain.{number-low-if}
-use Rattle.ptl.proofs.SublayerLevels.{sublayers-behind}
+use Rattle.ptl.proofs.SublayerLevels.{sublayers-after}
 use borrow.Author.Needs.{needs}
 use Rattle.ptl.proofs.sublayers.read_sublayers.Statement.{statement}
 use Rattle.ptl.proofs.sublayers.read_sublayers.Tie as tie
@@ -30,7 +30,7 @@ returns : tie.Need-returns
 returns c =
     let l = c .before .before in
     let k = l .before .before in
-    sublayers-behind _ _ _ (k .before .before .args .prior) (k .read-bits-if .result) (l .read-levels .result .answer) _ _ (l .before .number .ensures) (k .read-bits-if .ensures) (c .present-flags .ensures) (l .read-levels .ensures)
+    sublayers-after _ _ _ (k .before .before .args .prior) (k .read-bits-if .result) (l .read-levels .result .answer) _ _ (l .before .number .ensures) (k .read-bits-if .ensures) (c .present-flags .ensures) (l .read-levels .ensures)
 
 pub read-sublayers-spec : {M : Type 1} → statement M
 read-sublayers-spec = tie.close (tie.spec read-bits-if-requires number-requires read-levels-requires present-flags-requires returns)

@@ -1,6 +1,6 @@
 -- The loop fills both arrays from the highest sublayer down.
 use Rattle.ptl.specs.Ptl.{presentFlags}
-use Rattle.ptl_record.specs.Places.{levelsLen, levelsAt}
+use Rattle.ptl_record.specs.inner.Places.{levelsLen, levelsAt}
 use Rattle.ptl_record_read.proofs.Places.{Filled, filled-none, filled-more}
 use Prim.Native.Nat.{suc, _-_}
 use mathlib.Core.Path.{_≡_}

@@ -1,5 +1,4 @@
 -- The first byte decides on refusals 1 and 2, and the rest follows.
-use Rattle.ptl.specs.Answers.{orZeroPtl}
 use Rattle.ptl_record.proofs.Reading.{reads-none, reads-zero}
 use Prim.Native.Nat.{_%_, _<_}
 use mathlib.Core.Path.{_≡_, sym, ap, _∙_}
@@ -8,6 +7,7 @@ use lib.ListN.{length, getD}
 use borrow.Author.Needs.{needs}
 use Rattle.ptl_record_read.proofs.read.read_ptl.Statement.{statement}
 use Rattle.ptl_record_read.proofs.read.read_ptl.Tie as tie
+use Rattle.ptl.specs.inner.Answers.{orZeroPtl}
 
 refused-requires : tie.Need-refused-requires
 refused-requires c κs = search needs
@@ -31,8 +31,8 @@ returns-2 c =
     let e : getD (a .s .now) (a .at) 0 % 64 ≡ 0 = rw (c .before .before .wide .ensures .0) at (c .before .if2 .taken) in
     c .refused2 .ensures ∙ ap orZeroPtl (sym (reads-zero (a .sublayers) (a .s .now) (a .at) h e))
 
-read-behind-requires : tie.Need-read-behind-requires
-read-behind-requires c κs = search needs
+read-after-requires : tie.Need-read-after-requires
+read-after-requires c κs = search needs
 
 returns-3 : tie.Need-returns-3
 returns-3 c = search needs
@@ -47,5 +47,5 @@ read-ptl-spec =
     wide-requires
     refused-requires-2
     returns-2
-    read-behind-requires
+    read-after-requires
     returns-3)

@@ -1,6 +1,6 @@
 -- The loop fills the array with one number a turn.
 use Rattle.ptl.specs.Ptl.{padded}
-use Rattle.ptl_record.specs.Places.{words}
+use Rattle.ptl_record.specs.inner.Places.{words}
 use Rattle.ptl_record_read.proofs.Arrays.{padded-none}
 use Rattle.ptl_record_read.proofs.Places.{words-store}
 use Prim.Native.Nat.{_-_, _≤_, _<_}

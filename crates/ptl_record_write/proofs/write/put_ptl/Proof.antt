@@ -1,9 +1,8 @@
--- The parts of the record, stored one behind the other.
-use Rattle.ptl_record.proofs.Writing.{fitting, length-ptl}
-use Rattle.ptl_record.proofs.Writing.{part-few}
+-- The parts of the record, stored one after the other.
+use Rattle.ptl_record.proofs.Writing.{fitting, length-ptl, part-few}
 use Rattle.ptl_record_write.proofs.Stores.{ptl-stored}
 use Rattle.ptl_record.specs.Write.{levelPart, ptlBytes}
-use Rattle.ptl_record.specs.Places.{frontBytes}
+use Rattle.ptl_record.specs.inner.Places.{frontBytes}
 use Prim.Native.Nat.{_+_, _*_, _≤_}
 use mathlib.Core.Path.{_≡_, ap, _∙_}
 use lib.Seq.{length-sets}

@@ -1,5 +1,5 @@
 -- The loop stores one sub-profile a turn.
-use Rattle.ptl_record.specs.Write.{subProfiles}
+use Rattle.ptl_record.specs.Write.{subProfileBytes}
 use Rattle.ptl_record_write.proofs.Stores.{subs-more}
 use lib.Seq.{sets, length-sets}
 use Prim.Native.Nat.{_-_, _≤_, _<_}
@@ -11,13 +11,13 @@ use Rattle.ptl_record_write.proofs.write.put_sub_profiles.Statement.{st
 use Rattle.ptl_record_write.proofs.write.put_sub_profiles.Tie as tie
 
 abbrev Inv-loop : tie.InvT-loop
-Inv-loop out₀ at n a k₀ out k = (k ≤ n) × (out ≡ sets out₀ at (subProfiles (take k a)))
+Inv-loop out₀ at n a k₀ out k = (k ≤ n) × (out ≡ sets out₀ at (subProfileBytes (take k a)))
 
 abbrev μ-loop : tie.MeasureT-loop
 μ-loop out₀ at n a k₀ out k = n - k
 
 loop-holds : tie.Need-loop-holds Inv-loop μ-loop
-unfolding subProfiles
+unfolding subProfileBytes
 loop-holds c = search needs
 
 mul-put-number : tie.Need-mul-put-number Inv-loop μ-loop
@@ -39,7 +39,7 @@ put-number-requires : tie.Need-put-number-requires Inv-loop μ-loop
 put-number-requires c κs =
     let l = c .before .before .loop in
     let a = c .before .before .before .before .args in
-    let e = ap length (l .inv .1) ∙ length-sets (a .out .now) (a .at) (subProfiles (take (l .k) (a .t3))) in
+    let e = ap length (l .inv .1) ∙ length-sets (a .out .now) (a .at) (subProfileBytes (take (l .k) (a .t3))) in
     (omega arith, omega arith)
 
 add-k : tie.Need-add-k Inv-loop μ-loop
@@ -58,7 +58,7 @@ loop-again c =
 same-length : tie.Need-same-length Inv-loop μ-loop
 same-length c =
     let a = c .before .before .before .args in
-    ap length (c .before .loop .inv .1) ∙ length-sets (a .out .now) (a .at) (subProfiles (take (c .before .loop .k) (a .t3)))
+    ap length (c .before .loop .inv .1) ∙ length-sets (a .out .now) (a .at) (subProfileBytes (take (c .before .loop .k) (a .t3)))
 
 returns : tie.Need-returns Inv-loop μ-loop
 returns c =

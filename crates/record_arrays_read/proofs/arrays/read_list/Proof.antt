@@ -1,12 +1,12 @@
--- The arrays behind their count: 1 where they are not all there, 20 where their list is too long, else the list at the front of the output.
+-- The arrays after their count: 1 where they are not all there, 20 where their list is too long, else the list at the front of the output.
 use Prim.Native.Nat.{_+_, _<_}
 use native.Mathlib.Omega.{arith}
 use lib.ListN.{length}
 use borrow.Author.Needs.{needs}
-use Rattle.error.specs.Parse.{times}
+use Rattle.parse.specs.Parse.{times}
 use Rattle.boxes.proofs.Output.{output-refused}
 use Rattle.record_arrays.specs.Read.{recordArray}
-use Rattle.record_arrays_read.specs.Inside.{arraysInList, roomTaken}
+use Rattle.record_arrays_read.specs.inner.Arrays.{arraysInList, roomTaken}
 use Rattle.record_arrays_read.proofs.Repeated.{RoomAt, room-short, room-at}
 use Rattle.record_arrays_read.proofs.Lists.{arrays-absent, arrays-refused, list-too-long, arrays-fit, list-given}
 use Rattle.record_arrays_read.proofs.arrays.read_list.Statement.{statement}

@@ -1,9 +1,9 @@
 -- The arrays of a record, stored. The loop's invariant: those stored and those left make the whole.
 use native.Mathlib.Omega.{arith}
 use borrow.Author.Needs.{needs}
-use Rattle.error.specs.Parse.{times}
+use Rattle.parse.specs.Parse.{times}
 use Rattle.record_arrays.specs.Read.{recordArray}
-use Rattle.record_arrays_read.specs.Inside.{arrayInList, arraysInList}
+use Rattle.record_arrays_read.specs.inner.Arrays.{arrayInList, arraysInList}
 use Rattle.record_arrays_read.proofs.Repeated.{Storing, storing-start, storing-one, storing-stored, storing-done}
 use Rattle.record_arrays_read.proofs.RecordArrays.{arrays-none, arrays-more}
 use Rattle.record_arrays_read.proofs.list.put_arrays.Statement.{statement}

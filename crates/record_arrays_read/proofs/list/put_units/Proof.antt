@@ -3,9 +3,9 @@ use Prim.Native.Nat.{_+_, _≤_}
 use native.Mathlib.Omega.{arith}
 use borrow.Author.Needs.{needs}
 use lib.ListN.{length}
-use Rattle.error.specs.Parse.{times}
+use Rattle.parse.specs.Parse.{times}
 use Rattle.boxes.specs.Bytes.{chunk}
-use Rattle.record_arrays_read.specs.Inside.{unitsInList}
+use Rattle.record_arrays_read.specs.inner.Arrays.{unitsInList}
 use Rattle.record_arrays_read.proofs.Repeated.{Storing, storing-start, storing-done, storing-not-short, storing-next, storing-room}
 use Rattle.record_arrays_read.proofs.RecordArrays.{unitInList, units-none, units-more, UnitAt, unit-at, unit-short}
 use Rattle.record_arrays_read.proofs.list.put_units.Statement.{statement}

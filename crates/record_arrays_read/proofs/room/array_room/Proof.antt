@@ -2,9 +2,9 @@
 use mathlib.Core.Path.{sym, ap}
 use native.Mathlib.Omega.{arith}
 use borrow.Author.Needs.{needs}
-use Rattle.error.specs.Parse.{value, refused, times}
+use Rattle.parse.specs.Parse.{value, refused, times}
 use Rattle.boxes.specs.Bytes.{chunk}
-use Rattle.record_arrays_read.specs.Inside.{unitsInList, arrayInList, roomTaken}
+use Rattle.record_arrays_read.specs.inner.Arrays.{unitsInList, arrayInList, roomTaken}
 use Rattle.record_arrays_read.proofs.Repeated.{RoomAt, room-short, room-at}
 use Rattle.record_arrays_read.proofs.RecordArrays.{HeadAt, head-short, head-at, array-refused, array-room}
 use Rattle.record_arrays_read.proofs.room.array_room.Statement.{statement}
@@ -25,7 +25,7 @@ returns c =
     let h = c .before .before .array-head in
     (sym (ap (roomTaken arrayInList (a .«record» .now) 0) (array-refused (a .«record» .now) (a .at) 1 (head-short (a .«record» .now) (a .at) (h .result) (h .ensures) (c .enum-told .given .1)))), tt)
 
--- what stands before the units
+-- what comes before the units
 found : (c : tie.After-known-told) → HeadAt (c .before .before .before .before .before .args .«record» .now) (c .before .before .before .before .before .args .at) (c .before .head .given .0 .0) (c .before .head .given .0 .1 .0)
 found c =
     let h = c .before .before .before .array-head in

@@ -4,9 +4,9 @@ use mathlib.Core.Path.{_≡_, refl, sym, ap, _∙_}
 use native.Mathlib.Omega.{arith}
 use borrow.Author.Needs.{needs}
 use lib.ListN.{length}
-use Rattle.error.specs.Parse.{times}
+use Rattle.parse.specs.Parse.{times}
 use Rattle.record_arrays.specs.Read.{recordArray}
-use Rattle.record_arrays_read.specs.Inside.{arrayInList, arraysInList, roomTaken}
+use Rattle.record_arrays_read.specs.inner.Arrays.{arrayInList, arraysInList, roomTaken}
 use Rattle.record_arrays_read.proofs.Repeated.{room-found, room-refused, RoomAt, room-short, room-at, times-refused, room-next, room-done}
 use Rattle.record_arrays_read.proofs.RecordArrays.{arrays-none, arrays-more}
 use Rattle.record_arrays_read.proofs.room.arrays_room.Statement.{statement}

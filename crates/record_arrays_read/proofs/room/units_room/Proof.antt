@@ -4,9 +4,9 @@ use mathlib.Core.Path.{_≡_, refl, sym, ap, _∙_}
 use native.Mathlib.Omega.{arith}
 use borrow.Author.Needs.{needs}
 use lib.ListN.{length}
-use Rattle.error.specs.Parse.{times}
+use Rattle.parse.specs.Parse.{times}
 use Rattle.boxes.specs.Bytes.{chunk}
-use Rattle.record_arrays_read.specs.Inside.{unitsInList, roomTaken}
+use Rattle.record_arrays_read.specs.inner.Arrays.{unitsInList, roomTaken}
 use Rattle.record_arrays_read.proofs.Repeated.{times-refused, room-next, room-done}
 use Rattle.record_arrays_read.proofs.RecordArrays.{unitInList, units-none, units-more, UnitAt, unit-at, unit-short}
 use Rattle.record_arrays_read.proofs.room.units_room.Statement.{statement}

@@ -1,7 +1,7 @@
--- One array: its units are measured behind its head.
+-- One array: its units are measured after its head.
 use mathlib.Core.Path.{sym, ap, _∙_, subst}
 use borrow.Author.Needs.{needs}
-use Rattle.record_arrays_write.specs.Inside.{measureOf, UnitsWithin}
+use Rattle.record_arrays_write.specs.inner.Measures.{measureOf, UnitsWithin}
 use Rattle.record_arrays_write.proofs.Measures.{entered, end-measured, malformed-measured, unread-measured, units-few, array-measured, array-takes}
 use Rattle.record_arrays_write.proofs.measure.measure_array.Statement.{statement}
 use Rattle.record_arrays_write.proofs.measure.measure_array.Tie as tie

@@ -1,6 +1,6 @@
--- The first byte of an array, its count, its units, stored one behind the other.
+-- The first byte of an array, its count, its units, stored one after the other.
 use borrow.Author.Needs.{needs}
-use Rattle.unit_list.specs.Walk.{unitsFrom}
+use Rattle.unit_list.specs.inner.Walk.{arrayUnitsFrom}
 use Rattle.record_arrays_write.proofs.Stores.{count-puts, units-puts, array-stored}
 use Rattle.record_arrays_write.proofs.put.put_array.Statement.{statement}
 use Rattle.record_arrays_write.proofs.put.put_array.Tie as tie
@@ -18,14 +18,14 @@ put-count-requires : tie.Need-put-count-requires
 put-count-requires c κs =
     let b = c .before .before .before .before .before .before .before .before in
     let a = b .args in
-    (b .pre .2, count-puts (a .list .now) (a .complete) (a .c .«unit_type») (unitsFrom (a .list .now) (a .c)) (a .out .now) (a .to) (b .pre .3) _ (c .before .before .before .before .before .array-byte .ensures) _ (c .before .before .before .put .ensures))
+    (b .pre .2, count-puts (a .list .now) (a .complete) (a .c .«unit_type») (arrayUnitsFrom (a .list .now) (a .c)) (a .out .now) (a .to) (b .pre .3) _ (c .before .before .before .before .before .array-byte .ensures) _ (c .before .before .before .put .ensures))
 
 put-units-requires : tie.Need-put-units-requires
 put-units-requires c κs =
     let b = c .before .before .before .before .before .before .before .before .before .before .before .before in
     let a = b .args in (
       b .pre .2,
-      units-puts (a .list .now) (a .complete) (a .c .«unit_type») (unitsFrom (a .list .now) (a .c)) (a .out .now) (a .to) (b .pre .3) _ (c .before .before .before .before .before .before .before .before .before .array-byte .ensures) _ (c .before .before .before .before .before .before .before .put .ensures) _ _ (c .before .before .before .put-count .ensures),
+      units-puts (a .list .now) (a .complete) (a .c .«unit_type») (arrayUnitsFrom (a .list .now) (a .c)) (a .out .now) (a .to) (b .pre .3) _ (c .before .before .before .before .before .before .before .before .before .array-byte .ensures) _ (c .before .before .before .before .before .before .before .put .ensures) _ _ (c .before .before .before .put-count .ensures),
     )
 
 same-length : tie.Need-same-length
@@ -35,7 +35,7 @@ returns : tie.Need-returns
 returns c =
     let b = c .before .before .before .before .before .before .before .before .before .before .before .before .before .before .before in
     let a = b .args in
-    array-stored (a .list .now) (a .complete) (a .c .«unit_type») (unitsFrom (a .list .now) (a .c)) (a .out .now) (a .to) (b .pre .3)
+    array-stored (a .list .now) (a .complete) (a .c .«unit_type») (arrayUnitsFrom (a .list .now) (a .c)) (a .out .now) (a .to) (b .pre .3)
     _ (c .before .before .before .before .before .before .before .before .before .before .before .before .array-byte .ensures) _ (c .before .before .before .before .before .before .before .before .before .before .put .ensures) _ _ (c .before .before .before .before .before .before .put-count .ensures) _ _ (c .before .before .put-units .ensures)
 
 pub put-array-spec : {M : Type 1} → statement M

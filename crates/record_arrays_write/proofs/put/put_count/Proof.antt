@@ -4,8 +4,8 @@ use native.Mathlib.Omega.{arith}
 use borrow.Author.Needs.{needs}
 use lib.ListN.{length}
 use Rattle.boxes.proofs.Numbers.{length-toBe}
-use Rattle.unit_list.specs.Walk.{unitsFrom}
-use Rattle.record_arrays_write.specs.Inside.{measureOf, countBytes}
+use Rattle.unit_list.specs.inner.Walk.{arrayUnitsFrom}
+use Rattle.record_arrays_write.specs.inner.Measures.{measureOf, countBytes}
 use Rattle.record_arrays_write.proofs.Stores.{put-room, count-none, count-two, count-never}
 use Rattle.record_arrays_write.proofs.put.put_count.Statement.{statement}
 use Rattle.record_arrays_write.proofs.put.put_count.Tie as tie
@@ -16,7 +16,7 @@ holds-one-requires c κs = search needs
 returns : tie.Need-returns
 returns c =
     let a = c .before .before .before .before .args in
-    let e = count-none (a .list .now) (a .c .«unit_type») (unitsFrom (a .list .now) (a .c)) (sym (c .before .holds-one .ensures) ∙ c .if1 .taken) in
+    let e = count-none (a .list .now) (a .c .«unit_type») (arrayUnitsFrom (a .list .now) (a .c)) (sym (c .before .holds-one .ensures) ∙ c .if1 .taken) in
     rw e (omega arith, refl)
 
 measure-units-requires : tie.Need-measure-units-requires
@@ -32,7 +32,7 @@ returns-2 : tie.Need-returns-2
 returns-2 c =
     let b = c .before .before .before .before .before .before .before in
     let a = b .args in
-    absurd (count-never (a .list .now) (a .c .«unit_type») (unitsFrom (a .list .now) (a .c)) (a .out .now) (a .to) 21 (b .pre .1)
+    absurd (count-never (a .list .now) (a .c .«unit_type») (arrayUnitsFrom (a .list .now) (a .c)) (a .out .now) (a .to) 21 (b .pre .1)
     (sym (ap measureOf (c .enum-told .given .1)) ∙ c .before .before .measure-units .ensures .0))
 
 put-number-requires : tie.Need-put-number-requires
@@ -40,9 +40,9 @@ put-number-requires c κs =
     let b = c .before .before .before .before .before .before .before .before .before in
     let a = b .args in
     let u = c .before .before .units .given in
-    let e = count-two (a .list .now) (a .c .«unit_type») (unitsFrom (a .list .now) (a .c)) (sym (c .before .before .before .before .before .before .holds-one .ensures) ∙ c .before .before .before .before .before .if1 .left) (u .0 .0) (sym (ap measureOf (u .1)) ∙ c .before .before .before .before .measure-units .ensures .0) in
+    let e = count-two (a .list .now) (a .c .«unit_type») (arrayUnitsFrom (a .list .now) (a .c)) (sym (c .before .before .before .before .before .before .holds-one .ensures) ∙ c .before .before .before .before .before .if1 .left) (u .0 .0) (sym (ap measureOf (u .1)) ∙ c .before .before .before .before .measure-units .ensures .0) in
     let l = ap length e ∙ length-toBe 2 (u .0 .0 .count) in
-    let r = put-room (countBytes (a .list .now) (a .c .«unit_type»)) (unitsFrom (a .list .now) (a .c)) (a .out .now) (a .to) (b .pre .1) in
+    let r = put-room (countBytes (a .list .now) (a .c .«unit_type»)) (arrayUnitsFrom (a .list .now) (a .c)) (a .out .now) (a .to) (b .pre .1) in
     (omega arith, omega arith)
 
 add-result : tie.Need-add-result
@@ -55,7 +55,7 @@ returns-3 : tie.Need-returns-3
 returns-3 c =
     let a = c .before .before .before .before .before .before .before .before .before .before .before .before .args in
     let u = c .before .before .before .before .before .units .given in
-    let e = count-two (a .list .now) (a .c .«unit_type») (unitsFrom (a .list .now) (a .c)) (sym (c .before .before .before .before .before .before .before .before .before .holds-one .ensures) ∙ c .before .before .before .before .before .before .before .before .if1 .left) (u .0 .0) (sym (ap measureOf (u .1)) ∙ c .before .before .before .before .before .before .before .measure-units .ensures .0) in
+    let e = count-two (a .list .now) (a .c .«unit_type») (arrayUnitsFrom (a .list .now) (a .c)) (sym (c .before .before .before .before .before .before .before .before .before .holds-one .ensures) ∙ c .before .before .before .before .before .before .before .before .if1 .left) (u .0 .0) (sym (ap measureOf (u .1)) ∙ c .before .before .before .before .before .before .before .measure-units .ensures .0) in
     let l = ap length e ∙ length-toBe 2 (u .0 .0 .count) in
     (omega arith, rw e (c .before .before .put-number .ensures))
 

@@ -6,14 +6,14 @@ use borrow.Author.Needs.{needs}
 use lib.ListN.{length}
 use Rattle.boxes.specs.Walk.{countFound}
 use Rattle.boxes.proofs.Walk.{plus, plus-zero}
-use Rattle.split.specs.Answers.{leftOf}
 use Rattle.split.proofs.Walks.{count-on, count-end, count-refused}
 use Rattle.split.proofs.Items.{Turn, found-unit, found-end, found-refusal}
 use Rattle.split.proofs.walk.item_count.Statement.{statement}
 use Rattle.split.proofs.walk.item_count.Tie as tie
+use Rattle.split.specs.inner.Walk.{itemUnitsFrom}
 
 abbrev Inv-walk : tie.InvT-walk
-Inv-walk item size at₀ n₀ at n = (at ≤ length item) × (n ≤ at) × (plus n (countFound (leftOf size item at)) ≡ countFound (leftOf size item 0))
+Inv-walk item size at₀ n₀ at n = (at ≤ length item) × (n ≤ at) × (plus n (countFound (itemUnitsFrom size item at)) ≡ countFound (itemUnitsFrom size item 0))
 
 abbrev μ-walk : tie.MeasureT-walk
 μ-walk item size at₀ n₀ at n = length item - at
@@ -42,7 +42,7 @@ walk-less c = let f = unit-at c in omega arith
 walk-again : tie.Need-walk-again Inv-walk μ-walk
 walk-again c =
     let f = unit-at c in
-    (omega arith, omega arith, count-on _ _ _ (c .before .before .before .before .walk .inv .2) (c .before .step .given .0 .0) (leftOf _ _ (c .before .step .given .0 .1 .0)) (f .rest))
+    (omega arith, omega arith, count-on _ _ _ (c .before .before .before .before .walk .inv .2) (c .before .step .given .0 .0) (itemUnitsFrom _ _ (c .before .step .given .0 .1 .0)) (f .rest))
 
 enum-told : tie.Need-enum-told Inv-walk μ-walk
 enum-told c = search needs

@@ -6,14 +6,14 @@ use borrow.Author.Needs.{needs}
 use lib.ListN.{length}
 use Rattle.boxes.specs.Walk.{found}
 use Rattle.boxes.proofs.Walk.{total, total-count}
-use Rattle.split.specs.Answers.{leftOf}
 use Rattle.split.proofs.Walks.{find-here, find-on}
 use Rattle.split.proofs.Items.{Turn, found-unit, found-none}
 use Rattle.split.proofs.walk.item_unit.Statement.{statement}
 use Rattle.split.proofs.walk.item_unit.Tie as tie
+use Rattle.split.specs.inner.Walk.{itemUnitsFrom}
 
 abbrev Inv-walk : tie.InvT-walk
-Inv-walk item size k at₀ skip₀ at skip = (at ≤ length item) × (skip < total (leftOf size item at)) × (found (leftOf size item at) skip ≡ found (leftOf size item 0) k)
+Inv-walk item size k at₀ skip₀ at skip = (at ≤ length item) × (skip < total (itemUnitsFrom size item at)) × (found (itemUnitsFrom size item at) skip ≡ found (itemUnitsFrom size item 0) k)
 
 abbrev μ-walk : tie.MeasureT-walk
 μ-walk item size k at₀ skip₀ at skip = length item - at
@@ -22,7 +22,7 @@ walk-holds : tie.Need-walk-holds Inv-walk μ-walk
 walk-holds c =
     let a = c .before .args in
     let h = c .before .pre .3 in
-    let t = total-count (leftOf (a .size) (a .item .now) 0) (h .count) (h .counted) in
+    let t = total-count (itemUnitsFrom (a .size) (a .item .now) 0) (h .count) (h .counted) in
     (omega arith, omega arith, refl)
 
 item-step-requires : tie.Need-item-step-requires Inv-walk μ-walk
@@ -47,7 +47,7 @@ walk-again : tie.Need-walk-again Inv-walk μ-walk
 walk-again c =
     let f = unit-here (c .before) in
     let l = c .before .before .before .before .before .walk in
-    let w = find-on (l .skip) _ _ (l .inv .1) (l .inv .2) (c .before .before .step .given .0 .0) (leftOf _ _ (c .before .before .step .given .0 .1 .0)) (f .rest) (c .if1 .left) in
+    let w = find-on (l .skip) _ _ (l .inv .1) (l .inv .2) (c .before .before .step .given .0 .0) (itemUnitsFrom _ _ (c .before .before .step .given .0 .1 .0)) (f .rest) (c .if1 .left) in
     (omega arith, w .0, w .1)
 
 returns : tie.Need-returns Inv-walk μ-walk
@@ -59,7 +59,7 @@ returns-2 : tie.Need-returns-2 Inv-walk μ-walk
 returns-2 c =
     let f = unit-here (c .before) in
     let l = c .before .before .before .before .before .walk in
-    (find-here (l .skip) _ _ (l .inv .1) (l .inv .2) (c .before .before .step .given .0 .0) (leftOf _ _ (c .before .before .step .given .0 .1 .0)) (f .rest) (c .if1 .taken), omega arith)
+    (find-here (l .skip) _ _ (l .inv .1) (l .inv .2) (c .before .before .step .given .0 .0) (itemUnitsFrom _ _ (c .before .before .step .given .0 .1 .0)) (f .rest) (c .if1 .taken), omega arith)
 
 pub item-unit-spec : {M : Type 1} → statement M
 item-unit-spec =

@@ -1,16 +1,16 @@
--- `parse_front` reads the five sections one behind the other, and they make up the head.
+-- `parse_front` reads the five sections one after the other, and they make up the head.
 use mathlib.Core.Path.{_≡_, ap, refl, sym, _∙_}
-use Rattle.error.specs.Parse.{value, bind}
-use Rattle.bit_reader.specs.Answers.{parsed, numberIn}
-use Rattle.bit_reader.proofs.Chain.{onward, ended, part-on, part-onward}
+use Rattle.parse.specs.Parse.{value, bind}
+use Rattle.bit_reader.specs.inner.Answers.{parsed, numberIn}
+use Rattle.bit_reader.proofs.Chain.{bind-next, bind-refused, bind-part, bind-next-part}
 use Rattle.sps.specs.Sps.{spsHead, zeroSps}
-use Rattle.sps.specs.Sections.{windowOf, headOf}
-use Rattle.params.specs.Answers.{readOr}
-use Rattle.sps.proofs.Bounds.{ids-place, depth-behind}
+use Rattle.sps.specs.inner.Sections.{windowOf, spsHeadOf}
+use Rattle.sps.proofs.Bounds.{ids-place, depth-after}
 use Rattle.sps.proofs.SpsSections.{sps-sections}
 use borrow.Author.Needs.{needs}
 use Rattle.sps.proofs.sections.parse_front.Statement.{statement}
 use Rattle.sps.proofs.sections.parse_front.Tie as tie
+use Rattle.params.specs.inner.Answers.{readOr}
 
 read-ids-requires : tie.Need-read-ids-requires
 read-ids-requires c κs = search needs
@@ -41,7 +41,7 @@ no-sps-requires c κs = search needs
 
 -- the sections' answers make up the head
 sections : (c : tie.After-read-depth) → spsHead (c .before .before .before .before .before .before .args .rbsp .now) 0
-    ≡ bind (parsed (c .read-depth .result)) (λ _ q. value (headOf (c .before .before .before .before .read-ids .result .part) (c .before .before .before .read-ptl .result .ptl) (c .before .before .read-size .result .part) (windowOf (c .before .read-window .result .part)) (numberIn (c .read-depth .result))) q)
+    ≡ bind (parsed (c .read-depth .result)) (λ _ q. value (spsHeadOf (c .before .before .before .before .read-ids .result .part) (c .before .before .before .read-ptl .result .ptl) (c .before .before .read-size .result .part) (windowOf (c .before .read-window .result .part)) (numberIn (c .read-depth .result))) q)
 sections c =
     let k4 = c .before in
     let k3 = k4 .before in
@@ -52,19 +52,19 @@ sections c =
     let r3 = k3 .read-size .result in
     let r4 = k4 .read-window .result in
     sps-sections _ _
-    ∙ part-on (r1 .answer) (r1 .part) _ (k1 .read-ids .ensures .0)
-    ∙ part-onward (r1 .answer) (r2 .answer) _ (r2 .ptl) _ (k2 .read-ptl .ensures)
-    ∙ part-onward (r2 .answer) (r3 .answer) _ (r3 .part) _ (k3 .read-size .ensures)
-    ∙ part-onward (r3 .answer) (r4 .answer) _ _ _ (k4 .read-window .ensures)
-    ∙ onward (r4 .answer) (c .read-depth .result) _ _ (c .read-depth .ensures)
+    ∙ bind-part (r1 .answer) (r1 .part) _ (k1 .read-ids .ensures .0)
+    ∙ bind-next-part (r1 .answer) (r2 .answer) _ (r2 .ptl) _ (k2 .read-ptl .ensures)
+    ∙ bind-next-part (r2 .answer) (r3 .answer) _ (r3 .part) _ (k3 .read-size .ensures)
+    ∙ bind-next-part (r3 .answer) (r4 .answer) _ _ _ (k4 .read-window .ensures)
+    ∙ bind-next (r4 .answer) (c .read-depth .result) _ _ (c .read-depth .ensures)
 
 returns : tie.Need-returns
-returns c = c .no-sps .ensures ∙ sym (ap (readOr zeroSps) (sections (c .before .before .before .before) ∙ ended _ refl (c .before .before .enum-told .given .1) (c .before .refusal .ensures)))
+returns c = c .no-sps .ensures ∙ sym (ap (readOr zeroSps) (sections (c .before .before .before .before) ∙ bind-refused _ refl (c .before .before .enum-told .given .1) (c .before .refusal .ensures)))
 
 head-of-requires : tie.Need-head-of-requires
 head-of-requires c κs =
     let k = c .before .before .before in
-    depth-behind _ (k .before .read-window .result .answer) (k .read-depth .result) (k .read-depth .ensures) (c .before .r .given .1)
+    depth-after _ (k .before .read-window .result .answer) (k .read-depth .result) (k .read-depth .ensures) (c .before .r .given .1)
 
 returns-2 : tie.Need-returns-2
 returns-2 c = rw (c .head-of .ensures, sections (c .before .before .before .before), c .before .before .r .given .1)

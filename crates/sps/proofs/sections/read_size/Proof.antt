@@ -1,7 +1,7 @@
--- `read_size` reads the six fields one behind the other.
+-- `read_size` reads the six fields one after the other.
 use mathlib.Core.Path.{sym, _∙_}
-use Rattle.bit_reader.proofs.Chain.{onward}
-use Rattle.sps.specs.Sections.{size}
+use Rattle.bit_reader.proofs.Chain.{bind-next}
+use Rattle.sps.specs.inner.Sections.{size}
 use borrow.Author.Needs.{needs}
 use Rattle.sps.proofs.sections.read_size.Statement.{statement}
 use Rattle.sps.proofs.sections.read_size.Tie as tie
@@ -46,12 +46,12 @@ returns c =
     let k2 = k3 .before .before in
     let k1 = k2 .before in
     rw (c .before .before .number2 .ensures, c .before .number3 .ensures, c .number4 .ensures)
-    (sym (onward (k1 .before .before .args .prior) (k1 .read-bits .result) _ _ (k1 .read-bits .ensures)
-    ∙ onward (k1 .read-bits .result) (k2 .read-bits2 .result) _ _ (k2 .read-bits2 .ensures)
-    ∙ rw (← k3 .before .number .ensures) (onward (k2 .read-bits2 .result) (k3 .read-bits-if .result) _ _ (k3 .read-bits-if .ensures)
-    ∙ onward (k3 .read-bits-if .result) (k4 .exp-golomb .result) _ _ (k4 .exp-golomb .ensures)
-    ∙ onward (k4 .exp-golomb .result) (k5 .exp-golomb2 .result) _ _ (k5 .exp-golomb2 .ensures)
-    ∙ onward (k5 .exp-golomb2 .result) (k6 .read-bits3 .result) _ _ (k6 .read-bits3 .ensures))))
+    (sym (bind-next (k1 .before .before .args .prior) (k1 .read-bits .result) _ _ (k1 .read-bits .ensures)
+    ∙ bind-next (k1 .read-bits .result) (k2 .read-bits2 .result) _ _ (k2 .read-bits2 .ensures)
+    ∙ rw (← k3 .before .number .ensures) (bind-next (k2 .read-bits2 .result) (k3 .read-bits-if .result) _ _ (k3 .read-bits-if .ensures)
+    ∙ bind-next (k3 .read-bits-if .result) (k4 .exp-golomb .result) _ _ (k4 .exp-golomb .ensures)
+    ∙ bind-next (k4 .exp-golomb .result) (k5 .exp-golomb2 .result) _ _ (k5 .exp-golomb2 .ensures)
+    ∙ bind-next (k5 .exp-golomb2 .result) (k6 .read-bits3 .result) _ _ (k6 .read-bits3 .ensures))))
 
 pub read-size-spec : {M : Type 1} → statement M
 read-size-spec = tie.close (tie.spec read-bits-requires read-bits-requires-2 number-requires read-bits-if-requires exp-golomb-requires exp-golomb-requires-2 read-bits-requires-3 number-requires-2 number-requires-3 number-requires-4 returns)

@@ -3,10 +3,10 @@ use native.Mathlib.Omega.{arith}
 use mathlib.Core.Path.{sym, ap, _∙_}
 use borrow.Author.Needs.{needs}
 use Rattle.expand.specs.Expand.{Picture}
-use Rattle.expand.specs.Answers.{answerOf}
+use Rattle.expand.specs.Answers.{expandAnswerOf}
 use Rattle.expand.specs.declared.ExpandAnswer.{ExpandAnswer}
-use Rattle.still.specs.Inside.{recordFrom}
-use Rattle.still.proofs.Local.{Expanded, was-expanded, not-expanded, counted-as, counted-refused, record-expanded, record-unexpanded}
+use Rattle.still.specs.inner.Steps.{recordFrom}
+use Rattle.still.proofs.LocalArrays.{Expanded, was-expanded, not-expanded, counted-as, counted-refused, record-expanded, record-unexpanded}
 use Rattle.still_measure.proofs.record.record_len.Statement.{statement}
 use Rattle.still_measure.proofs.record.record_len.Tie as tie
 
@@ -32,7 +32,7 @@ expanded-at : (c : tie.After-known-told)
 expanded-at c =
     let y = c .before .before .before .before .before .to-full in
     was-expanded _ (pic c) _ (c .before .before .before .before .before .before .before .before .pre) _ (y .result .head) _ _
-    (ap (λ (x : ExpandAnswer). ((answerOf x (y .result .head), y .result .head), y .last .1 .1 .1 .1 .1 .1 .0)) (sym (c .before .answer .given .1)) ∙ y .ensures) (omega arith)
+    (ap (λ (x : ExpandAnswer). ((expandAnswerOf x (y .result .head), y .result .head), y .last .1 .1 .1 .1 .1 .1 .0)) (sym (c .before .answer .given .1)) ∙ y .ensures) (omega arith)
 
 array-share-prefix-grouped : tie.Need-array-share-prefix-grouped
 array-share-prefix-grouped c = expanded-at c .within
@@ -57,7 +57,7 @@ returns-2 c =
     let p = c .before .before .before .before .before .before .before .before .pre in
     let y = c .before .before .before .before .before .to-full in
     let pic : Picture = record { chroma = a .chroma-format-idc; depth = a .bit-depth; width = a .width; height = a .height } in
-    let e = ap (λ (x : ExpandAnswer). ((answerOf x (y .result .head), y .result .head), y .last .1 .1 .1 .1 .1 .1 .0)) (sym (c .before .answer2 .given .1)) ∙ y .ensures in
+    let e = ap (λ (x : ExpandAnswer). ((expandAnswerOf x (y .result .head), y .result .head), y .last .1 .1 .1 .1 .1 .1 .0)) (sym (c .before .answer2 .given .1)) ∙ y .ensures in
     counted-refused (recordFrom (a .config) pic (a .list .now)) _
     (record-unexpanded (a .config) pic (a .list .now) _ (not-expanded (a .config) pic (a .list .now) p _ _ _ _ e (omega arith)))
 

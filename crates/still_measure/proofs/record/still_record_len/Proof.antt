@@ -5,11 +5,11 @@ use borrow.Author.Needs.{needs}
 use Rattle.compact.specs.Answers.{compactOf}
 use Rattle.compact.specs.declared.CompactRead.{CompactRead}
 use Rattle.expand.specs.Expand.{Picture}
-use Rattle.path.specs.Still.{Bytes}
 use Rattle.still.specs.Stills.{stillRecord}
-use Rattle.still.proofs.Local.{Read, was-read, not-read, counted-as, counted-refused, record-read, record-unread}
+use Rattle.still.proofs.LocalArrays.{Read, was-read, not-read, counted-as, counted-refused, record-read, record-unread}
 use Rattle.still_measure.proofs.record.still_record_len.Statement.{statement}
 use Rattle.still_measure.proofs.record.still_record_len.Tie as tie
+use Rattle.boxes.specs.Bytes.{AllBytes}
 
 slice-aggregate-parse : tie.Need-slice-aggregate-parse
 slice-aggregate-parse c = search needs
@@ -21,7 +21,7 @@ enum-known-read : tie.Need-enum-known-read
 enum-known-read c = search needs
 
 -- the lent record is bytes
-bytes-at : (c : tie.After-list) → Bytes (c .before .before .args .«record» .now)
+bytes-at : (c : tie.After-list) → AllBytes (c .before .before .args .«record» .now)
 bytes-at c i = omega (arith, c .before .shared-slice-known .given i)
 
 -- what compact read gave stands at the front of the array

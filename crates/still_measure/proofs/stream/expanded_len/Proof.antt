@@ -1,9 +1,9 @@
 -- `expanded_len` gives the refusal of full write or restore, and otherwise the length of the stream: of the stored item, or of its one unit.
 use mathlib.Core.Path.{sym, ap, _∙_}
-use Rattle.error.specs.Answers.{countOf}
+use Rattle.parse.specs.Answers.{countOf}
 use Rattle.access_unit.specs.Answers.{tolsOf}
 use Rattle.still.proofs.Lists.{ready}
-use Rattle.still.proofs.Local.{counted-as, counted-refused}
+use Rattle.still.proofs.LocalArrays.{counted-as, counted-refused}
 use Rattle.still.proofs.Steps.{stream-refused, stream-layers, stream-plain, plain-item}
 use borrow.Author.Needs.{needs}
 use Rattle.still_measure.proofs.stream.expanded_len.Statement.{statement}

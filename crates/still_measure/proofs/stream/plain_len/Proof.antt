@@ -1,7 +1,7 @@
 -- `plain_len` adds the picture's unit to the list's stream, or gives the refusal of the item.
 use native.Mathlib.Omega.{arith}
-use Rattle.still.proofs.Local.{counted-refused}
-use Rattle.still_measure.specs.Inside.{Listed}
+use Rattle.still.proofs.LocalArrays.{counted-refused}
+use Rattle.still_measure.specs.inner.Plain.{Listed}
 use Rattle.still_measure.proofs.Streams.{sized-listed, sized-refused, listed-small, stream-counted}
 use borrow.Author.Needs.{needs}
 use Rattle.still_measure.proofs.stream.plain_len.Statement.{statement}

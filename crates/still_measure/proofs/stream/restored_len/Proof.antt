@@ -1,6 +1,6 @@
 -- `restored_len` measures the item once the record's length is known, and gives the first refusal.
 use mathlib.Core.Path.{sym, ap, _∙_}
-use Rattle.error.specs.Answers.{countOf}
+use Rattle.parse.specs.Answers.{countOf}
 use Rattle.still.proofs.Steps.{item-counted, item-refused}
 use borrow.Author.Needs.{needs}
 use Rattle.still_measure.proofs.stream.restored_len.Statement.{statement}

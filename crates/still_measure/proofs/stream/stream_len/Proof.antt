@@ -1,12 +1,12 @@
 -- `stream_len` expands into a local array that is long enough, and measures the stream of what stands there.
 use native.Mathlib.Omega.{arith}
 use mathlib.Core.Path.{sym, ap, _∙_}
-use Rattle.expand.specs.Answers.{answerOf}
+use Rattle.expand.specs.Answers.{expandAnswerOf}
 use Rattle.expand.specs.declared.ExpandAnswer.{ExpandAnswer}
 use Rattle.access_unit.specs.Answers.{tolsOf}
 use Rattle.still.specs.Stills.{anyPicture}
-use Rattle.still.specs.Inside.{streamFrom}
-use Rattle.still.proofs.Local.{Expanded, was-expanded, not-expanded, counted-as, counted-refused, stream-expanded, stream-unexpanded}
+use Rattle.still.specs.inner.Steps.{streamFrom}
+use Rattle.still.proofs.LocalArrays.{Expanded, was-expanded, not-expanded, counted-as, counted-refused, stream-expanded, stream-unexpanded}
 use borrow.Author.Needs.{needs}
 use Rattle.still_measure.proofs.stream.stream_len.Statement.{statement}
 use Rattle.still_measure.proofs.stream.stream_len.Tie as tie
@@ -27,7 +27,7 @@ expanded-at : (c : tie.After-known-told)
 expanded-at c =
     let y = c .before .before .before .before .before .to-full in
     was-expanded _ anyPicture _ (c .before .before .before .before .before .before .before .before .before .pre .0) _ (y .result .head) _ _
-    (ap (λ (x : ExpandAnswer). ((answerOf x (y .result .head), y .result .head), y .last .1 .1 .1 .1 .1 .1 .0)) (sym (c .before .answer .given .1)) ∙ y .ensures) (omega arith)
+    (ap (λ (x : ExpandAnswer). ((expandAnswerOf x (y .result .head), y .result .head), y .last .1 .1 .1 .1 .1 .1 .0)) (sym (c .before .answer .given .1)) ∙ y .ensures) (omega arith)
 
 array-share-prefix-grouped : tie.Need-array-share-prefix-grouped
 array-share-prefix-grouped c = expanded-at c .within
@@ -48,7 +48,7 @@ returns-2 : tie.Need-returns-2
 returns-2 c =
     let a = c .before .before .before .before .before .before .before .before .before .args in
     let y = c .before .before .before .before .before .to-full in
-    let e = ap (λ (x : ExpandAnswer). ((answerOf x (y .result .head), y .result .head), y .last .1 .1 .1 .1 .1 .1 .0)) (sym (c .before .answer2 .given .1)) ∙ y .ensures in
+    let e = ap (λ (x : ExpandAnswer). ((expandAnswerOf x (y .result .head), y .result .head), y .last .1 .1 .1 .1 .1 .1 .0)) (sym (c .before .answer2 .given .1)) ∙ y .ensures in
     counted-refused (streamFrom (a .config) (a .list .now) (a .stored .now) (tolsOf (a .tols))) _
     (stream-unexpanded (a .config) (a .list .now) (a .stored .now) (tolsOf (a .tols)) _
     (not-expanded (a .config) anyPicture (a .list .now) (c .before .before .before .before .before .before .before .before .before .pre .0) _ _ _ _ e (omega arith)))

@@ -1,7 +1,7 @@
 -- `put_plain` stores the stream of the list and the picture, or gives the refusal of the item.
 use Rattle.boxes.proofs.Output.{written-refused}
-use Rattle.still.specs.Inside.{plainStream}
-use Rattle.still.proofs.Local.{given-as}
+use Rattle.still.specs.inner.Steps.{plainStream}
+use Rattle.still.proofs.LocalArrays.{given-as}
 use Rattle.still_measure.proofs.Streams.{sized-listed, sized-refused}
 use borrow.Author.Needs.{needs}
 use Rattle.still_plain.proofs.plain.put_plain.Statement.{statement}

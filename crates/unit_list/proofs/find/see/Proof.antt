@@ -3,7 +3,7 @@ use mathlib.Core.Path.{_≡_, sym, _∙_}
 use mathlib.Core.Bool.{true, false}
 use borrow.Author.Needs.{needs}
 use borrow.Author.Tests.{eq-eqb, ne-eqb, not-true, not-false}
-use Rattle.unit_list.specs.Find.{wants}
+use Rattle.unit_list.specs.inner.Find.{wants}
 use Rattle.unit_list.proofs.find.see.Statement.{statement}
 use Rattle.unit_list.proofs.find.see.Tie as tie
 

@@ -2,10 +2,10 @@
 use mathlib.Core.Path.{sym, ap, _∙_}
 use native.Mathlib.Omega.{arith}
 use borrow.Author.Needs.{needs}
-use Rattle.error.specs.Answers.{countOf}
+use Rattle.parse.specs.Answers.{countOf}
 use Rattle.boxes.specs.Places.{inFirst}
 use Rattle.boxes.proofs.Places.{place-refused, place-past, place-there}
-use Rattle.unit_list.specs.Find.{wantedList}
+use Rattle.unit_list.specs.inner.Find.{wantedList}
 use Rattle.unit_list.proofs.find.unit_at.Statement.{statement}
 use Rattle.unit_list.proofs.find.unit_at.Tie as tie
 

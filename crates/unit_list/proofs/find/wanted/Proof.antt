@@ -1,7 +1,7 @@
 -- `find::wanted` says whether a unit of a type is wanted.
 use mathlib.Core.Path.{sym, ap}
 use borrow.Author.Needs.{needs}
-use Rattle.unit_list.specs.Find.{wants}
+use Rattle.unit_list.specs.inner.Find.{wants}
 use Rattle.unit_list.specs.declared.Wanted.{Wanted}
 use Rattle.unit_list.proofs.find.wanted.Statement.{statement}
 use Rattle.unit_list.proofs.find.wanted.Tie as tie

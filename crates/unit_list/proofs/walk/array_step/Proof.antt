@@ -1,10 +1,10 @@
--- `walk::array_step` reads the head of the array behind a cursor's end: the arrays from there on are its units and the arrays behind it.
+-- `walk::array_step` reads the head of the array after a cursor's end: the arrays from there on are its units and the arrays after it.
 use Prim.Native.Nat.{_+_, _≤_, _<_}
 use mathlib.Core.Path.{_≡_}
 use native.Mathlib.Omega.{arith}
 use lib.ListN.{length, take}
 use borrow.Author.Needs.{needs}
-use Rattle.error.specs.Parse.{value}
+use Rattle.parse.specs.Parse.{value}
 use Rattle.boxes.specs.Bytes.{chunk}
 use Rattle.unit_list.proofs.Steps.{chunk-bytes, chunk-refused, arrays-end, arrays-unread, array-inside, arrays-short, arrays-complete, arrays-type, arrays-entered}
 use Rattle.unit_list.proofs.walk.array_step.Statement.{statement}

@@ -1,4 +1,4 @@
--- `walk::start` stands behind the version of a list, in front of all its units.
+-- `walk::start` follows the version of a list, in front of all its units.
 use Prim.Native.Nat.{ℕ, _≤_}
 use mathlib.Core.Path.{_≡_, sym, _∙_}
 use mathlib.Core.List.{List, [], _∷_}

@@ -1,16 +1,16 @@
--- `walk::step` gives the next unit behind the cursor. The loop's invariant: behind `here` is left what is left behind `c`.
+-- `walk::step` gives the next unit after the cursor. The loop's invariant: after `here` is left what is left after `c`.
 use Prim.Native.Nat.{_-_, _≤_, _<_}
 use mathlib.Core.Path.{_≡_, refl}
 use native.Mathlib.Omega.{arith}
 use lib.ListN.{length}
 use borrow.Author.Needs.{needs}
-use Rattle.unit_list.specs.Walk.{Fits, leftOf}
+use Rattle.unit_list.specs.inner.Walk.{Fits, typedUnitsFrom}
 use Rattle.unit_list.proofs.Left.{turn-entered, turn-end, turn-malformed, turn-unit}
 use Rattle.unit_list.proofs.walk.step.Statement.{statement}
 use Rattle.unit_list.proofs.walk.step.Tie as tie
 
 abbrev Inv-loop : tie.InvT-loop
-Inv-loop list c here = Fits list here × (leftOf list here ≡ leftOf list c) × (c .at ≤ here .at)
+Inv-loop list c here = Fits list here × (typedUnitsFrom list here ≡ typedUnitsFrom list c) × (c .at ≤ here .at)
 
 abbrev μ-loop : tie.MeasureT-loop
 μ-loop list c here = length list - here .end

@@ -1,10 +1,10 @@
--- `walk::unit_step` passes the unit at the cursor: the units up to the array's end are this one and those behind it.
+-- `walk::unit_step` passes the unit at the cursor: the units up to the array's end are this one and those after it.
 use Prim.Native.Nat.{_+_}
 use mathlib.Core.Path.{_≡_, refl}
 use native.Mathlib.Omega.{arith}
 use lib.ListN.{take}
 use borrow.Author.Needs.{needs}
-use Rattle.error.specs.Parse.{value}
+use Rattle.parse.specs.Parse.{value}
 use Rattle.boxes.specs.Bytes.{chunk}
 use Rattle.unit_list.proofs.Steps.{chunk-bytes, chunk-refused, units-end, units-unread, unit-inside, units-next, unit-passed}
 use Rattle.unit_list.proofs.walk.unit_step.Statement.{statement}

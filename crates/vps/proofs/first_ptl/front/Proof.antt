@@ -37,7 +37,7 @@ use denote.Triple.Table.{entered, cited}
 use denote.Triple.Walked.{says, needs, Stays, stay-none-slice, walkOf, goes-none-slice, Walks, ends-at, walked, walk-meets}
 use denote.Exit.{yes}
 use denote.Triple.Clauses.{ensured, lasts}
-use Rattle.bit_reader.specs.Answers.{parsed}
+use Rattle.bit_reader.specs.inner.Answers.{parsed}
 use Rattle.bit_reader.specs.declared.BitsRead.{BitsRead}
 use Rattle.bit_reader.specs.declared.BitPosition.{BitPosition}
 use Rattle.bit_reader.specs.declared.reader.BitReader.{BitReader}
@@ -67,7 +67,6 @@ use Rattle.bit_reader.proofs.reader.BitReader.align.Met as align-thm
 use Rattle.bit_reader.proofs.reader.BitReader.bit_position.Symbol as position-def
 use Rattle.bit_reader.proofs.reader.BitReader.bit_position.Symbol.{name as #position}
 use Rattle.bit_reader.proofs.reader.BitReader.bit_position.Met as position-thm
-use Rattle.vps.specs.Vps.{vpsFront, frontOf}
 use Rattle.vps.proofs.VpsFront.{near, front-through}
 use Rattle.vps.proofs.first_ptl.front_of as decide
 use Rattle.vps.proofs.first_ptl.front_of.Symbol as decide-def
@@ -77,6 +76,7 @@ use Rattle.vps.proofs.first_ptl.front.Key.{name as #front}
 use Rattle.vps.proofs.first_ptl.front as f
 use Rattle.vps.proofs.first_ptl.front.Statement as stated
 use Rattle.vps.proofs.first_ptl.front.Code as code
+use Rattle.vps.specs.inner.Front.{vpsFront, frontOf}
 
 abbrev stayed : Stays (f.ended .signature .params) (f.ended .kept)
 stayed = (stay-none-slice (0 ∷ []) tt (plain (λ _. u8)) yes, tt)

@@ -1,4 +1,4 @@
--- `parse_rbsp` of a VPS reads what stands in front of the PTL, and the PTL behind it.
+-- `parse_rbsp` of a VPS reads what comes before the PTL, and the PTL after it.
 use native.Mathlib.Omega.{arith}
 use Rattle.vps.proofs.FirstPtl.{front-answer, ptl-answered}
 use borrow.Author.Needs.{needs}

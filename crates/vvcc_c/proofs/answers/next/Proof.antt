@@ -1,4 +1,4 @@
--- `answers::next` hands back where a unit lies, the end, or the refusal's number.
+-- `answers::next` returns where a unit lies, the end, or the refusal's number.
 use mathlib.Core.Path.{sym, ap, _∙_}
 use borrow.Author.Needs.{needs}
 use Rattle.split.specs.Answers.{nextOf}

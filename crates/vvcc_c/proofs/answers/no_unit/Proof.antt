@@ -1,4 +1,4 @@
--- `answers::no_unit` hands back the refusal's number.
+-- `answers::no_unit` returns the refusal's number.
 use borrow.Author.Needs.{needs}
 use Rattle.vvcc_c.proofs.Given.{unit-number}
 use Rattle.vvcc_c.proofs.answers.no_unit.Statement.{statement}

@@ -1,4 +1,4 @@
--- `answers::refused` hands back the refusal's number.
+-- `answers::refused` returns the refusal's number.
 use borrow.Author.Needs.{needs}
 use Rattle.vvcc_c.proofs.Given.{written-number}
 use Rattle.vvcc_c.proofs.answers.refused.Statement.{statement}

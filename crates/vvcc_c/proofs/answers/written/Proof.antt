@@ -1,7 +1,7 @@
--- `answers::written` hands back the count or the refusal's number.
+-- `answers::written` returns the count or the refusal's number.
 use mathlib.Core.Path.{sym, ap, _∙_}
 use borrow.Author.Needs.{needs}
-use Rattle.error.specs.Answers.{writtenOf}
+use Rattle.parse.specs.Answers.{writtenOf}
 use Rattle.vvcc_c.specs.Exports.{writtenAnswer}
 use Rattle.vvcc_c.proofs.answers.written.Statement.{statement}
 use Rattle.vvcc_c.proofs.answers.written.Tie as tie

@@ -32,9 +32,9 @@ use denote.Triple.Table.{entered, cited}
 use denote.Triple.Walked.{says, needs, Stays, stay-none, walkOf, goes-none, Walks, ends-at, walked, walk-meets}
 use denote.Exit.{yes}
 use denote.Triple.Clauses.{ensured, lasts}
-use Rattle.error.specs.Parse.{value}
+use Rattle.parse.specs.Parse.{value}
 use Rattle.bit_reader.specs.Bits.{align}
-use Rattle.bit_reader.specs.Reader.{AlignedFrom}
+use Rattle.bit_reader.specs.inner.Reader.{AlignedFrom}
 use Rattle.bit_reader.specs.declared.BitPosition.{BitPosition}
 use Rattle.bit_reader.specs.declared.reader.BitReader.{BitReader}
 use Rattle.bit_reader.proofs.BitPosition as Position

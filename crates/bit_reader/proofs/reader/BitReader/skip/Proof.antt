@@ -5,15 +5,15 @@ use lib.ListN.{length}
 use contract.Running.{givenOf, tables, tablesOf}
 use denote.Triple.Spec.{tripleOf}
 use denote.Triple.Table.{entered, cited}
-use Rattle.bit_reader.specs.Reader.{skipping}
-use Rattle.bit_reader.proofs.Readers.{Behind}
+use Rattle.bit_reader.specs.inner.Reader.{skipping}
+use Rattle.bit_reader.proofs.Readers.{After}
 use Rattle.bit_reader.proofs.ReadsOfBits.{Read, meets}
 use Rattle.bit_reader.proofs.bits.skip_bits.Symbol as read-def
 use Rattle.bit_reader.proofs.bits.skip_bits.Symbol.{name as #skip-bits}
 use Rattle.bit_reader.proofs.bits.skip_bits.Met as read-thm
-use Rattle.bit_reader.proofs.reader.behind.Symbol as behind-def
-use Rattle.bit_reader.proofs.reader.behind.Symbol.{name as #behind}
-use Rattle.bit_reader.proofs.reader.behind.Met as behind-thm
+use Rattle.bit_reader.proofs.reader.after.Symbol as after-def
+use Rattle.bit_reader.proofs.reader.after.Symbol.{name as #after}
+use Rattle.bit_reader.proofs.reader.after.Met as after-thm
 use Rattle.bit_reader.proofs.reader.BitReader.skip.Key.{name as #skip}
 use Rattle.bit_reader.proofs.reader.BitReader.skip as f
 use Rattle.bit_reader.proofs.reader.BitReader.skip.Statement as stated
@@ -30,4 +30,4 @@ skip-spec 𝓤 H 𝓜 𝓖 𝓡 =
     (tables 𝓤 H 𝓜 𝓡 code.env .C) (tables 𝓤 H 𝓜 𝓡 code.env .Λ) #skip code.function (code.unfolded 𝓤 H 𝓜 𝓡)
     (meets skipping Few #skip-bits 𝓤 H (𝓖 .A) (givenOf 𝓤 H 𝓜 𝓖) (𝓜 .mem) (𝓡 .run) (tablesOf 𝓤 H 𝓜 (tables 𝓤 H 𝓜 𝓡 code.env))
     (cited 𝓤 H (Read skipping Few #skip-bits 𝓤 H (𝓖 .A) (givenOf 𝓤 H 𝓜 𝓖) (𝓜 .mem) (𝓡 .run)) 𝓜 𝓡 code.env #skip-bits read-def.routine code.calls-bit-reader·bits·skip-bits (read-thm.met 𝓤 H 𝓜 𝓖 𝓡))
-    (cited 𝓤 H (Behind 𝓤 H (𝓖 .A) (𝓜 .mem) (𝓡 .run)) 𝓜 𝓡 code.env #behind behind-def.routine code.calls-bit-reader·reader·behind (behind-thm.met 𝓤 H 𝓜 𝓖 𝓡)))
+    (cited 𝓤 H (After 𝓤 H (𝓖 .A) (𝓜 .mem) (𝓡 .run)) 𝓜 𝓡 code.env #after after-def.routine code.calls-bit-reader·reader·after (after-thm.met 𝓤 H 𝓜 𝓖 𝓡)))

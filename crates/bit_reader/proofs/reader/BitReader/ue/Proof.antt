@@ -1,4 +1,4 @@
--- `BitReader::ue` takes the reader apart, reads by `exp_golomb`, finds its next place by `behind`, and puts the step together: a walk of
+-- `BitReader::ue` takes the reader apart, reads by `exp_golomb`, finds its next place by `after`, and puts the step together: a walk of
 -- its MIR. Of the two it knows their contracts. What the reader owns is kept for the exit and, moved on, for the step.
 use mathlib.Core.Path.{_≡_, refl}
 use mathlib.Core.List.{[], _∷_}
@@ -36,7 +36,7 @@ use denote.Triple.Walked.{says, needs, Stays, stay-none, walkOf, goes-none, Walk
 use denote.Exit.{yes}
 use denote.Triple.Clauses.{ensured, lasts}
 use Rattle.bit_reader.specs.Bits.{ue}
-use Rattle.bit_reader.specs.Answers.{parsed}
+use Rattle.bit_reader.specs.inner.Answers.{parsed}
 use Rattle.bit_reader.specs.declared.BitsRead.{BitsRead}
 use Rattle.bit_reader.specs.declared.BitPosition.{BitPosition}
 use Rattle.bit_reader.specs.declared.reader.BitReader.{BitReader}
@@ -46,14 +46,14 @@ use Rattle.bit_reader.proofs.BitPosition.Laws as Position′
 use Rattle.bit_reader.proofs.reader.BitReader as Reader
 use Rattle.bit_reader.proofs.reader.BitReader.Laws as Reader′
 use Rattle.bit_reader.proofs.Walking.{gave, leave}
-use Rattle.bit_reader.proofs.Readers.{answerVal, position-val, answer-val, sliceOf, stepVal, AnswerIs, PositionIs, lifetime, Row, stepTo, LeftAt, stepped, OwnReader, OwnSlice, answer-typed, position-typed, lends, steps, step-typed, Behind, to-behind, asks-behind, behind-says}
+use Rattle.bit_reader.proofs.Readers.{answerVal, position-val, answer-val, sliceOf, stepVal, AnswerIs, PositionIs, lifetime, Row, stepTo, LeftAt, stepped, OwnReader, OwnSlice, answer-typed, position-typed, lends, steps, step-typed, After, to-after, asks-after, after-says}
 use Rattle.bit_reader.proofs.bits.exp_golomb as read
 use Rattle.bit_reader.proofs.bits.exp_golomb.Symbol as read-def
 use Rattle.bit_reader.proofs.bits.exp_golomb.Symbol.{name as #exp-golomb}
 use Rattle.bit_reader.proofs.bits.exp_golomb.Met as read-thm
-use Rattle.bit_reader.proofs.reader.behind.Symbol as behind-def
-use Rattle.bit_reader.proofs.reader.behind.Symbol.{name as #behind}
-use Rattle.bit_reader.proofs.reader.behind.Met as behind-thm
+use Rattle.bit_reader.proofs.reader.after.Symbol as after-def
+use Rattle.bit_reader.proofs.reader.after.Symbol.{name as #after}
+use Rattle.bit_reader.proofs.reader.after.Met as after-thm
 use Rattle.bit_reader.proofs.reader.BitReader.ue.Key.{name as #ue}
 use Rattle.bit_reader.proofs.reader.BitReader.ue as f
 use Rattle.bit_reader.proofs.reader.BitReader.ue.Statement as stated
@@ -66,7 +66,7 @@ module _ {M : Type 1} (𝓤 : URA M) (H : Heap 𝓤) (A : Atoms 𝓤) (W : Given
   abbrev Read : Contract 𝓤
   Read = tripleOf 𝓤 H A read.signature (read.spec 𝓤 H A mem run)
 
-  module _ (𝓣 : Tables 𝓤 H) (known-read : Triple 𝓤 (𝓣 .C #exp-golomb) Read) (known-behind : Triple 𝓤 (𝓣 .C #behind) (Behind 𝓤 H A mem run)) where
+  module _ (𝓣 : Tables 𝓤 H) (known-read : Triple 𝓤 (𝓣 .C #exp-golomb) Read) (known-after : Triple 𝓤 (𝓣 .C #after) (After 𝓤 H A mem run)) where
     module _ (κ : Lft) (q : Share) (d : BitReader) (pos-is : PositionIs (d .pos)) (ok : length (d .src .now) ≤ 2 ^ 30) where
       abbrev ℓ : NamedLft
       ℓ = lifetime (κ, tt)
@@ -127,8 +127,8 @@ module _ {M : Type 1} (𝓤 : URA M) (H : Heap 𝓤) (A : Atoms 𝓤) (W : Given
           -- [the answer; the token; what the reader owns; _6; …]
           land ! (from ! (stop !)) (init ! 7 refl (answer-typed 𝓤 H A W a _ is)) $
           -- next
-          use0 W (raw (Behind 𝓤 H A mem run .pre (to-behind 𝓤 H A mem run a (d .pos)))) (asks-behind 𝓤 H A mem run a (d .pos) W is pos-is) $
-          calls-at ! (fmOf 𝓤 H (W .laws) 𝓣) (Behind 𝓤 H A mem run) known-behind (to-behind 𝓤 H A mem run a (d .pos)) (and-then ! (load ! (from ! (stop !)) (look ! 8 refl)) (and-then ! (load ! (from ! (stop !)) (look ! 10 refl)) (no-more !))) (λ w. gave ! (‵ ftrue) Position.the-row Position′.lowered position-val _ _ (behind-says 𝓤 H A mem run a (d .pos)) (id⊢ 𝓤 _) (λ p left is′.
+          use0 W (raw (After 𝓤 H A mem run .pre (to-after 𝓤 H A mem run a (d .pos)))) (asks-after 𝓤 H A mem run a (d .pos) W is pos-is) $
+          calls-at ! (fmOf 𝓤 H (W .laws) 𝓣) (After 𝓤 H A mem run) known-after (to-after 𝓤 H A mem run a (d .pos)) (and-then ! (load ! (from ! (stop !)) (look ! 8 refl)) (and-then ! (load ! (from ! (stop !)) (look ! 10 refl)) (no-more !))) (λ w. gave ! (‵ ftrue) Position.the-row Position′.lowered position-val _ _ (after-says 𝓤 H A mem run a (d .pos)) (id⊢ 𝓤 _) (λ p left is′.
           -- [the position; true; the answer; the token; what the reader owns; _6; …]
           land ! (from ! (stop !)) (init ! 7 refl (position-typed 𝓤 H A W p _ is′)) $
           -- the reader at its next place, and the step
@@ -154,4 +154,4 @@ ue-spec 𝓤 H 𝓜 𝓖 𝓡 =
     (tables 𝓤 H 𝓜 𝓡 code.env .C) (tables 𝓤 H 𝓜 𝓡 code.env .Λ) #ue code.function (code.unfolded 𝓤 H 𝓜 𝓡)
     (meets 𝓤 H (𝓖 .A) (givenOf 𝓤 H 𝓜 𝓖) (𝓜 .mem) (𝓡 .run) (tablesOf 𝓤 H 𝓜 (tables 𝓤 H 𝓜 𝓡 code.env))
     (cited 𝓤 H (Read 𝓤 H (𝓖 .A) (givenOf 𝓤 H 𝓜 𝓖) (𝓜 .mem) (𝓡 .run)) 𝓜 𝓡 code.env #exp-golomb read-def.routine code.calls-bit-reader·bits·exp-golomb (read-thm.met 𝓤 H 𝓜 𝓖 𝓡))
-    (cited 𝓤 H (Behind 𝓤 H (𝓖 .A) (𝓜 .mem) (𝓡 .run)) 𝓜 𝓡 code.env #behind behind-def.routine code.calls-bit-reader·reader·behind (behind-thm.met 𝓤 H 𝓜 𝓖 𝓡)))
+    (cited 𝓤 H (After 𝓤 H (𝓖 .A) (𝓜 .mem) (𝓡 .run)) 𝓜 𝓡 code.env #after after-def.routine code.calls-bit-reader·reader·after (after-thm.met 𝓤 H 𝓜 𝓖 𝓡)))

@@ -1,0 +1,52 @@
+-- What the functions inside this crate say: the units of a record, measured and stored as a list.
+use Prim.Native.Nat.{ℕ, _+_, _%_, _^_, _≤_}
+use mathlib.Core.Path.{_≡_}
+use mathlib.Core.List.{List, [], map}
+use lib.ListN.{length, getD}
+use Rattle.parse.specs.Outcome.{Outcome, accept, refuse}
+use Rattle.parse.specs.Parse.{Parsed, value, refused}
+use Rattle.error.specs.Refusals.{numberOf}
+use Rattle.boxes.specs.Parts.{held}
+use Rattle.boxes.specs.declared.Span.{Span}
+use Rattle.compact.specs.Compact.{oneArray, parseCompact}
+use Rattle.compact.specs.inner.Units.{recordUnits, unitBytes}
+use Rattle.compact_read.specs.declared.record_units.UnitsRoom.{UnitsRoom}
+use Rattle.compact_read.specs.declared.record_units.UnitsRoom.the-variants as R
+use Rattle.compact_read.specs.declared.record_units.RecordRoom.{RecordRoom}
+use Rattle.compact_read.specs.declared.record_units.RecordRoom.the-variants as M
+
+-- how many bytes units that were read take in a list, n more before them, and the place after the units
+abbrev pub measured : List ℕ → ℕ → Parsed (List Span) → Parsed ℕ
+measured s n (value us p) = value (n + length (unitBytes 4 s us)) p
+measured s n (refused e) = refused e
+
+abbrev pub unitsRoomOf : UnitsRoom → Parsed ℕ
+unitsRoomOf (R.Room n p) = value n p
+unitsRoomOf R.Short = refused 1
+
+-- it is small
+abbrev pub RoomSmall : UnitsRoom → Type 0
+RoomSmall (R.Room n p) = n ≤ 2 ^ 32
+RoomSmall R.Short = Unit {0}
+
+-- a record that was measured: its units, the place after them, and how many bytes they take in a list
+pub record RoomRead (s : List ℕ) (count room : ℕ) : Type 0 where
+  pub lent : length s ≤ 2 ^ 30
+  pub some : 1 ≤ length s
+  pub counted : count ≡ getD s 0 0 % 32 + 2
+  pub units : List Span
+  pub after : ℕ
+  pub read : recordUnits s count ≡ value units after
+  pub end : length s ≤ after
+  pub long : room ≡ length (unitBytes 4 s units)
+  pub few : room ≤ 2 ^ 32
+
+-- the answer of measuring: 23, 1, 7
+abbrev pub RoomSays : List ℕ → RecordRoom → Type 0
+RoomSays s (M.Room count room) = RoomRead s count room
+RoomSays s (M.Refused e) = parseCompact s ≡ refuse (numberOf e)
+
+-- the list of units that were found
+abbrev pub foundList : List ℕ → Outcome (List Span) → List ℕ
+foundList s (accept us) = oneArray (map (held s) us)
+foundList s (refuse e) = []

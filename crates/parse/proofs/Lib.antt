@@ -1,0 +1,4 @@
+pub mod Many
+pub mod Lent
+pub mod Binds
+pub mod General

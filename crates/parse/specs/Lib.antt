@@ -1,0 +1,5 @@
+pub mod Logic
+pub mod Outcome
+pub mod Parse
+pub mod Steps
+pub mod Answers

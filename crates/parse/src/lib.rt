@@ -1,0 +1,1 @@
+// Parsers and outcomes of the definitions, and their laws. There is no code.

@@ -1,0 +1,102 @@
+-- What reading the arrays of a full record into a unit list says: their heads, the room that they take in a list, and what is stored.
+use Prim.Native.Nat.{ℕ, _+_, _*_, _/_, _%_, _≤_}
+use mathlib.Core.Path.{_≡_}
+use mathlib.Core.List.{List, [], map}
+use lib.ListN.{length}
+use lib.Seq.{sets}
+use Rattle.parse.specs.Logic.{if_then_else_}
+use Rattle.parse.specs.Outcome.{Outcome, accept, refuse}
+use Rattle.parse.specs.Parse.{Parsed, value, refused, Parser, _>>=_, give, times}
+use Rattle.error.specs.Refusals.{numberOf}
+use Rattle.boxes.specs.Bytes.{uint}
+use Rattle.boxes.specs.Parts.{held}
+use Rattle.boxes.specs.declared.Span.{Span}
+use Rattle.unit_list.specs.UnitList.{Array, listWidth, heldArray, heldArrays, encodeUnits, encodeArray, encodeArrays, encode}
+use Rattle.record_arrays.specs.Read.{holdsOne, recordArray}
+use Rattle.record_arrays_read.specs.declared.ArrayHead.{ArrayHead}
+use Rattle.record_arrays_read.specs.declared.ArrayHeadRead.{ArrayHeadRead}
+use Rattle.record_arrays_read.specs.declared.ArrayHeadRead.the-variants as A
+use Rattle.record_arrays_read.specs.declared.ListRead.{ListRead}
+use Rattle.record_arrays_read.specs.declared.ListRead.the-variants as L
+use Rattle.record_arrays_read.specs.declared.room.ListRoom.{ListRoom}
+use Rattle.record_arrays_read.specs.declared.room.ListRoom.the-variants as M
+use Rattle.record_arrays_read.specs.declared.list.Stored.{Stored}
+
+-- the arrays of a record, after their count
+unfoldable pub countedArrays : Parser (List (Array Span))
+countedArrays = do
+  n ← uint 1  -- num_of_arrays
+  times n recordArray
+
+-- what reading them gives: the place after them in the record, the length of their list, and the list
+abbrev pub listGiven : List ℕ → Parsed (List (Array Span)) → Outcome ((ℕ × ℕ) × List ℕ)
+listGiven s (value xs p) = accept ((p, length (encode (heldArrays s xs))), encode (heldArrays s xs))
+listGiven s (refused e) = refuse e
+
+-- what the answer says
+abbrev pub listOf : ListRead → Outcome (ℕ × ℕ)
+listOf (L.Read consumed len) = accept (consumed, len)
+listOf (L.Refused e) = refuse (numberOf e)
+
+-- what comes before the units of an array
+unfoldable pub arrayHead : Parser ArrayHead
+arrayHead = do
+  b ← uint 1
+  n ← if holdsOne (b % 32) then give 1 else uint 2
+  give (record { complete = b / 128; «unit_type» = b % 32; count = n })
+
+abbrev pub arrayHeadOf : ArrayHeadRead → Parsed ArrayHead
+arrayHeadOf (A.Head h q) = value h q
+arrayHeadOf A.Short = refused 1
+
+-- the units of an array start after its head, in the record
+abbrev pub ArrayHeadFits : List ℕ → ℕ → ArrayHeadRead → Type 0
+ArrayHeadFits s p (A.Head h q) = (p + 1 ≤ q) × (q ≤ length s)
+ArrayHeadFits s p A.Short = Unit {0}
+
+-- the bytes of units in a list, and those of one array and of arrays
+abbrev pub unitsInList : List ℕ → List Span → List ℕ
+unitsInList s us = encodeUnits listWidth (map (held s) us)
+
+abbrev pub arrayInList : List ℕ → Array Span → List ℕ
+arrayInList s a = encodeArray listWidth (heldArray s a)
+
+abbrev pub arraysInList : List ℕ → List (Array Span) → List ℕ
+arraysInList s xs = encodeArrays listWidth (heldArrays s xs)
+
+-- how many bytes what was read takes in a list, n more before them, and the place after it in the record
+abbrev pub roomTaken : {A : Type 0} → (List ℕ → A → List ℕ) → List ℕ → ℕ → Parsed A → Parsed ℕ
+roomTaken f s n (value a p) = value (n + length (f s a)) p
+roomTaken f s n (refused e) = refused e
+
+abbrev pub listRoomOf : ListRoom → Parsed ℕ
+listRoomOf (M.Room n p) = value n p
+listRoomOf M.Short = refused 1
+
+-- what is measured lies in the record, where a byte stands for at most six of the list: those before an array's units
+abbrev pub RoomFits : List ℕ → ℕ → ListRoom → Type 0
+RoomFits s p (M.Room room q) = (q ≤ length s) × (p * 6 + room ≤ q * 6)
+RoomFits s p M.Short = Unit {0}
+
+-- the bytes of what was read
+abbrev pub storedBytes : {A : Type 0} → (List ℕ → A → List ℕ) → List ℕ → Parsed A → List ℕ
+storedBytes f s (value a p) = f s a
+storedBytes f s (refused e) = []
+
+-- something was read, and from a place of the output on there is room for its bytes
+pub record Stores {A : Type 0} (f : List ℕ → A → List ℕ) (s : List ℕ) (x : Parsed A) (out : List ℕ) (to : ℕ) : Type 0 where
+  pub what : A
+  pub ends : ℕ
+  pub read : x ≡ value what ends
+  pub fits : to + length (f s what) ≤ length out
+
+-- the place after what was read
+abbrev pub placeAfter : {A : Type 0} → Parsed A → ℕ
+placeAfter (value a p) = p
+placeAfter (refused e) = 0
+
+-- its bytes were stored from a place of the output on, and r says where reading and storing go on
+pub record StoredAt {A : Type 0} (f : List ℕ → A → List ℕ) (s : List ℕ) (x : Parsed A) (out : List ℕ) (start : ℕ) (exit : List ℕ) (r : Stored) : Type 0 where
+  pub written : exit ≡ sets out start (storedBytes f s x)
+  pub from : r .from ≡ placeAfter x
+  pub to : r .to ≡ start + length (storedBytes f s x)

@@ -1,0 +1,214 @@
+-- A step that writes to a local array which is long enough: what it gave stands at the front, and 20 is not among its refusals.
+use Prim.Native.Nat.{ℕ, _^_, _≤_, _<_}
+use native.Mathlib.Omega.{arith}
+use mathlib.Core.Path.{_≡_, refl, sym, ap, _∙_}
+use mathlib.Core.Bool.{Bool, true, false}
+use mathlib.Core.Option.{Option}
+use mathlib.Core.List.{List}
+use lib.Dec.{leb}
+use lib.ListN.{length, take, drop, length-append}
+use lib.Seq.{take-at}
+use borrow.Author.Tests.{le-leb}
+use Rattle.parse.specs.Logic.{if_then_else_}
+use Rattle.parse.specs.Outcome.{Outcome, accept, refuse, andThen, overlay, lentOutput, counted, handsBack}
+use Rattle.parse.specs.Parse.{outcome}
+use Rattle.boxes.specs.Walk.{countFound}
+use Rattle.boxes.specs.declared.Span.{Span}
+use Rattle.parse.proofs.Lent.{lent-too-long, lent-within}
+use Rattle.compact.specs.Compact.{CompactParsed, compactRecord, parsedWith, parseCompact}
+use Rattle.compact.specs.declared.CompactVvcConfig.{CompactVvcConfig}
+use Rattle.full.specs.Read.{zeroHead}
+use Rattle.full.specs.Write.{serializeFull}
+use Rattle.full.specs.declared.VvcConfig.{VvcConfig}
+use Rattle.expand.specs.Expand.{Picture, FullHead, toFull}
+use Rattle.expand.specs.Answers.{expandedGiven}
+use Rattle.still.specs.Stills.{stillRecord, streamWith, anyPicture, stillStream}
+use Rattle.still.specs.inner.Steps.{ReadFrom, ExpandedFrom, recordFrom, streamExpanded, streamFrom}
+use Rattle.still.proofs.Lists.{list-short, expanded-short, expanded-count}
+use Rattle.boxes.specs.Bytes.{AllBytes}
+
+module _ {A : Type 0} (o : Outcome (A × List ℕ)) (out : List ℕ) (fits : (a : A) (b : List ℕ) → o ≡ accept (a, b) → length b ≤ length out) where
+  -- what was accepted: the bytes, which stand at the front
+  pub record Stored (a : A) (after : List ℕ) : Type 0 where
+    pub bytes : List ℕ
+    pub given : o ≡ accept (a, bytes)
+    pub front : take (length bytes) after ≡ bytes
+    pub within : length bytes ≤ length after
+
+  abbrev kept : A → List ℕ → Bool → Outcome A × List ℕ
+  kept a b x = if_then_else_ {A = Outcome A × List ℕ} x (accept a, overlay b out) (refuse 20, out)
+
+  room-for : (a : A) (b : List ℕ) → o ≡ accept (a, b) → lentOutput o out ≡ (accept a, overlay b out)
+  room-for a b e = rw e (ap (kept a b) (le-leb (length b) (length out) (fits a b e)))
+
+  pub stored : (a : A) (after : List ℕ) → _≡_ {A = Outcome A × List ℕ} (accept a, after) (lentOutput o out) → Stored a after
+  stored a after e = go o refl
+    where
+      here : (x : A) (b : List ℕ) → o ≡ accept (x, b) → Stored a after
+      here x b f =
+          let p : _≡_ {A = Outcome A × List ℕ} (accept a, after) (accept x, overlay b out) = e ∙ room-for x b f in
+          let q : _≡_ {A = Outcome A} (accept a) (accept x) = ap (λ (y : Outcome A × List ℕ). y .0) p in
+          let r : after ≡ overlay b out = ap (λ (y : Outcome A × List ℕ). y .1) p in
+          let z : x ≡ a = cc in
+          record {
+            bytes = b;
+            given = f ∙ ap (λ (y : A). accept (y, b)) z;
+            front = ap (take (length b)) r ∙ take-at b (drop (length b) out) (length b) refl;
+            within = rw r (omega (arith, length-append b (drop (length b) out)));
+          }
+
+      go : (x : Outcome (A × List ℕ)) → o ≡ x → Stored a after
+      go (accept y) f = here (y .0) (y .1) f
+      go (refuse n) f =
+          let p : _≡_ {A = Outcome A × List ℕ} (accept a, after) (refuse n, out) = e ∙ ap (λ (y : Outcome (A × List ℕ)). lentOutput y out) f in
+          let q : _≡_ {A = Outcome A} (accept a) (refuse n) = ap (λ (y : Outcome A × List ℕ). y .0) p in
+          let z : _≡_ {A = ℕ} 0 1 = cc in
+          absurd (omega arith)
+
+  pub not-stored : (n : ℕ) (after : List ℕ) → _≡_ {A = Outcome A × List ℕ} (refuse n, after) (lentOutput o out) → o ≡ refuse n
+  not-stored n after e = go o refl
+    where
+      go : (x : Outcome (A × List ℕ)) → o ≡ x → o ≡ refuse n
+      go (accept y) f =
+          let p : _≡_ {A = Outcome A × List ℕ} (refuse n, after) (accept (y .0), overlay (y .1) out) = e ∙ room-for (y .0) (y .1) f in
+          let q : _≡_ {A = Outcome A} (refuse n) (accept (y .0)) = ap (λ (y : Outcome A × List ℕ). y .0) p in
+          let z : _≡_ {A = ℕ} 0 1 = cc in
+          absurd (omega arith)
+      go (refuse m) f =
+          let p : _≡_ {A = Outcome A × List ℕ} (refuse n, after) (refuse m, out) = e ∙ ap (λ (y : Outcome (A × List ℕ)). lentOutput y out) f in
+          let q : _≡_ {A = Outcome A} (refuse n) (refuse m) = ap (λ (y : Outcome A × List ℕ). y .0) p in
+          let z : m ≡ n = cc in
+          f ∙ ap refuse z
+
+-- ### compact read
+
+-- the count that is returned is that of the list's bytes
+list-counted : (C : List ℕ) (r : CompactParsed) (list : List ℕ) → parseCompact C ≡ accept (r, list) → r .listLength ≡ length list
+unfolding parseCompact
+list-counted C r list e = go (leb (length C) (2 ^ 30)) (outcome (compactRecord C 0)) e
+  where
+    go : (b : Bool) (o : Outcome (CompactVvcConfig × List Span)) → (if b then andThen o (λ x. accept (parsedWith C x)) else refuse 23) ≡ accept (r, list) → r .listLength ≡ length list
+    go true (accept x) f =
+        let z : parsedWith C x ≡ (r, list) = cc in
+        ap (λ (y : CompactParsed × List ℕ). y .0 .listLength) (sym z) ∙ ap (λ (y : CompactParsed × List ℕ). length (y .1)) z
+    go true (refuse n) f = let z : _≡_ {A = ℕ} 0 1 = cc in absurd (omega arith)
+    go false o f = let z : _≡_ {A = ℕ} 0 1 = cc in absurd (omega arith)
+
+-- fields and a list at the front of what the array then holds
+pub record Read (C : List ℕ) (c : CompactVvcConfig) (n len : ℕ) (after : List ℕ) : Type 0 where
+  pub given : parseCompact C ≡ accept (record { config = c; unitCount = n; listLength = len }, take len after)
+  pub within : len ≤ length after
+  pub long : length (take len after) ≡ len
+  pub from : ReadFrom c (take len after)
+
+module _ (C : List ℕ) (bytes : AllBytes C) (out : List ℕ) where
+  read-fits : 8554 ≤ length out → (r : CompactParsed) (list : List ℕ) → parseCompact C ≡ accept (r, list) → length list ≤ length out
+  read-fits room r list e = let h = list-short (r .config) list (record { compact = C; bytes = bytes; read = r; reads = e; config = refl }) in omega arith
+
+  pub was-read : (c : CompactVvcConfig) (n len : ℕ) (after : List ℕ)
+      → _≡_ {A = Outcome CompactParsed × List ℕ} (accept (record { config = c; unitCount = n; listLength = len }), after) (lentOutput (parseCompact C) out) → 8554 ≤ length out → Read C c n len after
+  was-read c n len after e room =
+      let r : CompactParsed = record { config = c; unitCount = n; listLength = len } in
+      let s = stored (parseCompact C) out (read-fits room) r after e in
+      let l : len ≡ length (s .bytes) = list-counted C r (s .bytes) (s .given) in
+      let f : s .bytes ≡ take len after = sym (s .front) ∙ ap (λ (k : ℕ). take k after) (sym l) in
+      let g : parseCompact C ≡ accept (r, take len after) = s .given ∙ ap (λ (b : List ℕ). accept (r, b)) f in
+      record {
+        given = g;
+        within = omega (arith, s .within);
+        long = ap length (sym f) ∙ sym l;
+        from = record { compact = C; bytes = bytes; read = r; reads = g; config = refl };
+      }
+
+  pub not-read : (n : ℕ) (after : List ℕ) → _≡_ {A = Outcome CompactParsed × List ℕ} (refuse n, after) (lentOutput (parseCompact C) out) → 8554 ≤ length out
+      → parseCompact C ≡ refuse n
+  not-read n after e room = not-stored (parseCompact C) out (read-fits room) n after e
+
+-- ### expansion
+
+-- a head, and a list at the front of what the array then holds
+pub record Expanded (c : CompactVvcConfig) (pic : Picture) (list : List ℕ) (h : VvcConfig) (len : ℕ) (after : List ℕ) : Type 0 where
+  pub given : toFull c pic list ≡ accept (record { head = h; listLength = len }, take len after)
+  pub within : len ≤ length after
+  pub long : length (take len after) ≡ len
+  pub expanded-from : ExpandedFrom c h (take len after)
+
+module _ (c : CompactVvcConfig) (pic : Picture) (list : List ℕ) (from : ReadFrom c list) (out : List ℕ) where
+  expansion-fits : 8746 ≤ length out → (full : FullHead) (l : List ℕ) → toFull c pic list ≡ accept (full, l) → length l ≤ length out
+  expansion-fits room full l e = let h = expanded-short c list from pic full l e in omega arith
+
+  answer-is : (o : Outcome FullHead) (x : Outcome FullHead) (h : VvcConfig) (after d : List ℕ)
+      → _≡_ {A = (Outcome FullHead × VvcConfig) × List ℕ} ((o, h), after) (handsBack (λ r. r .head) zeroHead x, d) → _≡_ {A = Outcome FullHead × List ℕ} (o, after) (x, d)
+  answer-is o (accept r) h after d e = ap (λ (y : (Outcome FullHead × VvcConfig) × List ℕ). (y .0 .0, y .1)) e
+  answer-is o (refuse n) h after d e = ap (λ (y : (Outcome FullHead × VvcConfig) × List ℕ). (y .0 .0, y .1)) e
+
+  pub was-expanded : (h : VvcConfig) (len : ℕ) (after : List ℕ)
+      → _≡_ {A = (Outcome FullHead × VvcConfig) × List ℕ} ((accept (record { head = h; listLength = len }), h), after) (expandedGiven (toFull c pic list) out) → 8746 ≤ length out
+      → Expanded c pic list h len after
+  was-expanded h len after e room =
+      let r : FullHead = record { head = h; listLength = len } in
+      let s = stored (toFull c pic list) out (expansion-fits room) r after (answer-is _ _ h after _ e) in
+      let l : len ≡ length (s .bytes) = expanded-count c list from pic r (s .bytes) (s .given) in
+      let f : s .bytes ≡ take len after = sym (s .front) ∙ ap (λ (k : ℕ). take k after) (sym l) in
+      let g : toFull c pic list ≡ accept (r, take len after) = s .given ∙ ap (λ (b : List ℕ). accept (r, b)) f in
+      record {
+        given = g;
+        within = omega (arith, s .within);
+        long = ap length (sym f) ∙ sym l;
+        expanded-from = record { compact-list = list; from = from; picture = pic; full = r; expands = g; head = refl };
+      }
+
+  pub not-expanded : (n : ℕ) (h : VvcConfig) (after : List ℕ)
+      → _≡_ {A = (Outcome FullHead × VvcConfig) × List ℕ} ((refuse n, h), after) (expandedGiven (toFull c pic list) out) → 8746 ≤ length out
+      → toFull c pic list ≡ refuse n
+  not-expanded n h after e room = not-stored (toFull c pic list) out (expansion-fits room) n after (answer-is _ _ h after _ e)
+
+-- ### the path, step by step
+
+-- what a later step gives is what the whole path gives
+pub given-as : (o whole : Outcome (List ℕ)) (out : List ℕ) (x : Outcome ℕ × List ℕ) → whole ≡ o → x ≡ lentOutput (counted o) out → x ≡ lentOutput (counted whole) out
+given-as o whole out x e f = f ∙ ap (λ (y : Outcome (List ℕ)). lentOutput (counted y) out) (sym e)
+
+-- the same of its length, and of its refusal
+pub counted-as : (o whole : Outcome (List ℕ)) (n : Outcome ℕ) → whole ≡ o → n ≡ countFound o → n ≡ countFound whole
+counted-as o whole n e f = f ∙ ap countFound (sym e)
+
+pub counted-refused : (whole : Outcome (List ℕ)) (n : ℕ) → whole ≡ refuse n → refuse n ≡ countFound whole
+counted-refused whole n e = ap countFound (sym e)
+
+module _ (c : CompactVvcConfig) (pic : Picture) (list : List ℕ) where
+  pub record-expanded : (full : FullHead) (l : List ℕ) → toFull c pic list ≡ accept (full, l) → recordFrom c pic list ≡ serializeFull (full .head) l
+  record-expanded full l e = rw e
+
+  pub record-unexpanded : (n : ℕ) → toFull c pic list ≡ refuse n → recordFrom c pic list ≡ refuse n
+  record-unexpanded n e = rw e
+
+module _ (c : CompactVvcConfig) (list S : List ℕ) (tols : Option ℕ) where
+  pub stream-expanded : (full : FullHead) (l : List ℕ) → toFull c anyPicture list ≡ accept (full, l) → streamFrom c list S tols ≡ streamExpanded c (full .head) l S tols
+  stream-expanded full l e = rw e
+
+  pub stream-unexpanded : (n : ℕ) → toFull c anyPicture list ≡ refuse n → streamFrom c list S tols ≡ refuse n
+  stream-unexpanded n e = rw e
+
+module _ (C : List ℕ) (pic : Picture) where
+  pub record-read : (r : CompactParsed) (list : List ℕ) → parseCompact C ≡ accept (r, list) → stillRecord C pic ≡ recordFrom (r .config) pic list
+  unfolding stillRecord
+  record-read r list e = rw e
+
+  pub record-unread : (n : ℕ) → parseCompact C ≡ refuse n → stillRecord C pic ≡ refuse n
+  unfolding stillRecord
+  record-unread n e = rw e
+
+module _ (C S : List ℕ) (tols : Option ℕ) where
+  pub stream-too-long : 2 ^ 30 < length S → stillStream C S tols ≡ refuse 23
+  unfolding stillStream streamWith
+  stream-too-long h = lent-too-long S _ h
+
+  module _ (lent : length S ≤ 2 ^ 30) where
+    pub stream-read : (r : CompactParsed) (list : List ℕ) → parseCompact C ≡ accept (r, list) → stillStream C S tols ≡ streamFrom (r .config) list S tols
+    unfolding stillStream streamWith
+    stream-read r list e = lent-within S _ lent ∙ rw e
+
+    pub stream-unread : (n : ℕ) → parseCompact C ≡ refuse n → stillStream C S tols ≡ refuse n
+    unfolding stillStream streamWith
+    stream-unread n e = lent-within S _ lent ∙ rw e

@@ -1,0 +1,83 @@
+-- What the functions inside this crate say: the path from the list of a compact record on, and from the expanded list on.
+use Prim.Native.Nat.{ℕ, _≤_}
+use mathlib.Core.Path.{_≡_}
+use mathlib.Core.List.{List, [], _∷_, _++_, map}
+use mathlib.Core.Option.{Option}
+use lib.ListN.{length}
+use Rattle.parse.specs.Outcome.{Outcome, accept, lentInput}
+use Rattle.parse.specs.Steps.{_>>=_, _>>_}
+use Rattle.boxes.specs.Bytes.{toChunk, AllBytes}
+use Rattle.boxes.specs.Parts.{held}
+use Rattle.boxes.specs.declared.Span.{Span}
+use Rattle.unit_list.specs.Answers.{listUnits}
+use Rattle.split.specs.Stream.{annexB}
+use Rattle.compact.specs.Compact.{CompactParsed, parseCompact}
+use Rattle.compact.specs.ItemData.{stillUnit, restore}
+use Rattle.compact.specs.declared.CompactVvcConfig.{CompactVvcConfig}
+use Rattle.full.specs.Read.{parseFull}
+use Rattle.full.specs.Write.{serializeFull}
+use Rattle.full.specs.declared.VvcConfig.{VvcConfig}
+use Rattle.expand.specs.Expand.{Picture, FullHead, toFull}
+use Rattle.access_unit.specs.AccessUnit.{startCode, assemble}
+use Rattle.still.specs.Stills.{anyPicture}
+
+-- fields and a list that compact read gave
+pub record ReadFrom (c : CompactVvcConfig) (list : List ℕ) : Type 0 where
+  pub compact : List ℕ
+  pub bytes : AllBytes compact
+  pub read : CompactParsed
+  pub reads : parseCompact compact ≡ accept (read, list)
+  pub config : read .config ≡ c
+
+-- a head and a list that they expand to
+pub record ExpandedFrom (c : CompactVvcConfig) (h : VvcConfig) (list : List ℕ) : Type 0 where
+  pub compact-list : List ℕ
+  pub from : ReadFrom c compact-list
+  pub picture : Picture
+  pub full : FullHead
+  pub expands : toFull c picture compact-list ≡ accept (full, list)
+  pub head : full .head ≡ h
+
+-- the record of what compact read gave
+abbrev pub recordFrom : CompactVvcConfig → Picture → List ℕ → Outcome (List ℕ)
+recordFrom c pic list = do
+  full ← toFull c pic list
+  serializeFull (full .0 .head) (full .1)
+
+-- the stream of an expanded head and list, from full write on
+abbrev pub streamExpanded : CompactVvcConfig → VvcConfig → List ℕ → List ℕ → Option ℕ → Outcome (List ℕ)
+streamExpanded c h list S tols = do
+  bytes ← serializeFull h list
+  back ← parseFull bytes
+  item ← restore c S
+  assemble (back .0 .head) (back .1) item tols
+
+-- the stream of what compact read gave
+abbrev pub streamFrom : CompactVvcConfig → List ℕ → List ℕ → Option ℕ → Outcome (List ℕ)
+streamFrom c list S tols = do
+  full ← toFull c anyPicture list
+  streamExpanded c (full .0 .head) (full .1) S tols
+
+-- the item that stored bytes are restored to, once full write accepts the record
+abbrev pub itemAfter : CompactVvcConfig → VvcConfig → List ℕ → List ℕ → Outcome (List ℕ)
+itemAfter c h list S = do
+  serializeFull h list
+  restore c S
+
+-- the list's units and the one unit of S, each after a start code
+abbrev pub unitsStream : List ℕ → List ℕ → Outcome (List ℕ)
+unitsStream list S = do
+  us ← listUnits list
+  accept (annexB startCode (map (held list) us ++ (stillUnit S ∷ [])))
+
+-- the same, with 23 of the item that S is restored to
+abbrev pub plainStream : ℕ → List ℕ → List ℕ → Outcome (List ℕ)
+plainStream size list S = lentInput (toChunk size (stillUnit S)) (unitsStream list S)
+
+-- a prefix size, and a list that has units
+pub record Plain (size : ℕ) (list : List ℕ) : Type 0 where
+  pub low : 1 ≤ size
+  pub high : size ≤ 4
+  pub units : List Span
+  pub listed : listUnits list ≡ accept units
+  pub some : 1 ≤ length units

@@ -1,0 +1,81 @@
+-- `put_still` expands into a local array that is long enough, and writes the record of what stands there.
+use native.Mathlib.Omega.{arith}
+use mathlib.Core.Path.{sym, ap, _∙_}
+use borrow.Author.Needs.{needs}
+use Rattle.expand.specs.Expand.{Picture}
+use Rattle.expand.specs.Answers.{expandAnswerOf}
+use Rattle.expand.specs.declared.ExpandAnswer.{ExpandAnswer}
+use Rattle.boxes.proofs.Output.{written-refused}
+use Rattle.still.specs.inner.Steps.{recordFrom}
+use Rattle.still.proofs.LocalArrays.{Expanded, was-expanded, not-expanded, given-as, record-expanded, record-unexpanded}
+use Rattle.still_record.proofs.put_still.Statement.{statement}
+use Rattle.still_record.proofs.put_still.Tie as tie
+
+slice-aggregate-to-full : tie.Need-slice-aggregate-to-full
+slice-aggregate-to-full c = search needs
+
+to-full-requires : tie.Need-to-full-requires
+to-full-requires c κs = tt
+
+enum-known-answer : tie.Need-enum-known-answer
+enum-known-answer c = search needs
+
+-- the picture, as the caller knows it
+abbrev pic : (c : tie.After-known-told) → Picture
+pic c =
+    let a = c .before .before .before .before .before .before .before .before .before .args in
+    record { chroma = a .chroma-format-idc; depth = a .bit-depth; width = a .width; height = a .height }
+
+-- what expansion gave stands at the front of the array
+expanded-at : (c : tie.After-known-told)
+    → Expanded (c .before .before .before .before .before .before .before .before .before .args .config) (pic c) (c .before .before .before .before .before .before .before .before .before .args .list .now)
+    (c .before .before .before .before .before .to-full .result .head) (c .before .answer .given .0 .0) (c .before .before .before .before .before .to-full .last .1 .1 .1 .1 .1 .1 .0)
+expanded-at c =
+    let y = c .before .before .before .before .before .to-full in
+    was-expanded _ (pic c) _ (c .before .before .before .before .before .before .before .before .before .pre) _ (y .result .head) _ _
+    (ap (λ (x : ExpandAnswer). ((expandAnswerOf x (y .result .head), y .result .head), y .last .1 .1 .1 .1 .1 .1 .0)) (sym (c .before .answer .given .1)) ∙ y .ensures) (omega arith)
+
+array-share-prefix-grouped : tie.Need-array-share-prefix-grouped
+array-share-prefix-grouped c = expanded-at c .within
+
+slice-aggregate-serialize : tie.Need-slice-aggregate-serialize
+slice-aggregate-serialize c = sym (expanded-at (c .before) .long)
+
+serialize-requires : tie.Need-serialize-requires
+serialize-requires c κs = tt
+
+enum-known-answer-2 : tie.Need-enum-known-answer-2
+enum-known-answer-2 c = search needs
+
+same-length : tie.Need-same-length
+same-length c = search needs
+
+returns : tie.Need-returns
+returns c =
+    let x = expanded-at (c .before .before .before .before .before) in
+    given-as _ _ _ _ (record-expanded _ _ _ _ _ (x .given)) (c .before .before .serialize .ensures)
+
+returns-2 : tie.Need-returns-2
+returns-2 c =
+    let a = c .before .before .before .before .before .before .before .before .before .args in
+    let p = c .before .before .before .before .before .before .before .before .before .pre in
+    let y = c .before .before .before .before .before .to-full in
+    let pic : Picture = record { chroma = a .chroma-format-idc; depth = a .bit-depth; width = a .width; height = a .height } in
+    let e = ap (λ (x : ExpandAnswer). ((expandAnswerOf x (y .result .head), y .result .head), y .last .1 .1 .1 .1 .1 .1 .0)) (sym (c .before .answer2 .given .1)) ∙ y .ensures in
+    written-refused (recordFrom (a .config) pic (a .list .now)) (a .out .now) _
+    (record-unexpanded (a .config) pic (a .list .now) _ (not-expanded (a .config) pic (a .list .now) p _ _ _ _ e (omega arith)))
+
+pub put-still-spec : {M : Type 1} → statement M
+put-still-spec =
+    tie.close
+    (tie.spec
+    slice-aggregate-to-full
+    to-full-requires
+    enum-known-answer
+    array-share-prefix-grouped
+    slice-aggregate-serialize
+    serialize-requires
+    enum-known-answer-2
+    same-length
+    returns
+    returns-2)

@@ -16,8 +16,8 @@ use Rattle.nal.specs.Kinds.{kindOf, isAud}
 use Rattle.opi.specs.Opi.{opiOlsIdx}
 use Rattle.access_unit.specs.AccessUnit.{agrees, isOpi, keeps, mayLead, leading, following, kept}
 use Rattle.access_unit.specs.inner.Gathered.{keptLeft}
-use Rattle.boxes.specs.inner.Walk.{more}
 use Rattle.split.specs.inner.Walk.{itemUnitsFrom}
+use Rattle.parse.specs.inner.Walk.{more}
 
 -- a unit that is dropped is an OPI, which may lead
 either : (b c d : Bool) → (if b then c else true) ≡ false → (d || b) ≡ true

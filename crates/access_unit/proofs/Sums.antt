@@ -20,7 +20,7 @@ use Rattle.access_unit.specs.AccessUnit.{keeps, mayLead, leading}
 use Rattle.access_unit.specs.inner.Gathered.{keptLeft, lengths, adding, addingKept, itemSum, listSum}
 use Rattle.access_unit.proofs.KeptUnits.{over-kept, over-dropped}
 use Rattle.access_unit.specs.declared.sizes.UnitSum.{UnitSum}
-use Rattle.boxes.specs.inner.Walk.{more}
+use Rattle.parse.specs.inner.Walk.{more}
 
 -- ### one unit more
 

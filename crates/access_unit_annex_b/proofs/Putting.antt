@@ -8,7 +8,6 @@ use lib.ListN.{length, take, drop, length-append}
 use lib.Seq.{sets, take-all, length-sets}
 use Rattle.parse.specs.Outcome.{Outcome, accept, refuse}
 use Rattle.boxes.specs.Walk.{found}
-use Rattle.boxes.proofs.Sets.{sets-append}
 use Rattle.unit_list.specs.Answers.{listUnits}
 use Rattle.unit_list.specs.declared.ListCursor.{ListCursor}
 use Rattle.access_unit.specs.AccessUnit.{leading, following}
@@ -21,6 +20,7 @@ use Rattle.access_unit.proofs.KeptUnits.{leads-and-follows, leading-take, follo
 use Rattle.access_unit.proofs.Sums.{leading-le}
 use Rattle.access_unit.proofs.Gathering.{From, gathered, Known}
 use Rattle.access_unit.proofs.Order.{stream-parts, stream-size}
+use Rattle.parse.proofs.General.{sets-append}
 
 -- there is room for it
 pub puts-stream : (size : ℕ) (target : Option ℕ) (list item : List ℕ) (v : Sizes) (out : List ℕ) → Known size target list item v

@@ -9,14 +9,14 @@ use Rattle.parse.specs.Outcome.{Outcome, accept, refuse}
 use Rattle.boxes.specs.Bytes.{toBe}
 use Rattle.boxes.specs.Parts.{held}
 use Rattle.boxes.specs.declared.Span.{Span}
-use Rattle.boxes.proofs.Sets.{sets-append}
 use Rattle.boxes.proofs.Walk.{total}
 use Rattle.unit_list.proofs.Accepted.{held-long}
 use Rattle.split.specs.Stream.{annexB}
 use Rattle.access_unit.specs.AccessUnit.{startCode}
 use Rattle.access_unit.specs.inner.Gathered.{bytesAt}
 use Rattle.access_unit_annex_b.specs.inner.Stream.{foundStream, PutsAll, firstUnits, restUnits}
-use Rattle.boxes.specs.inner.Walk.{more}
+use Rattle.parse.specs.inner.Walk.{more}
+use Rattle.parse.proofs.General.{sets-append}
 
 pub stream-one : (u : List ℕ) (us : List (List ℕ)) → annexB startCode (u ∷ us) ≡ (startCode ++ u) ++ annexB startCode us
 unfolding annexB

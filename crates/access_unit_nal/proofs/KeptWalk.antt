@@ -17,8 +17,8 @@ use Rattle.split.proofs.Items.{found-end, found-refusal}
 use Rattle.access_unit.specs.AccessUnit.{kept}
 use Rattle.access_unit.specs.inner.Gathered.{keptLeft}
 use Rattle.access_unit_nal.specs.inner.Kept.{keptStepped}
-use Rattle.boxes.specs.inner.Walk.{more}
 use Rattle.split.specs.inner.Walk.{UnitAhead, Onward}
+use Rattle.parse.specs.inner.Walk.{more}
 
 -- what a step found lies after every earlier place too
 pub onward-earlier : (item : List ℕ) (p q : ℕ) → p ≤ q → (r : NextUnit) → Onward item q r → Onward item p r

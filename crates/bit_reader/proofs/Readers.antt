@@ -114,9 +114,9 @@ OwnSlice ℓ d = ShrSlice (ℓ .mir) (ℓ .lft) u8 .own (d .src) (sliceOf d ∷ 
 abbrev pub OwnStep : NamedLft → ReaderStep → Fml
 OwnStep ℓ t = Step.the-row ℓ .own t (stepVal t ∷ [])
 
-and-true : (b : Bool) → Holds b → Holds (b && true)
-and-true true h = tt
-and-true false h = absurd h
+holds-and : (b : Bool) → Holds b → Holds (b && true)
+holds-and true h = tt
+holds-and false h = absurd h
 
 -- ---- a machine value of an answer, or of a position, has its type
 module _ {M : Type 1} (𝓤 : URA M) (H : Heap 𝓤) (A : Atoms 𝓤) (W : Given 𝓤 H A) where
@@ -158,7 +158,7 @@ module _ {M : Type 1} (𝓤 : URA M) (H : Heap 𝓤) (A : Atoms 𝓤) (W : Given
         → Holds (hasTy (Step′.mir (ℓ .mir)) (stepVal (stepTo d a p))) × WT (stepVal (stepTo d a p))
     step-typed a p is is′ wt =
         let answer = answer-typed 𝓤 H A W a (answerVal a) is in
-        (and-true (hasTy Answer′.mir (answerVal a)) (answer .0), (answer .1, ((wt .1 .0, (position-typed 𝓤 H A W p (Position′.lowered p) is′ .1, tt)), tt)))
+        (holds-and (hasTy Answer′.mir (answerVal a)) (answer .0), (answer .1, ((wt .1 .0, (position-typed 𝓤 H A W p (Position′.lowered p) is′ .1, tt)), tt)))
 
   -- the reader that a step hands on
   pub hands-on : (t : ReaderStep) → ent 𝓤 (sem 𝓤 H A (OwnStep ℓ t)) (sem 𝓤 H A (OwnReader ℓ (t .reader)))

@@ -2,5 +2,4 @@ pub mod Numbers
 pub mod Sets
 pub mod Fields
 pub mod Walk
-pub mod Output
 pub mod Places

@@ -4,8 +4,8 @@ use mathlib.Core.Path.{_≡_, refl, _∙_}
 use mathlib.Core.List.{List, [], _∷_, _++_, append-assoc}
 use native.Mathlib.Omega.{arith}
 use native.Mathlib.Numerals.{add-one}
-use lib.ListN.{length, getD, take, drop, length-append, List·getD-append}
-use lib.Seq.{getD-append-add, getD-at, getD-take, getD-drop}
+use lib.ListN.{length, getD, take, length-append}
+use lib.Seq.{getD-append-add, getD-at, getD-take}
 use Rattle.boxes.specs.Bytes.{be, toBe}
 
 -- one byte more
@@ -37,18 +37,10 @@ be-same s t p q (suc w) h =
 pub be-take : (s : List ℕ) (e p w : ℕ) → p + w ≤ e → be (take e s) p w ≡ be s p w
 be-take s e p w h = be-same (take e s) s p p w (λ i k. getD-take e s (p + i) 0 (omega arith))
 
-pub be-append : (s t : List ℕ) (p w : ℕ) → p + w ≤ length s → be (s ++ t) p w ≡ be s p w
-be-append s t p w h = be-same (s ++ t) s p p w (λ i k. List·getD-append s t 0 (p + i) (omega arith))
-
 pub be-after : (s t : List ℕ) (p w : ℕ) → be (s ++ t) (length s + p) w ≡ be t p w
 be-after s t p w =
     be-same (s ++ t) t (length s + p) p w
     (λ i k. let e : length s + p + i ≡ length s + (p + i) = omega arith in rw e (getD-append-add s t (p + i) 0))
-
-pub be-drop : (s : List ℕ) (d p w : ℕ) → be (drop d s) p w ≡ be s (d + p) w
-be-drop s d p w =
-    be-same (drop d s) s p (d + p) w
-    (λ i k. let e : d + p + i ≡ d + (p + i) = omega arith in rw e (getD-drop d s (p + i) 0))
 
 -- written, then read: at the front, and after other bytes
 pub be-toBe : (w n : ℕ) (t : List ℕ) → n < 256 ^ w → be (toBe w n ++ t) 0 w ≡ n

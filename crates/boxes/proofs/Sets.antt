@@ -1,36 +1,14 @@
 -- Laws of `sets`, what a run of stores leaves: stores one after the other, in another order, and from the front on.
 use Prim.Native.Nat.{ℕ, suc, _+_, _-_, _/_, _%_, _≤_, _<_}
-use mathlib.Core.Path.{_≡_, refl, sym, ap, _∙_}
-use mathlib.Core.List.{List, [], _∷_, _++_, append-nil, append-assoc}
+use mathlib.Core.Path.{_≡_, sym, ap, _∙_}
+use mathlib.Core.List.{List, [], _++_, append-nil, append-assoc}
 use native.Mathlib.Omega.{arith}
 use lib.ListN.{length, set, take, drop, length-drop, drop-of-length-le}
-use lib.Seq.{sets, sets-eq, set-comm, take-all, take-at, take-add, take-length, length-take-le, drop-drop}
+use lib.Seq.{sets, sets-eq, take-all, take-at, take-add, take-length, length-take-le, drop-drop}
 use borrow.Rule.Slice.PartMut.{putMid}
 use Rattle.boxes.specs.Bytes.{toBe}
 use Rattle.boxes.proofs.Numbers.{length-toBe}
-
-module _ {A : Type 0} where
-  -- one run after another is one run
-  pub sets-append : (d : List A) (i : ℕ) (xs ys : List A) → sets (sets d i xs) (i + length xs) ys ≡ sets d i (xs ++ ys)
-  sets-append d i [] ys = ap (λ (j : ℕ). sets d j ys) (omega arith)
-  sets-append d i (x ∷ xs) ys =
-      ap (λ (j : ℕ). sets (sets (set d i x) (suc i) xs) j ys) (omega arith) ∙ sets-append (set d i x) (suc i) xs ys
-
-  -- a store after a run may come before it
-  pub set-before : (d : List A) (i j : ℕ) (a : A) (xs : List A) → i + length xs ≤ j → sets (set d j a) i xs ≡ set (sets d i xs) j a
-  set-before d i j a [] h = refl
-  set-before d i j a (x ∷ xs) h =
-      ap (λ (l : List A). sets l (suc i) xs) (set-comm d j i a x (λ e. omega arith)) ∙ set-before (set d i x) (suc i) j a xs (omega arith)
-
-  -- a run and a last element, stored last first
-  pub sets-last : (d : List A) (i : ℕ) (xs : List A) (a : A) → sets (set d (i + length xs) a) i xs ≡ sets d i (xs ++ (a ∷ []))
-  sets-last d i xs a = set-before d i (i + length xs) a xs (omega arith) ∙ sets-append d i xs (a ∷ [])
-
-  -- from the front on: the run, and what followed it
-  pub sets-front : (d xs : List A) → length xs ≤ length d → sets d 0 xs ≡ xs ++ drop (length xs) d
-  sets-front d xs h =
-      let e : 0 + length xs ≡ length xs = omega arith in
-      sets-eq xs d 0 (omega arith) ∙ ap (λ (k : ℕ). xs ++ drop k d) e
+use Rattle.parse.proofs.General.{sets-append, sets-last}
 
 -- what a copy to a part that runs to the end leaves
 pub sets-copied : (d u ys : List ℕ) (i : ℕ) → i + length u ≤ length d

@@ -9,12 +9,12 @@ use Rattle.parse.specs.Outcome.{Outcome, accept, refuse}
 use Rattle.boxes.specs.Bytes.{toChunk}
 use Rattle.boxes.specs.Parts.{held}
 use Rattle.boxes.specs.declared.Span.{Span}
-use Rattle.boxes.proofs.Sets.{sets-append}
 use Rattle.unit_list.specs.UnitList.{encodeUnits}
 use Rattle.unit_list.proofs.Encode.{length-toChunk}
 use Rattle.unit_list.proofs.Accepted.{held-long}
 use Rattle.compact.specs.inner.Units.{unitBytes, foundUnitBytes, Copies}
-use Rattle.boxes.specs.inner.Walk.{more}
+use Rattle.parse.specs.inner.Walk.{more}
+use Rattle.parse.proofs.General.{sets-append}
 
 -- a unit inside s after its length, alone and in front of others
 module _ (w : ℕ) (s : List ℕ) (a : Span) (inside : a .start + a .len ≤ length s) where

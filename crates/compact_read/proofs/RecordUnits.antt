@@ -10,7 +10,6 @@ use Rattle.parse.specs.Parse.{Parsed, value, refused, bind, times, outcome}
 use Rattle.boxes.specs.Bytes.{toBe, chunk}
 use Rattle.boxes.specs.Parts.{held}
 use Rattle.boxes.specs.declared.Span.{Span}
-use Rattle.boxes.proofs.Sets.{sets-append}
 use Rattle.parse.proofs.Many.{times-nil, times-step, times-bad}
 use Rattle.boxes.proofs.Fields.{Chunk, chunk-read}
 use Rattle.unit_list.specs.UnitList.{encodeUnits}
@@ -23,7 +22,9 @@ use Rattle.compact.specs.inner.Units.{unitBytes, foundUnitBytes, Copies}
 use Rattle.compact_read.specs.inner.Room.{measured, foundList}
 use Rattle.compact.proofs.OneArray.{listHead, head-long, list-bytes}
 use Rattle.compact.proofs.Copying.{room-more}
-use Rattle.boxes.specs.inner.Walk.{more}
+use Rattle.parse.specs.inner.Walk.{more}
+use Rattle.parse.proofs.General.{sets-append}
+use Rattle.parse.proofs.Binds.{outcome-more}
 
 -- one of n units read from place p on, and what is left after it
 pub record Turn (s : List ℕ) (n p : ℕ) (a : Span) : Type 0 where
@@ -36,10 +37,6 @@ measured-bind : (s : List ℕ) (a : Span) → a .start + a .len ≤ length s →
     → measured s (k + 4 + a .len) x ≡ measured s k (bind x (λ rest r. value (a ∷ rest) r))
 measured-bind s a h k (value us q) = ap (λ (n : ℕ). value n q) (let l = room-more 4 s a h us in omega arith)
 measured-bind s a h k (refused e) = refl
-
-outcome-bind : (a : Span) (x : Parsed (List Span)) → outcome (bind x (λ rest r. value (a ∷ rest) r)) ≡ more a (outcome x)
-outcome-bind a (value us q) = refl
-outcome-bind a (refused e) = refl
 
 -- n units from place p on, of which there is one at least
 module _ (s : List ℕ) (n p : ℕ) (some : 0 < n) (r : ChunkRead) (said : chunkStepped r ≡ chunk 1 (take (length s) s) p) where
@@ -71,7 +68,7 @@ module _ (s : List ℕ) (n p : ℕ) (some : 0 < n) (r : ChunkRead) (said : chunk
           inside = whole .fits;
           measure =
               λ k. measured-bind s a (whole .fits) k (times (n - 1) (chunk 1) s (a .start + a .len)) ∙ ap (measured s k) (sym times-more);
-          left = ap outcome times-more ∙ outcome-bind a (times (n - 1) (chunk 1) s (a .start + a .len));
+          left = ap outcome times-more ∙ outcome-more a (times (n - 1) (chunk 1) s (a .start + a .len));
         }
 
 -- none left

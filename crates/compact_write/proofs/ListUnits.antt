@@ -32,8 +32,8 @@ use Rattle.compact_write.specs.inner.Sums.{addingUnit, addingAll, summed
 use Rattle.compact.specs.declared.CompactVvcConfig.{CompactVvcConfig}
 use Rattle.compact_write.specs.declared.list_units.RecordSum.{RecordSum}
 use Rattle.compact.proofs.Copying.{room-more}
-use Rattle.boxes.specs.inner.Walk.{more}
 use Rattle.boxes.specs.Bytes.{outside}
+use Rattle.parse.specs.inner.Walk.{more}
 
 -- one unit more, and the others after it
 module _ (s : List ℕ) (a : Span) (inside : a .start + a .len ≤ length s) (v : RecordSum) where

@@ -9,7 +9,6 @@ use borrow.Author.Tests.{le-leb, lt-leb}
 use Rattle.parse.specs.Outcome.{Outcome, accept, refuse, andThen}
 use Rattle.boxes.specs.Parts.{held}
 use Rattle.boxes.specs.declared.Span.{Span}
-use Rattle.boxes.proofs.Sets.{sets-front}
 use Rattle.unit_list.specs.UnitList.{encode}
 use Rattle.unit_list.specs.Answers.{listUnits}
 use Rattle.compact.specs.declared.CompactVvcConfig.{CompactVvcConfig}
@@ -20,6 +19,7 @@ use Rattle.expand.specs.Expand.{FullHead, Picture, expandUnits, toFull}
 use Rattle.expand.specs.Answers.{expandedGiven}
 use Rattle.grouping.specs.inner.Units.{heldUnits}
 use Rattle.expand.specs.inner.ParameterSets.{withUnits}
+use Rattle.parse.proofs.General.{sets-front}
 
 -- what a call returns: the answer with the head, and what the output then holds
 abbrev pub Given : Type 0

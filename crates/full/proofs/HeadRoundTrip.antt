@@ -20,7 +20,7 @@ use Rattle.full.specs.RoundTrip.{Wide, readBack}
 unfoldable pub use Rattle.full.specs.RoundTrip.{withPtl}
 use Rattle.full.specs.declared.VvcConfig.{VvcConfig}
 use Rattle.record_arrays.proofs.ArraysRoundTrip.{byte-there, number-there}
-use Rattle.parse.proofs.General.{and-true}
+use Rattle.parse.proofs.General.{both-true}
 
 -- a PTL that is read back as another
 abbrev pub ReadsAs : VvcPtlRecord → ℕ → VvcPtlRecord → Type 0
@@ -39,11 +39,11 @@ pub record Small (h : VvcConfig) : Type 0 where
 pub small : (h : VvcConfig) → ptlPartFits h ≡ true → Small h
 unfolding ptlPartFits
 small h e =
-    let a = and-true _ _ e in
-    let b = and-true _ _ (a .1) in
-    let c = and-true _ _ (b .1) in
-    let d = and-true _ _ (c .1) in
-    let f = and-true _ _ (d .1) in
+    let a = both-true _ _ e in
+    let b = both-true _ _ (a .1) in
+    let c = both-true _ _ (b .1) in
+    let d = both-true _ _ (c .1) in
+    let f = both-true _ _ (d .1) in
     record {
       ols = leb-true _ _ (a .0);
       sublayers = leb-true _ _ (b .0);
@@ -159,7 +159,7 @@ module _ (h : VvcConfig) (q : VvcPtlRecord) (w : Writable h q) (s pre post : Lis
 
   parts : (1 ≤ h .«length_size») × (h .«length_size» ≤ 4) × ((if h .«ptl_present_flag» then ptlPartFits h else true) ≡ true)
   unfolding headFits
-  parts = let a = and-true _ _ (w .fits) in let b = and-true _ _ (a .1) in (leb-true _ _ (a .0), leb-true _ _ (b .0), b .1)
+  parts = let a = both-true _ _ (w .fits) in let b = both-true _ _ (a .1) in (leb-true _ _ (a .0), leb-true _ _ (b .0), b .1)
 
   bit-le : (c : Bool) → bit c ≤ 1
   bit-le true = omega arith

@@ -20,7 +20,7 @@ use Rattle.full.specs.Write.{ptlPart, headBytes, ptlPartFits, headFits, 
 use Rattle.full.specs.RoundTrip.{Typed}
 use Rattle.full.specs.declared.VvcConfig.{VvcConfig}
 use Rattle.full.proofs.HeadRoundTrip.{small, length-part}
-use Rattle.parse.proofs.General.{and-true}
+use Rattle.parse.proofs.General.{both-true}
 
 -- ### the head
 
@@ -28,8 +28,8 @@ use Rattle.parse.proofs.General.{and-true}
 head-short : (h : VvcConfig) → Typed h → headFits h ≡ true → length (headBytes h) ≤ 1104
 unfolding headBytes headFits
 head-short h t e =
-    let a = and-true (leb 1 (h .«length_size»)) _ e in
-    let b = and-true (leb (h .«length_size») 4) _ (a .1) in
+    let a = both-true (leb 1 (h .«length_size»)) _ e in
+    let b = both-true (leb (h .«length_size») 4) _ (a .1) in
     go (h .«ptl_present_flag») (b .1)
   where
     go : (c : Bool) → (if c then ptlPartFits h else true) ≡ true → suc (length (if c then ptlPart h else [])) ≤ 1104
@@ -49,7 +49,7 @@ units-room : (us : List (List ℕ)) → unitsFit us ≡ true
 unfolding unitsFit encodeUnits
 units-room [] e = (omega arith, refl)
 units-room (u ∷ us) e =
-    let a = and-true (leb (length u) 65535) _ e in
+    let a = both-true (leb (length u) 65535) _ e in
     let f = leb-true (length u) 65535 (a .0) in
     let r = units-room us (a .1) in
     let x = length-append (toChunk 2 u) (encodeUnits 2 us) in
@@ -60,7 +60,7 @@ units-room (u ∷ us) e =
 
 units-fit : (a : Array (List ℕ)) → arrayFits a ≡ true → unitsFit (a .units) ≡ true
 unfolding arrayFits
-units-fit a e = let f = and-true (leb (length (a .units)) 65535) _ e in and-true (unitsFit (a .units)) _ (f .1) .0
+units-fit a e = let f = both-true (leb (length (a .units)) 65535) _ e in both-true (unitsFit (a .units)) _ (f .1) .0
 
 -- one array in the record, and in the list
 array-long : (a : Array (List ℕ)) → length (arrayBytes a) ≤ 3 + length (encodeUnits 2 (a .units))
@@ -84,7 +84,7 @@ arrays-room : (xs : List (Array (List ℕ))) → arraysFit xs ≡ true → Room 
 unfolding arraysFit arraysBytes unitsOf encodeArrays
 arrays-room [] e = record { most = omega arith; less = omega arith }
 arrays-room (a ∷ xs) e =
-    let f = and-true (arrayFits a) _ e in
+    let f = both-true (arrayFits a) _ e in
     let r = arrays-room xs (f .1) in
     let l = array-long a in
     let m = list-long a in
@@ -100,8 +100,8 @@ arrays-room (a ∷ xs) e =
 pub record-lent : (h : VvcConfig) → Typed h → (xs : List (Array (List ℕ))) → recordFits h xs ≡ true → length (encode xs) ≤ 2 ^ 30 → length (fullBytes h xs) ≤ 2 ^ 30
 unfolding recordFits fullBytes encode
 record-lent h t xs e l =
-    let a = and-true (headFits h) _ e in
-    let b = and-true (leb (length xs) 255) _ (a .1) in
+    let a = both-true (headFits h) _ e in
+    let b = both-true (leb (length xs) 255) _ (a .1) in
     let k = leb-true (length xs) 255 (b .0) in
     let n = head-short h t (a .0) in
     let r = arrays-room xs (b .1) in

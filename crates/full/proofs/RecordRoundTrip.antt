@@ -25,7 +25,7 @@ unfoldable pub use Rattle.full.specs.RoundTrip.{headRead}
 use Rattle.full.specs.declared.VvcConfig.{VvcConfig}
 use Rattle.record_arrays.proofs.ArraysRoundTrip.{placedArrays, arrays-read, arrays-held, byte-there}
 use Rattle.full.proofs.HeadRoundTrip.{ReadsAs, small, Writable, head-read}
-use Rattle.parse.proofs.General.{and-true}
+use Rattle.parse.proofs.General.{both-true}
 
 module _ (h : VvcConfig) (q : VvcPtlRecord) (xs : List (Array (List ℕ))) (w : Writable h q) (sound : Sound xs) (fits : recordFits h xs ≡ true) where
   abbrev s : List ℕ
@@ -33,7 +33,7 @@ module _ (h : VvcConfig) (q : VvcPtlRecord) (xs : List (Array (List ℕ))) (w : 
 
   arrays-fit : (length xs ≤ 255) × (arraysFit xs ≡ true)
   unfolding recordFits
-  arrays-fit = let a = and-true (headFits h) _ fits in let b = and-true _ _ (a .1) in (leb-true (length xs) 255 (b .0), b .1)
+  arrays-fit = let a = both-true (headFits h) _ fits in let b = both-true _ _ (a .1) in (leb-true (length xs) 255 (b .0), b .1)
 
   from-head : s ≡ [] ++ (headBytes h ++ (length xs ∷ arraysBytes xs))
   unfolding fullBytes
@@ -71,13 +71,13 @@ module _ (h : VvcConfig) (q : VvcPtlRecord) (xs : List (Array (List ℕ))) (w : 
 module _ (h : VvcConfig) (t : Typed h) (xs : List (Array (List ℕ))) (sound : Sound xs) where
   fitting-parts : recordFits h xs ≡ true → headFits h ≡ true
   unfolding recordFits
-  fitting-parts e = and-true (headFits h) _ e .0
+  fitting-parts e = both-true (headFits h) _ e .0
 
   ptl-part : headFits h ≡ true → h .«ptl_present_flag» ≡ true → ptlPartFits h ≡ true
   unfolding headFits
   ptl-part e f =
-      let a = and-true (leb 1 (h .«length_size»)) _ e in
-      let b = and-true (leb (h .«length_size») 4) _ (a .1) in
+      let a = both-true (leb 1 (h .«length_size»)) _ e in
+      let b = both-true (leb (h .«length_size») 4) _ (a .1) in
       subst (λ (c : Bool). (if c then ptlPartFits h else true) ≡ true) f (b .1)
 
   reads : headFits h ≡ true → h .«ptl_present_flag» ≡ true → ReadsAs (h .«native_ptl») (h .«num_sublayers») (asWritten (h .«native_ptl») (h .«num_sublayers»))

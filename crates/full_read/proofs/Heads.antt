@@ -18,13 +18,15 @@ use Rattle.ptl_record.specs.declared.PtlRecordAnswer.{PtlRecordAnswer}
 use Rattle.ptl_record.specs.declared.PtlRecordAnswer.the-variants as P
 use Rattle.ptl_record.specs.declared.PtlRecordRead.{PtlRecordRead}
 use Rattle.ptl_record.proofs.Reading.{Reach, reach-bind, reach-value, reach-uint, reach-byte}
-use Rattle.full.specs.Read.{plainHead, headWithPtl, vvcHead}
+use Rattle.full.specs.Read.{plainHead, headWithPtl, vvcHead, zeroHead}
 use Rattle.full.specs.declared.VvcConfig.{VvcConfig}
-use Rattle.full_read.specs.inner.Heads.{headAnswerOf, headReadOf, orZeroHead, headFields, sizesAfter}
+use Rattle.full_read.specs.inner.Heads.{headAnswerOf, headReadOf, headFields, sizesAfter}
 use Rattle.full_read.specs.declared.head.HeadAnswer.{HeadAnswer}
 use Rattle.full_read.specs.declared.head.HeadAnswer.the-variants as H
 use Rattle.full_read.specs.declared.head.HeadRead.{HeadRead}
-use Rattle.ptl.specs.inner.Answers.{orZeroPtl}
+use Rattle.parse.specs.inner.Answers.{orZeros}
+use Rattle.ptl.specs.Ptl.{zeroPtl}
+use Rattle.parse.proofs.Zeros.{zeros-beside}
 
 -- what follows the PTL: three numbers of two bytes
 module _ (s : List ℕ) where
@@ -39,10 +41,6 @@ module _ (s : List ℕ) where
       (λ _. reach-bind _ (reach-number-to (at + 2) (at + 4) (omega arith)) (omega arith)
       (λ _. reach-bind _ (reach-number-to (at + 4) (at + 6) (omega arith)) (omega arith)
       (λ k. reach-value _ _ k)))
-
-or-zero : (x : Parsed VvcPtlRecord) → orZeroPtl x .0 ≡ x
-or-zero (value p q) = refl
-or-zero (refused e) = refl
 
 -- what the PTL flag announces, after the first byte
 module _ (size : ℕ) (s : List ℕ) where
@@ -67,9 +65,9 @@ module _ (size : ℕ) (s : List ℕ) where
     after-number = rw (uint-there 2 s 1 (omega arith), uint-there 1 s 3 there)
 
     -- the PTL was read, or refused
-    module _ (w : ℕ) (is : w ≡ be s 1 2) (r : PtlRecordRead) (f : ptlRecordOf r ≡ orZeroPtl (vvcPtlRecord (w / 16 % 8) s 4)) where
+    module _ (w : ℕ) (is : w ≡ be s 1 2) (r : PtlRecordRead) (f : ptlRecordOf r ≡ orZeros zeroPtl (vvcPtlRecord (w / 16 % 8) s 4)) where
       ptl-said : vvcPtlRecord (be s 1 2 / 16 % 8) s 4 ≡ ptlRecordRead (r .answer) (r .ptl)
-      ptl-said = rw (← is) (sym (ap (λ (y : Parsed VvcPtlRecord × VvcPtlRecord). y .0) f ∙ or-zero (vvcPtlRecord (w / 16 % 8) s 4)))
+      ptl-said = rw (← is) (sym (ap (λ (y : Parsed VvcPtlRecord × VvcPtlRecord). y .0) f ∙ zeros-beside zeroPtl (vvcPtlRecord (w / 16 % 8) s 4)))
 
       known : (a : PtlRecordAnswer) → r .answer ≡ a → headWithPtl size s 1 ≡ bind (ptlRecordRead a (r .ptl)) (λ ptl q. sizesAfter size (be s 1 2) (be s 3 1) ptl s q)
       known a e =
@@ -83,14 +81,9 @@ module _ (size : ℕ) (s : List ℕ) where
       pub ptl-refused : (e : Refusal) → r .answer ≡ P.Refused e → headWithPtl size s 1 ≡ refused (numberOf e)
       ptl-refused e h = known (P.Refused e) h
 
--- what the answer for the head says once it is known which it is
-or-zero-head : (x : Parsed VvcConfig) → orZeroHead x .0 ≡ x
-or-zero-head (value p q) = refl
-or-zero-head (refused e) = refl
-
-module _ (r : HeadRead) (x : Parsed VvcConfig) (f : headReadOf r ≡ orZeroHead x) where
+module _ (r : HeadRead) (x : Parsed VvcConfig) (f : headReadOf r ≡ orZeros zeroHead x) where
   head-said : x ≡ headAnswerOf (r .answer) (r .head)
-  head-said = sym (ap (λ (y : Parsed VvcConfig × VvcConfig). y .0) f ∙ or-zero-head x)
+  head-said = sym (ap (λ (y : Parsed VvcConfig × VvcConfig). y .0) f ∙ zeros-beside zeroHead x)
 
   pub head-read : (q : ℕ) → r .answer ≡ H.Read q → x ≡ value (r .head) q
   head-read q e = head-said ∙ ap (λ (a : HeadAnswer). headAnswerOf a (r .head)) e

@@ -10,8 +10,9 @@ ghost use lib.ListN.{length};
 ghost use Rattle.parse.specs.Parse.{refused as refusedBy};
 ghost use Rattle.error.specs.Refusals.{numberOf};
 ghost use Rattle.boxes.specs.Bytes.{be};
-ghost use Rattle.full.specs.Read.{vvcHead, headWithPtl};
-ghost use Rattle.full_read.specs.inner.Heads.{headReadOf, orZeroHead, headFields, sizesAfter};
+ghost use Rattle.full.specs.Read.{vvcHead, headWithPtl, zeroHead};
+ghost use Rattle.full_read.specs.inner.Heads.{headReadOf, headFields, sizesAfter};
+ghost use Rattle.parse.specs.inner.Answers.{orZeros};
 
 // A head and the place after it, or a refusal with a head of zeros.
 pub enum HeadAnswer {
@@ -26,7 +27,7 @@ pub struct HeadRead {
 
 // A refusal, with zeros.
 fn refused(e: Refusal) -> HeadRead
-    ensures { λ r. ⌜ headReadOf r ≡ orZeroHead (refusedBy (numberOf e)) ⌝ }
+    ensures { λ r. ⌜ headReadOf r ≡ orZeros zeroHead (refusedBy (numberOf e)) ⌝ }
 {
     let head = full::plain_head(0);
     let answer = HeadAnswer::Refused(e);
@@ -64,7 +65,7 @@ fn head_fields(s: &[u8], size: u8, ptl: VvcPtlRecord, at: usize) -> VvcConfig
 // What follows the PTL of a head, which ends at a place. Refusal: 1.
 fn read_sizes(s: &[u8], size: u8, ptl: VvcPtlRecord, at: usize) -> HeadRead
     requires { ⌜ (length (now s) ≤ 2 ^ 30) × (4 ≤ length (now s)) ⌝ }
-    ensures { λ r. ⌜ headReadOf r ≡ orZeroHead (sizesAfter size (be (now (s .entry)) 1 2) (be (now (s .entry)) 3 1) ptl (now (s .entry)) at) ⌝ }
+    ensures { λ r. ⌜ headReadOf r ≡ orZeros zeroHead (sizesAfter size (be (now (s .entry)) 1 2) (be (now (s .entry)) 3 1) ptl (now (s .entry)) at) ⌝ }
 {
     if s.len() < at || s.len() - at < 6 {
         return refused(Refusal::Truncated);
@@ -80,7 +81,7 @@ fn read_sizes(s: &[u8], size: u8, ptl: VvcPtlRecord, at: usize) -> HeadRead
 // What the PTL flag in the first byte announces. Refusals in byte order: 1, 2.
 fn read_with_ptl(s: &[u8], size: u8) -> HeadRead
     requires { ⌜ (length (now s) ≤ 2 ^ 30) × (1 ≤ length (now s)) ⌝ }
-    ensures { λ r. ⌜ headReadOf r ≡ orZeroHead (headWithPtl size (now (s .entry)) 1) ⌝ }
+    ensures { λ r. ⌜ headReadOf r ≡ orZeros zeroHead (headWithPtl size (now (s .entry)) 1) ⌝ }
 {
     if s.len() < 4 {
         return refused(Refusal::Truncated);
@@ -98,7 +99,7 @@ fn read_with_ptl(s: &[u8], size: u8) -> HeadRead
 // The head at the front. Refusals: 1 for no byte, 3 for size 3, then in byte order 1 and 2.
 pub fn read_head(s: &[u8]) -> HeadRead
     requires { ⌜ length (now s) ≤ 2 ^ 30 ⌝ }
-    ensures { λ r. ⌜ headReadOf r ≡ orZeroHead (vvcHead (now (s .entry)) 0) ⌝ }
+    ensures { λ r. ⌜ headReadOf r ≡ orZeros zeroHead (vvcHead (now (s .entry)) 0) ⌝ }
 {
     if s.len() == 0 {
         return refused(Refusal::Truncated);

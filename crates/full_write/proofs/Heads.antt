@@ -14,7 +14,7 @@ use Rattle.ptl_record.specs.Write.{ptlBytes}
 use Rattle.ptl_record.proofs.Writing.{sets-then}
 use Rattle.full.specs.Write.{ptlPart, headBytes, ptlPartFits, headFits}
 use Rattle.full.specs.declared.VvcConfig.{VvcConfig}
-use Rattle.parse.proofs.General.{and-true}
+use Rattle.parse.proofs.General.{both-true}
 
 -- three numbers of two bytes, stored one after the other
 pub picture-stored : (d : List ℕ) (at x y z : ℕ) → sets (sets (sets d at (toBe 2 x)) (at + 2) (toBe 2 y)) (at + 4) (toBe 2 z) ≡ sets d at ((toBe 2 x ++ toBe 2 y) ++ toBe 2 z)
@@ -70,8 +70,8 @@ module _ (h : VvcConfig) where
   pub head-fits : headFits h ≡ true → HeadFits
   unfolding headFits
   head-fits e =
-      let a = and-true _ _ e in
-      let b = and-true _ _ (a .1) in
+      let a = both-true _ _ e in
+      let b = both-true _ _ (a .1) in
       record {
         one = leb-true _ _ (a .0);
         four = leb-true _ _ (b .0);

@@ -17,7 +17,7 @@ use Rattle.unit_list.specs.UnitList.{Array, decode, heldArrays}
 use Rattle.unit_list.specs.inner.Walk.{arraysFrom, Fits}
 use Rattle.unit_list.specs.declared.ListCursor.{ListCursor}
 use Rattle.record_arrays.specs.Write.{arraysBytes}
-use Rattle.record_arrays_write.specs.inner.Measures.{arraysMeasure, measuredBy, measureOf, ArraysWithin, Puts, bytesOf, arraysInRecord}
+use Rattle.record_arrays_write.specs.inner.Measures.{arraysMeasure, measuredBy, measureOf, ArraysWithin, arraysInRecord}
 use Rattle.record_arrays_write.specs.declared.measure.Measure.{Measure}
 use Rattle.record_arrays_write.specs.declared.measure.RecordMeasure.{RecordMeasure}
 use Rattle.record_arrays_write.specs.declared.measure.RecordMeasure.the-variants as M
@@ -27,7 +27,8 @@ use Rattle.full.specs.declared.VvcConfig.{VvcConfig}
 use Rattle.full_write.specs.inner.Record.{fullRecordOf, Writable, SizeOf}
 use Rattle.full_write.specs.declared.RecordSize.{RecordSize}
 use Rattle.full_write.specs.declared.RecordSize.the-variants as R
-use Rattle.parse.proofs.General.{and-true}
+use Rattle.parse.proofs.General.{both-true}
+use Rattle.parse.specs.inner.Stores.{Puts, bytesOf}
 
 -- a list's record is that of its arrays
 pub serialize-arrays : (h : VvcConfig) (s : List ℕ) (o : Outcome (List (Array Span))) → o ≡ decode s → fullRecordOf h s o ≡ serializeFull h s
@@ -51,7 +52,7 @@ fits-by h s o m k = rw (k .is)
 
 -- the head fits, and there are few arrays
 pub fits-parts : (a : Bool) (n : ℕ) (b : Bool) → a && (leb n 255 && b) ≡ true → (a ≡ true) × (n ≤ 255)
-fits-parts a n b e = let f = and-true a (leb n 255 && b) e in (f .0, leb-true n 255 (and-true (leb n 255) b (f .1) .0))
+fits-parts a n b e = let f = both-true a (leb n 255 && b) e in (f .0, leb-true n 255 (both-true (leb n 255) b (f .1) .0))
 
 refused-of : (h : VvcConfig) (s : List ℕ) (o : Outcome (List (Array Span))) (n : ℕ) → refuse n ≡ measuredBy (arraysMeasure s) o → fullRecordOf h s o ≡ refuse n
 refused-of h s (accept xs) n e = absurd (let z : _≡_ {A = ℕ} 0 1 = cc in omega arith)

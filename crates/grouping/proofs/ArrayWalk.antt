@@ -6,13 +6,13 @@ use mathlib.Core.List.{List, [], _∷_, _++_}
 use native.Mathlib.Omega.{arith}
 use lib.ListN.{length, getD, set, replicate, length-append}
 use lib.Seq.{sets, length-sets}
-use Rattle.boxes.proofs.Sets.{sets-append}
 use Rattle.nal.specs.Header.{largestUnitType, typeOr31}
 use Rattle.unit_list.specs.UnitList.{encodeArray, encodeArrays}
 use Rattle.grouping.specs.Grouping.{group, grouped}
 use Rattle.grouping.specs.inner.Units.{Turn}
 use Rattle.grouping.proofs.FirstAppearance.{among, Marks, marks-start, marks-more, arraysLeft, arrays-all, arrays-none, arrays-met, arrays-new, array-long, groupBytes}
 use Rattle.nal.specs.inner.Kinds.{unitTypes}
+use Rattle.parse.proofs.General.{sets-append}
 
 -- all arrays
 abbrev pub allArrays : List (List ℕ) → List ℕ

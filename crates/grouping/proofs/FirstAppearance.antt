@@ -1,5 +1,5 @@
 -- Laws of the arrays by type: the array of a type, and the types by first appearance as a walk meets them.
-use Prim.Native.Nat.{ℕ, _+_, _≤_, _<_, suc}
+use Prim.Native.Nat.{ℕ, _+_, _<_}
 use mathlib.Core.Path.{_≡_, refl, sym, ap, _∙_}
 use mathlib.Core.Bool.{Bool, true, false, _||_}
 use mathlib.Core.List.{List, [], _∷_, _++_, map, append-assoc}
@@ -11,20 +11,14 @@ use borrow.Author.Tests.{eq-eqb, eqb-true}
 use Rattle.parse.specs.Logic.{if_then_else_}
 use Rattle.boxes.specs.Bytes.{toBe, toChunk}
 use Rattle.boxes.proofs.Numbers.{length-toBe}
-use Rattle.boxes.proofs.Sets.{sets-append, set-before}
 use Rattle.nal.specs.Header.{typeOr31}
 use Rattle.unit_list.specs.UnitList.{encodeUnits, encodeArray, encodeArrays}
 use Rattle.unit_list.proofs.Encode.{length-toChunk}
 use Rattle.grouping.specs.Grouping.{havingType, without, firsts, group, grouped}
 use Rattle.nal.specs.inner.Kinds.{unitTypes}
+use Rattle.parse.proofs.General.{sets-append, sets-before}
 
 -- ### the array of a type
-
--- stores after a run may come before it
-sets-before : (d : List ℕ) (i j : ℕ) (xs ys : List ℕ) → i + length xs ≤ j → sets (sets d j ys) i xs ≡ sets (sets d i xs) j ys
-sets-before d i j xs [] h = refl
-sets-before d i j xs (y ∷ ys) h =
-    sets-before (set d j y) i (suc j) xs ys (omega arith) ∙ ap (λ (l : List ℕ). sets l (suc j) ys) (set-before d i j y xs h)
 
 module _ (us : List (List ℕ)) (t : ℕ) where
   -- its units' bytes

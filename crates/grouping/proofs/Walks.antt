@@ -22,7 +22,7 @@ use Rattle.unit_list.proofs.Turns.{ListTurn, list-found, list-stops}
 use Rattle.grouping.specs.inner.Units.{spansOf, unitsAt, Readable, UnitStepped, Steps}
 use Rattle.grouping.specs.declared.units.UnitStep.{UnitStep}
 use Rattle.grouping.specs.declared.units.UnitStep.the-variants as U
-use Rattle.boxes.specs.inner.Walk.{more}
+use Rattle.parse.specs.inner.Walk.{more}
 
 -- a step that found no unit: there is none
 pub none-left : (s : List ℕ) (here : ListCursor) (r : ListStep) → stepped s r ≡ typedUnitsFrom s here → OneOf (1 ∷ 2 ∷ []) (tagOf the-type r) → unitsAt s here ≡ []

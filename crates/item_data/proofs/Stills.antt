@@ -17,7 +17,6 @@ use Rattle.boxes.specs.declared.Span.{Span}
 use Rattle.boxes.proofs.Walk.{total}
 use Rattle.parse.proofs.Many.{many-bad}
 use Rattle.boxes.proofs.Numbers.{length-toBe}
-use Rattle.boxes.proofs.Sets.{sets-append}
 use Rattle.unit_list.proofs.Encode.{length-toChunk}
 use Rattle.unit_list.proofs.Accepted.{held-long}
 use Rattle.split.specs.Item.{itemUnit, itemUnits}
@@ -25,8 +24,9 @@ use Rattle.split.proofs.Items.{left-step}
 use Rattle.nal.specs.Header.{nalHeader}
 use Rattle.compact.specs.ItemData.{stillUnit, prefixed, restore, isStill, onlyStill, strip}
 use Rattle.compact.specs.declared.CompactVvcConfig.{CompactVvcConfig}
-use Rattle.boxes.specs.inner.Walk.{more}
 use Rattle.split.specs.inner.Walk.{itemUnitsFrom}
+use Rattle.parse.specs.inner.Walk.{more}
+use Rattle.parse.proofs.General.{sets-append}
 
 -- ### restored
 

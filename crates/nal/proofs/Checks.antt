@@ -9,7 +9,7 @@ use lib.ListN.{length, getD}
 use borrow.Author.Tests.{ltb-true, lt-ltb, le-ltb, eqb-true, eqb-false, eq-eqb, ne-eqb, not-true}
 use Rattle.nal.specs.StartCode.{scan, endsInZero, unitChecked}
 use Rattle.nal.proofs.StartCodes.{CodeAt, scan-none, none-scan}
-use Rattle.parse.proofs.General.{and-true}
+use Rattle.parse.proofs.General.{both-true}
 
 pub record Splittable (u : List ℕ) : Type 0 where
   pub some : 0 < length u
@@ -33,8 +33,8 @@ ends-none (x ∷ u) h = absurd (omega arith)
 pub checked-splittable : (u : List ℕ) → unitChecked u ≡ true → Splittable u
 unfolding unitChecked
 checked-splittable u e =
-    let p = and-true (ltb 0 (length u)) (eqb (scan u) (length u) && not (endsInZero u)) e in
-    let q = and-true (eqb (scan u) (length u)) (not (endsInZero u)) (p .1) in
+    let p = both-true (ltb 0 (length u)) (eqb (scan u) (length u) && not (endsInZero u)) e in
+    let q = both-true (eqb (scan u) (length u)) (not (endsInZero u)) (p .1) in
     let some : 0 < length u = ltb-true 0 (length u) (p .0) in
     record {
       some = some;

@@ -12,7 +12,7 @@ use lib.Seq.{drop-cons, getD-drop}
 use borrow.Author.Tests.{eqb-true, eq-eqb}
 use Rattle.parse.specs.Logic.{if_then_else_}
 use Rattle.nal.specs.StartCode.{isStartCode, scan}
-use Rattle.parse.proofs.General.{and-true}
+use Rattle.parse.proofs.General.{both-true}
 
 -- the bytes 00 00 01 stand in s from place i on
 pub record CodeAt (s : List ℕ) (i : ℕ) : Type 0 where
@@ -48,8 +48,8 @@ code-down x s i c =
 code-here : (x y z : ℕ) (r : List ℕ) → isStartCode x y z ≡ true → CodeAt (x ∷ y ∷ z ∷ r) 0
 unfolding isStartCode
 code-here x y z r e =
-    let p = and-true (eqb z 1) (eqb y 0 && eqb x 0) e in
-    let q = and-true (eqb y 0) (eqb x 0) (p .1) in
+    let p = both-true (eqb z 1) (eqb y 0 && eqb x 0) e in
+    let q = both-true (eqb y 0) (eqb x 0) (p .1) in
     record { inside = omega arith; first = eqb-true x 0 (q .1); second = eqb-true y 0 (q .0); third = eqb-true z 1 (p .0) }
 
 code-test : (x y z : ℕ) (r : List ℕ) → CodeAt (x ∷ y ∷ z ∷ r) 0 → isStartCode x y z ≡ true

@@ -2,7 +2,9 @@
 use mathlib.Core.Path.{_≡_, refl}
 use Prim.Native.Nat.{ℕ}
 use native.Mathlib.Omega.{arith}
-use Rattle.parse.specs.Parse.{Parsed, value, refused, bind}
+use Rattle.parse.specs.Parse.{Parsed, value, refused, bind, outcome}
+use mathlib.Core.List.{List, _∷_}
+use Rattle.parse.specs.inner.Walk.{more}
 
 pub bind-bind : {A B C : Type 0} (x : Parsed A) (f : A → ℕ → Parsed B) (g : B → ℕ → Parsed C) → bind (bind x f) g ≡ bind x (λ a q. bind (f a q) g)
 bind-bind (value a q) f g = refl
@@ -23,3 +25,8 @@ same-first (refused e) f g h = refl
 pub into-section : {A B C : Type 0} (x : Parsed A) (h : A → ℕ → Parsed C) (f : A → ℕ → Parsed B) (g : B → ℕ → Parsed C) → ((a : A) (q : ℕ) → h a q ≡ bind (f a q) g) → bind x h ≡ bind (bind x f) g
 into-section (value a q) h f g e = e a q
 into-section (refused r) h f g e = refl
+
+-- one value read before a list of others: what the outcome is
+pub outcome-more : {A : Type 0} (a : A) (x : Parsed (List A)) → outcome (bind x (λ rest r. value (a ∷ rest) r)) ≡ more a (outcome x)
+outcome-more a (value xs q) = refl
+outcome-more a (refused e) = refl

@@ -2,3 +2,5 @@ pub mod Many
 pub mod Lent
 pub mod Binds
 pub mod General
+pub mod Output
+pub mod Zeros

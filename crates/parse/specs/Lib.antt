@@ -3,3 +3,4 @@ pub mod Outcome
 pub mod Parse
 pub mod Steps
 pub mod Answers
+pub mod inner

@@ -21,7 +21,7 @@ use Rattle.expand.specs.Expand.{Picture, FullHead, expandedHead, withList, toFu
 use Rattle.ptl.proofs.Examples.{ptlOfP}
 use Rattle.path.specs.Still.{Clean, AtMostOne, unitsIn, Still}
 use Rattle.boxes.specs.Bytes.{AllBytes}
-use Rattle.parse.proofs.General.{and-true}
+use Rattle.parse.proofs.General.{both-true}
 
 unfoldable pub allBytes : List ℕ → Bool
 allBytes [] = true
@@ -30,8 +30,8 @@ allBytes (x ∷ s) = ltb x 256 && allBytes s
 bytes-of : (s : List ℕ) → allBytes s ≡ true → AllBytes s
 unfolding allBytes
 bytes-of [] e i = omega arith
-bytes-of (x ∷ s) e zero = ltb-true x 256 (and-true (ltb x 256) (allBytes s) e .0)
-bytes-of (x ∷ s) e (suc i) = bytes-of s (and-true (ltb x 256) (allBytes s) e .1) i
+bytes-of (x ∷ s) e zero = ltb-true x 256 (both-true (ltb x 256) (allBytes s) e .0)
+bytes-of (x ∷ s) e (suc i) = bytes-of s (both-true (ltb x 256) (allBytes s) e .1) i
 
 -- no unit is empty, contains 00 00 01 or ends in 00: the unit check
 unfoldable pub allChecked : List (List ℕ) → Bool
@@ -41,8 +41,8 @@ allChecked (v ∷ us) = unitChecked v && allChecked us
 splits-at : (us : List (List ℕ)) → allChecked us ≡ true → (k : ℕ) → k < length us → Splittable (getD us k [])
 unfolding allChecked
 splits-at [] e k h = absurd (omega arith)
-splits-at (v ∷ us) e zero h = checked-splittable v (and-true (unitChecked v) (allChecked us) e .0)
-splits-at (v ∷ us) e (suc k) h = splits-at us (and-true (unitChecked v) (allChecked us) e .1) k (omega arith)
+splits-at (v ∷ us) e zero h = checked-splittable v (both-true (unitChecked v) (allChecked us) e .0)
+splits-at (v ∷ us) e (suc k) h = splits-at us (both-true (unitChecked v) (allChecked us) e .1) k (omega arith)
 
 pub clean-of : (v : List ℕ) → Splittable v → Clean v
 clean-of v s = record { free = λ i a b c d. s .free i (record { inside = a; first = b; second = c; third = d }); ends = λ _. s .ends }

@@ -21,7 +21,8 @@ use Rattle.ptl.specs.declared.bits.General.{General}
 use Rattle.ptl.specs.declared.constraints.Constraints.{Constraints}
 use Rattle.ptl.specs.declared.sublayers.Sublayers.{Sublayers}
 use Rattle.ptl.specs.declared.sub_profiles.SubProfiles.{SubProfiles}
-use Rattle.ptl.specs.inner.Answers.{ptlBitsOf, orZeroPtl}
+use Rattle.ptl.specs.inner.Answers.{ptlBitsOf}
+use Rattle.parse.specs.inner.Answers.{orZeros}
 
 -- one section after the other
 abbrev pub inSections : ℕ → List ℕ → ℕ → Parsed VvcPtlRecord
@@ -45,10 +46,10 @@ module _ (s : List ℕ) (m : ℕ) (prior r₁ r₂ r₃ r₄ : BitsRead) (g : Ge
       ∙ bind-next-part prior r₁ _ g _ h₁ ∙ bind-next-part r₁ r₂ _ c _ h₂ ∙ bind-next-part r₂ r₃ _ l _ h₃ ∙ bind-next-part r₃ r₄ _ v _ h₄
 
   -- the last is refused, or all four were read
-  pub whole-refused : {r : PtlBits} {e : Refusal} → r ≡ record { answer = r₄; ptl = zeroPtl } → r₄ ≡ Refused e → ptlBitsOf r ≡ orZeroPtl said
+  pub whole-refused : {r : PtlBits} {e : Refusal} → r ≡ record { answer = r₄; ptl = zeroPtl } → r₄ ≡ Refused e → ptlBitsOf r ≡ orZeros zeroPtl said
   whole-refused h k = rw (h, whole, k)
 
-  pub whole-read : {w : VvcPtlRecord} {n : ℕ} {q : BitPosition} → w ≡ ptlOfSections m g c l v → r₄ ≡ Value n q → (partAfter r₄ w, w) ≡ orZeroPtl said
+  pub whole-read : {w : VvcPtlRecord} {n : ℕ} {q : BitPosition} → w ≡ ptlOfSections m g c l v → r₄ ≡ Value n q → (partAfter r₄ w, w) ≡ orZeros zeroPtl said
   whole-read h k = rw (whole, k, h)
 
 -- ---- the first-read section ends two bytes on
@@ -79,9 +80,9 @@ general-place s prior (Value v q) g e h =
 general-place s prior (Refused d) g e h = refl
 
 -- ---- what a PTL's answer says, without the zeros beside a refusal
-pub ptl-part : (r : PtlBits) (x : Parsed VvcPtlRecord) → ptlBitsOf r ≡ orZeroPtl x → partAfter (r .answer) (r .ptl) ≡ x
+pub ptl-part : (r : PtlBits) (x : Parsed VvcPtlRecord) → ptlBitsOf r ≡ orZeros zeroPtl x → partAfter (r .answer) (r .ptl) ≡ x
 ptl-part r x h = ap (λ w. w .0) h ∙ said-of x
   where
-    said-of : (y : Parsed VvcPtlRecord) → orZeroPtl y .0 ≡ y
+    said-of : (y : Parsed VvcPtlRecord) → orZeros zeroPtl y .0 ≡ y
     said-of (value p q) = refl
     said-of (refused e) = refl

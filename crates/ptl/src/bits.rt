@@ -16,7 +16,8 @@ ghost use Rattle.parse.specs.Parse.{bind};
 ghost use Rattle.bit_reader.specs.inner.Answers.{parsed, placeIn, partAfter};
 ghost use Rattle.ptl.specs.Ptl.{profileTierLevel, zeroPtl};
 ghost use Rattle.ptl.specs.inner.Sections.{general, ptlOfSections};
-ghost use Rattle.ptl.specs.inner.Answers.{ptlBitsOf, orZeroPtl};
+ghost use Rattle.ptl.specs.inner.Answers.{ptlBitsOf};
+ghost use Rattle.parse.specs.inner.Answers.{orZeros};
 
 // Profile, tier and level of the whole stream.
 pub struct General {
@@ -104,7 +105,7 @@ fn no_ptl(answer: BitsRead) -> PtlBits
 // profile_tier_level( 1, max_sublayers_minus1 ) after a read that ends at a whole byte. Refusals: that read's, then 11.
 pub fn parse_ptl(rbsp: &[u8], prior: BitsRead, max_sublayers_minus1: u8) -> PtlBits
     requires { ⌜ (length (now rbsp) ≤ 2 ^ 20) × (placeIn prior % 8 ≡ 0) × («max_sublayers_minus1» ≤ 7) ⌝ }
-    ensures { λ r. ⌜ ptlBitsOf r ≡ orZeroPtl (bind (parsed prior) (λ _ q. profileTierLevel «max_sublayers_minus1» (now (rbsp .entry)) q)) ⌝ }
+    ensures { λ r. ⌜ ptlBitsOf r ≡ orZeros zeroPtl (bind (parsed prior) (λ _ q. profileTierLevel «max_sublayers_minus1» (now (rbsp .entry)) q)) ⌝ }
 {
     let m = max_sublayers_minus1 as usize;
     let g = read_general(rbsp, prior);

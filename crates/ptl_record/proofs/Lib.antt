@@ -3,5 +3,4 @@ pub mod Writing
 pub mod Standing
 pub mod AsWritten
 pub mod RoundTrip
-pub mod Answers
 pub mod Examples

@@ -1,7 +1,7 @@
 -- Laws of the bytes of a PTL record: their parts one by one, and their lengths.
 use Prim.Native.Nat.{ℕ, zero, suc, _+_, _-_, _*_, _%_, _≤_, _<_}
 use mathlib.Core.Path.{_≡_, refl}
-use mathlib.Core.Bool.{Bool, true, false, _&&_}
+use mathlib.Core.Bool.{Bool, true, false}
 use mathlib.Core.List.{List, [], _∷_, _++_}
 use native.Mathlib.Omega.{arith}
 use native.Mathlib.Decide.{decLe}
@@ -11,10 +11,10 @@ use lib.Seq.{sets, length-take-le}
 use borrow.Author.Tests.{leb-true, eq-eqb, ne-eqb}
 use Rattle.parse.specs.Logic.{if_then_else_, bit}
 use Rattle.boxes.proofs.Numbers.{length-toBe}
-use Rattle.boxes.proofs.Sets.{sets-append}
 use Rattle.ptl.specs.declared.VvcPtlRecord.{VvcPtlRecord}
 use Rattle.ptl_record.specs.Write.{constraintInfo, withFlags, hasLevel, flagByte, levelBytes, levelPart, subProfileBytes, ptlBytes, ptlFits}
 use Rattle.ptl_record.specs.inner.Places.{oneLevel, frontBytes}
+use Rattle.parse.proofs.General.{both-true, sets-append}
 
 -- one run after another, its place given
 pub sets-then : (d : List ℕ) (i k : ℕ) (xs ys : List ℕ) → k ≡ i + length xs → sets (sets d i xs) k ys ≡ sets d i (xs ++ ys)
@@ -90,16 +90,12 @@ pub record Fitting (p : VvcPtlRecord) : Type 0 where
   pub levels : p .«num_sublayer_levels» ≤ 7
   pub subs : p .«num_sub_profiles» ≤ 255
 
-both : (a b : Bool) → a && b ≡ true → (a ≡ true) × (b ≡ true)
-both true b e = (refl, e)
-both false b e = let z : _≡_ {A = ℕ} 0 1 = cc in absurd (omega arith)
-
 pub fitting : (p : VvcPtlRecord) → ptlFits p ≡ true → Fitting p
 unfolding ptlFits
 fitting p e =
-    let a = both (leb (p .«general_profile_idc») 127) _ e in
-    let b = both (leb (p .«num_bytes_constraint_info») 63) _ (a .1) in
-    let c = both (leb (p .«num_sublayer_levels») 7) _ (b .1) in
+    let a = both-true (leb (p .«general_profile_idc») 127) _ e in
+    let b = both-true (leb (p .«num_bytes_constraint_info») 63) _ (a .1) in
+    let c = both-true (leb (p .«num_sublayer_levels») 7) _ (b .1) in
     record { profile = leb-true _ _ (a .0); info = leb-true _ _ (b .0); levels = leb-true _ _ (c .0); subs = leb-true _ _ (c .1) }
 
 -- ---- the whole record

@@ -12,11 +12,11 @@ ghost use Prim.Native.Nat.{_+_, _*_, _%_, _^_, _≤_, _<_};
 ghost use lib.ListN.{length, getD, take, drop};
 ghost use Rattle.parse.specs.Parse.{refused as refusedBy};
 ghost use Rattle.error.specs.Refusals.{numberOf};
-ghost use Rattle.ptl.specs.Ptl.{padded, presentFlags, withoutFlags};
+ghost use Rattle.ptl.specs.Ptl.{padded, presentFlags, withoutFlags, zeroPtl};
 ghost use Rattle.ptl_record.specs.inner.Answers.{ptlRecordOf};
 ghost use Rattle.ptl_record.specs.Read.{vvcPtlRecord};
 ghost use Rattle.ptl_record.specs.inner.Places.{words, levelsLen, levelIf, levelsAt, flagsAt, levelsStart, ptlEnd, ptlFields};
-ghost use Rattle.ptl.specs.inner.Answers.{orZeroPtl};
+ghost use Rattle.parse.specs.inner.Answers.{orZeros};
 
 // The levels of the sublayers with their flags, and the place after them.
 pub struct SublayerLevels {
@@ -133,7 +133,7 @@ fn ptl_fields(s: &[u8], at: usize, n: usize, m: usize, levels: SublayerLevels) -
 
 // A refusal, with zeros.
 fn refused(e: Refusal) -> PtlRecordRead
-    ensures { λ r. ⌜ ptlRecordOf r ≡ orZeroPtl (refusedBy (numberOf e)) ⌝ }
+    ensures { λ r. ⌜ ptlRecordOf r ≡ orZeros zeroPtl (refusedBy (numberOf e)) ⌝ }
 {
     let ptl = bits::zero_ptl();
     let answer = PtlRecordAnswer::Refused(e);
@@ -146,7 +146,7 @@ fn refused(e: Refusal) -> PtlRecordRead
 // What follows the first byte of the record at a place, which told of n constraint bytes. Refusal: 1.
 fn read_after(s: &[u8], at: usize, n: usize, sublayers: u8) -> PtlRecordRead
     requires { ⌜ (length (now s) ≤ 2 ^ 30) × (at < length (now s)) × (sublayers ≤ 7) × (n ≡ getD (now s) at 0 % 64) × (0 < n) ⌝ }
-    ensures { λ r. ⌜ ptlRecordOf r ≡ orZeroPtl (vvcPtlRecord sublayers (now (s .entry)) at) ⌝ }
+    ensures { λ r. ⌜ ptlRecordOf r ≡ orZeros zeroPtl (vvcPtlRecord sublayers (now (s .entry)) at) ⌝ }
 {
     let after = at + 3 + n;
     let flags = flags_at(sublayers, s, after);
@@ -170,7 +170,7 @@ fn read_after(s: &[u8], at: usize, n: usize, sublayers: u8) -> PtlRecordRead
 // The PTL record at a place, for so many sublayers. Refusals in byte order: 1, 2 for a constraint length of 0.
 pub fn read_ptl(s: &[u8], at: usize, sublayers: u8) -> PtlRecordRead
     requires { ⌜ (length (now s) ≤ 2 ^ 30) × (sublayers ≤ 7) ⌝ }
-    ensures { λ r. ⌜ ptlRecordOf r ≡ orZeroPtl (vvcPtlRecord sublayers (now (s .entry)) at) ⌝ }
+    ensures { λ r. ⌜ ptlRecordOf r ≡ orZeros zeroPtl (vvcPtlRecord sublayers (now (s .entry)) at) ⌝ }
 {
     if s.len() <= at {
         return refused(Refusal::Truncated);

@@ -21,7 +21,7 @@ use Rattle.unit_list.proofs.Arrays.{Sound, sound-none, sound-more, be-one}
 use Rattle.unit_list.proofs.Encode.{placedUnits, length-toChunk}
 use Rattle.record_arrays.specs.Read.{holdsOne, recordArray}
 use Rattle.record_arrays.specs.Write.{arrayBytes, arraysBytes, unitsFit, arrayFits, arraysFit}
-use Rattle.parse.proofs.General.{and-true}
+use Rattle.parse.proofs.General.{both-true}
 
 -- one byte that follows others
 pub byte-there : (s pre post : List ℕ) (b p : ℕ) → s ≡ pre ++ (b ∷ post) → length pre ≡ p → uint 1 s p ≡ value b (p + 1)
@@ -78,7 +78,7 @@ module _ (w : ℕ) (s : List ℕ) where
 fits-below : (us : List (List ℕ)) → unitsFit us ≡ true → Below 2 [] us
 unfolding unitsFit
 fits-below [] e = tt
-fits-below (u ∷ us) e = let r = and-true _ _ e in (omega (arith, leb-true (length u) 65535 (r .0)), fits-below us (r .1))
+fits-below (u ∷ us) e = let r = both-true _ _ e in (omega (arith, leb-true (length u) 65535 (r .0)), fits-below us (r .1))
 
 -- what comes before an array's units
 abbrev countPart : Array (List ℕ) → List ℕ
@@ -109,7 +109,7 @@ module _ (s : List ℕ) (a : Array (List ℕ)) (pre post : List ℕ) (p : ℕ) (
 
   all-fit : (leb (length (a .units)) 65535 ≡ true) × (unitsFit (a .units) ≡ true) × ((if holdsOne (a .unitType) then eqb (length (a .units)) 1 else true) ≡ true)
   unfolding arrayFits
-  all-fit = let r = and-true _ _ fits in let q = and-true _ _ (r .1) in (r .0, q .0, q .1)
+  all-fit = let r = both-true _ _ fits in let q = both-true _ _ (r .1) in (r .0, q .0, q .1)
 
   units-there : times (length (a .units)) (chunk 2) s (p + 1 + length (countPart a)) ≡ value (placedUnits 2 (p + 1 + length (countPart a)) (a .units)) (p + 1 + length (countPart a) + length (encodeUnits 2 (a .units)))
   units-there = units-read 2 s (a .units) (pre ++ (firstByte a ∷ countPart a)) post _ split-units before-units (fits-below (a .units) (all-fit .1))
@@ -154,7 +154,7 @@ module _ (s : List ℕ) where
   arrays-read sound-none pre post p e l fits = times-nil recordArray s p ∙ ap (value []) (omega arith)
   arrays-read (sound-more {a = a} {xs = xs} one small h) pre post p e l fits =
       let g = next-arrays a xs pre post e in
-      let f = and-true _ _ fits in
+      let f = both-true _ _ fits in
       let m : length (pre ++ arrayBytes a) ≡ p + length (arrayBytes a) = omega (arith, length-append pre (arrayBytes a)) in
       let z : p + length (arrayBytes a) + length (arraysBytes xs) ≡ p + length (arrayBytes a ++ arraysBytes xs) =
       omega (arith, length-append (arrayBytes a) (arraysBytes xs)) in
@@ -167,6 +167,6 @@ module _ (s : List ℕ) where
   arrays-held sound-none pre post p e l fits = refl
   arrays-held (sound-more {a = a} {xs = xs} one small h) pre post p e l fits =
       let g = next-arrays a xs pre post e in
-      let f = and-true _ _ fits in
+      let f = both-true _ _ fits in
       let m : length (pre ++ arrayBytes a) ≡ p + length (arrayBytes a) = omega (arith, length-append pre (arrayBytes a)) in
       rw (array-held s a pre (arraysBytes xs ++ post) p g l one small (f .0), arrays-held h (pre ++ arrayBytes a) post (p + length (arrayBytes a)) (g ∙ sym (append-assoc pre (arrayBytes a) (arraysBytes xs ++ post))) m (f .1))

@@ -9,7 +9,7 @@ use Rattle.parse.specs.Outcome.{Outcome, accept, refuse, lentOutput}
 use Rattle.parse.specs.Parse.{Parsed, value, refused, times}
 use Rattle.boxes.specs.declared.Span.{Span}
 use Rattle.boxes.proofs.Fields.{uint-short}
-use Rattle.boxes.proofs.Output.{output-short, output-fits}
+use Rattle.parse.proofs.Output.{output-short, output-fits}
 use Rattle.unit_list.specs.UnitList.{Array, encode, heldArrays}
 use Rattle.record_arrays.specs.Read.{recordArray}
 use Rattle.record_arrays_read.specs.inner.Arrays.{countedArrays, listGiven, arraysInList, roomTaken, storedBytes, Stores}

@@ -1,10 +1,10 @@
 -- Laws of the arrays of a record and of their units: what comes before the units, one array measured and stored, and the bytes of many.
-use Prim.Native.Nat.{ℕ, suc, _+_, _-_, _/_, _%_, _≤_, _<_}
+use Prim.Native.Nat.{ℕ, _+_, _-_, _/_, _%_, _≤_, _<_}
 use mathlib.Core.Path.{_≡_, refl, sym, ap, _∙_, subst}
 use mathlib.Core.Bool.{Bool, true, false}
 use mathlib.Core.List.{List, [], _∷_, _++_, append-assoc}
 use native.Mathlib.Omega.{arith}
-use lib.ListN.{length, getD, take, set, length-append}
+use lib.ListN.{length, getD, take, length-append}
 use lib.Seq.{sets, length-sets, take-length}
 use Rattle.parse.specs.Logic.{if_then_else_}
 use Rattle.parse.specs.Parse.{Parsed, value, refused, bind, give, times}
@@ -12,7 +12,6 @@ use Rattle.boxes.specs.Bytes.{be, uint, chunk, toBe, toChunk}
 use Rattle.boxes.specs.Parts.{held}
 use Rattle.boxes.specs.declared.Span.{Span}
 use Rattle.boxes.proofs.Numbers.{length-toBe}
-use Rattle.boxes.proofs.Sets.{sets-append, set-before}
 use Rattle.boxes.proofs.Fields.{uint-there, uint-short, chunk-read}
 use Rattle.unit_list.specs.UnitList.{Array, encodeUnits, encodeArray, encodeArrays}
 use Rattle.unit_list.specs.inner.Walk.{chunkStepped}
@@ -29,6 +28,7 @@ use Rattle.record_arrays_read.specs.declared.ArrayHeadRead.{ArrayHeadRea
 use Rattle.record_arrays_read.specs.declared.ArrayHeadRead.the-variants as A
 use Rattle.record_arrays_read.specs.declared.list.Stored.{Stored}
 use Rattle.record_arrays.specs.inner.Counts.{countLen}
+use Rattle.parse.proofs.General.{sets-append, sets-before}
 
 -- a byte that is there
 pub byte-read : (s : List ℕ) (p : ℕ) → p < length s → uint 1 s p ≡ value (getD s p 0) (p + 1)
@@ -162,12 +162,6 @@ array-long : (s : List ℕ) (h : ArrayHead) (us : List Span) → length (arrayIn
 array-long s h us =
     let l = head-long h (2 + length (unitsInList s us)) in
     ap length (array-bytes s h us) ∙ length-append (headBytes h (2 + length (unitsInList s us))) (unitsInList s us) ∙ omega arith
-
--- a run after another may be stored before it
-sets-before : (d : List ℕ) (i j : ℕ) (xs ys : List ℕ) → i + length xs ≤ j → sets (sets d j ys) i xs ≡ sets (sets d i xs) j ys
-sets-before d i j xs [] h = refl
-sets-before d i j xs (y ∷ ys) h =
-    sets-before (set d j y) i (suc j) xs ys (omega arith) ∙ ap (λ (l : List ℕ). sets l (suc j) ys) (set-before d i j y xs h)
 
 module _ (s : List ℕ) (p : ℕ) where
   pub array-refused : (e : ℕ) → arrayHead s p ≡ refused e → recordArray s p ≡ refused e

@@ -7,12 +7,12 @@ use native.Mathlib.Omega.{arith}
 use lib.ListN.{length, length-append}
 use lib.Seq.{sets, length-sets}
 use Rattle.parse.specs.Parse.{Parsed, value, refused, bind, Parser, times}
-use Rattle.boxes.proofs.Sets.{sets-append}
 use Rattle.parse.proofs.Many.{times-nil, times-step, times-bad}
 use Rattle.record_arrays_read.specs.inner.Arrays.{listRoomOf, RoomFits, roomTaken, storedBytes, placeAfter, Stores, StoredAt}
 use Rattle.record_arrays_read.specs.declared.room.ListRoom.{ListRoom}
 use Rattle.record_arrays_read.specs.declared.room.ListRoom.the-variants as M
 use Rattle.record_arrays_read.specs.declared.list.Stored.{Stored}
+use Rattle.parse.proofs.General.{sets-append}
 
 -- what a measurement says
 module _ {A : Type 0} (f : List ℕ → A → List ℕ) (s : List ℕ) where

@@ -1,7 +1,7 @@
 -- Laws of measuring: what is measured and what is left make the whole, for the units of an array and for arrays.
 use Prim.Native.Nat.{ℕ, _+_, _-_, _*_, _^_, _≤_, _<_}
 use mathlib.Core.Path.{_≡_, refl, sym, ap, _∙_, subst}
-use mathlib.Core.Bool.{Bool, true, false, _&&_}
+use mathlib.Core.Bool.{Bool, true, false, _&&_, and-assoc}
 use mathlib.Core.List.{List, [], _∷_, _++_, map}
 use native.Mathlib.Omega.{arith}
 use lib.ListN.{length, length-append}
@@ -26,9 +26,8 @@ use Rattle.record_arrays_write.specs.inner.Measures.{joined, nothing, un
 use Rattle.record_arrays_write.specs.declared.measure.Measure.{Measure}
 use Rattle.record_arrays_write.specs.declared.measure.ArrayMeasured.{ArrayMeasured}
 use Rattle.record_arrays_write.specs.declared.measure.ArrayMeasured.the-variants as R
-use Rattle.boxes.specs.inner.Walk.{more}
 use Rattle.record_arrays.specs.inner.Counts.{countLen}
-use Rattle.parse.proofs.General.{and-assoc}
+use Rattle.parse.specs.inner.Walk.{more}
 
 and-yes : (b : Bool) → b && true ≡ b
 and-yes true = refl

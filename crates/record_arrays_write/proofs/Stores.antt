@@ -14,7 +14,6 @@ use Rattle.parse.specs.Outcome.{Outcome, accept, refuse, andThen}
 use Rattle.boxes.specs.Bytes.{toBe, toChunk}
 use Rattle.boxes.specs.Parts.{held}
 use Rattle.boxes.specs.declared.Span.{Span}
-use Rattle.boxes.proofs.Sets.{sets-append}
 use Rattle.unit_list.specs.UnitList.{Array, largestType, encodeUnits, heldArray}
 use Rattle.unit_list.specs.inner.Walk.{arrayUnitsFrom, unitsStepped, UnitStepFits, arraysFrom, arraysStepped, ArrayStepFits, Fits}
 use Rattle.unit_list.specs.declared.ListCursor.{ListCursor}
@@ -28,10 +27,12 @@ use Rattle.unit_list.proofs.Encode.{length-toChunk}
 use Rattle.unit_list.proofs.Accepted.{held-long}
 use Rattle.record_arrays.specs.Read.{holdsOne}
 use Rattle.record_arrays.specs.Write.{arrayBytes, arraysBytes}
-use Rattle.record_arrays_write.specs.inner.Measures.{unitsMeasure, measuredBy, Puts, bytesOf, unitsInRecord, countBytes, arrayInRecord, arraysInRecord}
+use Rattle.record_arrays_write.specs.inner.Measures.{unitsMeasure, measuredBy, unitsInRecord, countBytes, arrayInRecord, arraysInRecord}
 use Rattle.record_arrays_write.specs.declared.measure.Measure.{Measure}
 use Rattle.record_arrays_write.proofs.Measures.{ahead, units-next, entered, arrayWith}
-use Rattle.boxes.specs.inner.Walk.{more}
+use Rattle.parse.specs.inner.Walk.{more}
+use Rattle.parse.specs.inner.Stores.{Puts, bytesOf}
+use Rattle.parse.proofs.General.{sets-append}
 
 -- what is to be put, once it is known what was found
 pub put-room : {A : Type 0} (f : A → List ℕ) (o : Outcome A) (out : List ℕ) (to : ℕ) → Puts f o out to → to + length (bytesOf f o) ≤ length out

@@ -13,7 +13,8 @@ ghost use lib.ListN.{length};
 ghost use lib.Seq.{sets};
 ghost use Rattle.unit_list.specs.UnitList.{largestType};
 ghost use Rattle.unit_list.specs.inner.Walk.{Fits, arrayUnitsFrom, arraysFrom};
-ghost use Rattle.record_arrays_write.specs.inner.Measures.{Puts, bytesOf, unitsInRecord, countBytes, arrayInRecord, arraysInRecord};
+ghost use Rattle.record_arrays_write.specs.inner.Measures.{unitsInRecord, countBytes, arrayInRecord, arraysInRecord};
+ghost use Rattle.parse.specs.inner.Stores.{Puts, bytesOf};
 
 // Stores the units after a cursor, up to the end of its array, and gives the place after them.
 fn put_units(list: &[u8], c: ListCursor, out: &mut [u8], to: usize) -> usize

@@ -13,7 +13,7 @@ use borrow.Author.Tests.{le-leb, lt-leb, eq-eqb, ne-eqb, lt-ltb, le-ltb, eqb-fal
 use Rattle.parse.specs.Outcome.{Outcome, accept, refuse}
 use Rattle.error.specs.Refusals.{numberOf}
 use Rattle.error.specs.declared.Refusal.{Refusal}
-use Rattle.parse.specs.Parse.{Parsed, value, refused, bind, many, outcome}
+use Rattle.parse.specs.Parse.{Parsed, value, refused, many}
 use Rattle.boxes.specs.Bytes.{be, outside}
 use Rattle.boxes.specs.Walk.{countFound}
 use Rattle.boxes.specs.declared.Span.{Span}
@@ -28,8 +28,9 @@ use types.Run.{OneOf}
 use denote.Enum.Declared.{tagOf}
 use Rattle.split.proofs.NextUnit.{the-type}
 use Rattle.split.proofs.Spans.{Apart}
-use Rattle.boxes.specs.inner.Walk.{more}
 use Rattle.split.specs.inner.Walk.{itemUnitsFrom, UnitAhead, Onward}
+use Rattle.parse.specs.inner.Walk.{more}
+use Rattle.parse.proofs.Binds.{outcome-more}
 
 -- ### the unit at a place
 
@@ -99,10 +100,6 @@ pub unit-advances : (size : ℕ) (s : List ℕ) → Advances (itemUnit size) s
 unit-advances size s p a q e = let r = unit-read size s p a q e in omega arith
 
 -- ### the walk from a place
-
-outcome-more : (a : Span) (x : Parsed (List Span)) → outcome (bind x (λ rest r. value (a ∷ rest) r)) ≡ more a (outcome x)
-outcome-more a (value xs p) = refl
-outcome-more a (refused e) = refl
 
 module _ (size : ℕ) (s : List ℕ) where
   pub left-end : (p : ℕ) → length s ≤ p → itemUnitsFrom size s p ≡ accept []

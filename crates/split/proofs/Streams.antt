@@ -25,8 +25,8 @@ use Rattle.split.specs.declared.NextUnit.{NextUnit}
 use Rattle.split.specs.declared.NextUnit.the-variants as N
 use Rattle.split.proofs.Spans.{Apart}
 use Rattle.split.proofs.Trim.{trim-le}
-use Rattle.boxes.specs.inner.Walk.{more}
 use Rattle.split.specs.inner.Walk.{UnitAhead}
+use Rattle.parse.specs.inner.Walk.{more}
 
 scan-nil : scan [] ≡ 0
 unfolding scan

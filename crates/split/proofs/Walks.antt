@@ -7,7 +7,7 @@ use Rattle.parse.specs.Outcome.{Outcome, accept, refuse}
 use Rattle.boxes.specs.Walk.{countFound, found}
 use Rattle.boxes.specs.declared.Span.{Span}
 use Rattle.boxes.proofs.Walk.{plus, total, count-more, found-here, found-next}
-use Rattle.boxes.specs.inner.Walk.{more}
+use Rattle.parse.specs.inner.Walk.{more}
 
 -- counting, with n counted before and t to be answered
 module _ (n : ℕ) (t : Outcome ℕ) (o : Outcome (List Span)) (whole : plus n (countFound o) ≡ t) where

@@ -8,9 +8,8 @@ use mathlib.Core.List.{List}
 use lib.Dec.{leb}
 use lib.ListN.{length, take, drop, length-append}
 use lib.Seq.{take-at}
-use borrow.Author.Tests.{le-leb}
 use Rattle.parse.specs.Logic.{if_then_else_}
-use Rattle.parse.specs.Outcome.{Outcome, accept, refuse, andThen, overlay, lentOutput, counted, handsBack}
+use Rattle.parse.specs.Outcome.{Outcome, accept, refuse, andThen, lentOutput, counted, handsBack}
 use Rattle.parse.specs.Parse.{outcome}
 use Rattle.boxes.specs.Walk.{countFound}
 use Rattle.boxes.specs.declared.Span.{Span}
@@ -26,6 +25,7 @@ use Rattle.still.specs.Stills.{stillRecord, streamWith, anyPicture, stil
 use Rattle.still.specs.inner.Steps.{ReadFrom, ExpandedFrom, recordFrom, streamExpanded, streamFrom}
 use Rattle.still.proofs.Lists.{list-short, expanded-short, expanded-count}
 use Rattle.boxes.specs.Bytes.{AllBytes}
+use Rattle.parse.proofs.Output.{output-accepted, output-not-accepted}
 
 module _ {A : Type 0} (o : Outcome (A × List ℕ)) (out : List ℕ) (fits : (a : A) (b : List ℕ) → o ≡ accept (a, b) → length b ≤ length out) where
   -- what was accepted: the bytes, which stand at the front
@@ -35,50 +35,19 @@ module _ {A : Type 0} (o : Outcome (A × List ℕ)) (out : List ℕ) (fits : (a 
     pub front : take (length bytes) after ≡ bytes
     pub within : length bytes ≤ length after
 
-  abbrev kept : A → List ℕ → Bool → Outcome A × List ℕ
-  kept a b x = if_then_else_ {A = Outcome A × List ℕ} x (accept a, overlay b out) (refuse 20, out)
-
-  room-for : (a : A) (b : List ℕ) → o ≡ accept (a, b) → lentOutput o out ≡ (accept a, overlay b out)
-  room-for a b e = rw e (ap (kept a b) (le-leb (length b) (length out) (fits a b e)))
-
   pub stored : (a : A) (after : List ℕ) → _≡_ {A = Outcome A × List ℕ} (accept a, after) (lentOutput o out) → Stored a after
-  stored a after e = go o refl
-    where
-      here : (x : A) (b : List ℕ) → o ≡ accept (x, b) → Stored a after
-      here x b f =
-          let p : _≡_ {A = Outcome A × List ℕ} (accept a, after) (accept x, overlay b out) = e ∙ room-for x b f in
-          let q : _≡_ {A = Outcome A} (accept a) (accept x) = ap (λ (y : Outcome A × List ℕ). y .0) p in
-          let r : after ≡ overlay b out = ap (λ (y : Outcome A × List ℕ). y .1) p in
-          let z : x ≡ a = cc in
-          record {
-            bytes = b;
-            given = f ∙ ap (λ (y : A). accept (y, b)) z;
-            front = ap (take (length b)) r ∙ take-at b (drop (length b) out) (length b) refl;
-            within = rw r (omega (arith, length-append b (drop (length b) out)));
-          }
-
-      go : (x : Outcome (A × List ℕ)) → o ≡ x → Stored a after
-      go (accept y) f = here (y .0) (y .1) f
-      go (refuse n) f =
-          let p : _≡_ {A = Outcome A × List ℕ} (accept a, after) (refuse n, out) = e ∙ ap (λ (y : Outcome (A × List ℕ)). lentOutput y out) f in
-          let q : _≡_ {A = Outcome A} (accept a) (refuse n) = ap (λ (y : Outcome A × List ℕ). y .0) p in
-          let z : _≡_ {A = ℕ} 0 1 = cc in
-          absurd (omega arith)
+  stored a after e =
+      let r = output-accepted o out after a (ap (λ (y : Outcome A × List ℕ). y .0) e) (ap (λ (y : Outcome A × List ℕ). y .1) e) in
+      let b = r .bytes in
+      record {
+        bytes = b;
+        given = r .given;
+        front = ap (take (length b)) (r .holds) ∙ take-at b (drop (length b) out) (length b) refl;
+        within = rw (r .holds) (omega (arith, length-append b (drop (length b) out)));
+      }
 
   pub not-stored : (n : ℕ) (after : List ℕ) → _≡_ {A = Outcome A × List ℕ} (refuse n, after) (lentOutput o out) → o ≡ refuse n
-  not-stored n after e = go o refl
-    where
-      go : (x : Outcome (A × List ℕ)) → o ≡ x → o ≡ refuse n
-      go (accept y) f =
-          let p : _≡_ {A = Outcome A × List ℕ} (refuse n, after) (accept (y .0), overlay (y .1) out) = e ∙ room-for (y .0) (y .1) f in
-          let q : _≡_ {A = Outcome A} (refuse n) (accept (y .0)) = ap (λ (y : Outcome A × List ℕ). y .0) p in
-          let z : _≡_ {A = ℕ} 0 1 = cc in
-          absurd (omega arith)
-      go (refuse m) f =
-          let p : _≡_ {A = Outcome A × List ℕ} (refuse n, after) (refuse m, out) = e ∙ ap (λ (y : Outcome (A × List ℕ)). lentOutput y out) f in
-          let q : _≡_ {A = Outcome A} (refuse n) (refuse m) = ap (λ (y : Outcome A × List ℕ). y .0) p in
-          let z : m ≡ n = cc in
-          f ∙ ap refuse z
+  not-stored n after e = output-not-accepted o out n fits (ap (λ (y : Outcome A × List ℕ). y .0) e)
 
 -- ### compact read
 

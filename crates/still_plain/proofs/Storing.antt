@@ -7,7 +7,6 @@ use mathlib.Core.List.{List, [], _++_}
 use lib.ListN.{length, getD, set}
 use lib.Seq.{sets}
 use Rattle.boxes.specs.Bytes.{toBe}
-use Rattle.boxes.proofs.Sets.{sets-append}
 use Rattle.nal.specs.Header.{nalHeader}
 use Rattle.compact.specs.ItemData.{stillUnit}
 use Rattle.access_unit.specs.AccessUnit.{startCode}
@@ -17,6 +16,7 @@ use Rattle.access_unit_annex_b.specs.inner.Stream.{PutsStream}
 use Rattle.access_unit_annex_b.proofs.Putting.{puts-stream}
 use Rattle.still_measure.specs.inner.Plain.{Listed}
 use Rattle.still_measure.proofs.Streams.{known, front, front-found, front-long, streamBytes}
+use Rattle.parse.proofs.General.{sets-append}
 
 -- the picture's unit stored: the start code, the header's two bytes, the stored bytes
 pub picture-stored : (S out d e f g : List ℕ) (at : ℕ) (header : List ℕ) → header ≡ nalHeader 8 0 1 → d ≡ sets out at (toBe 4 1) → e ≡ set d (at + 4) (getD header 0 0)

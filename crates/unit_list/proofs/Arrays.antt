@@ -15,7 +15,7 @@ use Rattle.boxes.specs.declared.Span.{Span}
 use Rattle.parse.proofs.Many.{Advances, many-nil, many-bad, many-step, many-induction}
 use Rattle.boxes.proofs.Fields.{uint-there, uint-short, chunk-read, chunk-advances}
 use Rattle.unit_list.specs.UnitList.{Array, array, arrayRest, largestType, unitsOf}
-use Rattle.boxes.specs.inner.Walk.{more}
+use Rattle.parse.specs.inner.Walk.{more}
 
 -- each array's complete and type are small
 pub data Sound {U : Type 0} : List (Array U) → Type 0 where

@@ -18,7 +18,7 @@ use Rattle.unit_list.specs.declared.ArrayStep.the-variants as A
 use Rattle.unit_list.specs.declared.ChunkRead.{ChunkRead}
 use Rattle.unit_list.specs.declared.ChunkRead.the-variants as C
 use Rattle.unit_list.proofs.Arrays.{IsRefused, run-nil, run-step, run-refused, array-no-chunk, array-short, array-complete, array-type, arrays-step}
-use Rattle.boxes.specs.inner.Walk.{more}
+use Rattle.parse.specs.inner.Walk.{more}
 
 -- a chunk before an end
 module _ (w : ℕ) (s : List ℕ) (p e : ℕ) (h : e ≤ length s) where

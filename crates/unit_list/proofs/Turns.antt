@@ -25,7 +25,7 @@ use Rattle.unit_list.specs.declared.Wanted.{Wanted}
 use Rattle.unit_list.specs.declared.Wanted.the-variants.{Every}
 use Rattle.unit_list.proofs.ListStep.{the-type}
 use Rattle.unit_list.proofs.Units.{list-every}
-use Rattle.boxes.specs.inner.Walk.{more}
+use Rattle.parse.specs.inner.Walk.{more}
 
 -- the first unit is wanted, or it is not
 module _ (w : Wanted) (x : TypedUnit) where

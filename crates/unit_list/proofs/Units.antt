@@ -10,7 +10,7 @@ use Rattle.boxes.specs.Parts.{held}
 use Rattle.boxes.specs.declared.Span.{Span}
 use Rattle.unit_list.specs.UnitList.{Array, decode, unitsOf, unitsOfType, heldArrays}
 use Rattle.unit_list.specs.Answers.{listUnits, listUnitsOfType}
-use Rattle.unit_list.specs.inner.Walk.{TypedUnit, typed, typedUnits, typedList}
+use Rattle.unit_list.specs.inner.Walk.{TypedUnit, typed, typedUnits}
 use Rattle.unit_list.specs.inner.Find.{wants, wantedUnits, wantedList}
 use Rattle.unit_list.specs.declared.Wanted.{Wanted}
 use Rattle.unit_list.specs.declared.Wanted.the-variants.{Every, OfType}
@@ -51,9 +51,6 @@ lifted : (f : List TypedUnit → List Span) (g : List (Array Span) → List Span
     → andThen (andThen o (λ xs. accept (typedUnits xs))) (λ xs. accept (f xs)) ≡ andThen o (λ xs. accept (g xs))
 lifted f g h (accept xs) = ap accept (h xs)
 lifted f g h (refuse e) = refl
-
-pub list-units : (s : List ℕ) → andThen (typedList s) (λ xs. accept (map (λ (x : TypedUnit). x .unit) xs)) ≡ listUnits s
-list-units s = lifted (λ xs. map (λ (x : TypedUnit). x .unit) xs) unitsOf units-typed (decode s)
 
 pub list-every : (s : List ℕ) → wantedList Every s ≡ listUnits s
 list-every s = lifted (wantedUnits Every) unitsOf wanted-every (decode s)

@@ -7,7 +7,7 @@ use lib.ListN.{length, set}
 use lib.Seq.{sets}
 use Rattle.boxes.specs.Bytes.{toBe, toChunk}
 use Rattle.boxes.proofs.Numbers.{length-toBe}
-use Rattle.boxes.proofs.Sets.{sets-append}
+use Rattle.parse.proofs.General.{sets-append}
 
 -- a number of w bytes, and bytes after it
 sets-after : (d : List ℕ) (p w n : ℕ) (u : List ℕ) → sets (sets d p (toBe w n)) (p + w) u ≡ sets d p (toBe w n ++ u)

@@ -21,8 +21,8 @@ use Rattle.params.specs.Answers.{paramsReadOf}
 use Rattle.params.specs.declared.ParamsAnswer.{ParamsAnswer}
 use Rattle.vps.specs.Vps.{vpsPtl}
 use Rattle.params.specs.inner.Answers.{readOr}
-use Rattle.ptl.specs.inner.Answers.{orZeroPtl}
 use Rattle.vps.specs.inner.Front.{paramsAnswerOf, vpsFront}
+use Rattle.parse.specs.inner.Answers.{orZeros}
 
 -- the front and the PTL make up the VPS
 pub vps-sections : (s : List ℕ) (p : ℕ) → vpsPtl s p ≡ bind (vpsFront s p) (λ m q. profileTierLevel m s q)
@@ -53,12 +53,12 @@ bits-answer : (a : BitsRead) (p : VvcPtlRecord) → paramsReadOf (paramsAnswerOf
 bits-answer (Value v q) p = refl
 bits-answer (Refused e) p = refl
 
-bits-zero : (x : Parsed VvcPtlRecord) → (outcome (orZeroPtl x .0), orZeroPtl x .1) ≡ readOr zeroPtl x
+bits-zero : (x : Parsed VvcPtlRecord) → (outcome (orZeros zeroPtl x .0), orZeros zeroPtl x .1) ≡ readOr zeroPtl x
 bits-zero (value p q) = refl
 bits-zero (refused e) = refl
 
 pub ptl-answered : (s : List ℕ) (f : BitsRead) (m : ℕ) (r : PtlBits) (a : ParamsAnswer) → parsed f ≡ vpsFront s 0 → m ≡ numberIn f → a ≡ paramsAnswerOf (r .answer)
-    → bits.ptlBitsOf r ≡ orZeroPtl (bind (parsed f) (λ _ q. profileTierLevel m s q)) → (paramsReadOf a (r .ptl), r .ptl) ≡ readOr zeroPtl (vpsPtl s 0)
+    → bits.ptlBitsOf r ≡ orZeros zeroPtl (bind (parsed f) (λ _ q. profileTierLevel m s q)) → (paramsReadOf a (r .ptl), r .ptl) ≡ readOr zeroPtl (vpsPtl s 0)
 ptl-answered s f m r a k n e h =
     rw (e, bits-answer (r .answer) (r .ptl), vps-sections s 0, bind-number f (λ m q. profileTierLevel m s q) k, ← n)
     (ap (λ (w : Parsed VvcPtlRecord × VvcPtlRecord). (outcome (w .0), w .1)) h ∙ bits-zero (bind (parsed f) (λ _ q. profileTierLevel m s q)))

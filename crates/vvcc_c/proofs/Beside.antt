@@ -10,7 +10,7 @@ use lib.ListN.{length, take, drop, length-append}
 use lib.Seq.{take-at}
 use borrow.Author.Tests.{le-leb, lt-leb}
 use Rattle.parse.specs.Logic.{if_then_else_}
-use Rattle.parse.specs.Outcome.{Outcome, accept, refuse, andThen, lentOutput, counted, overlay, handsBack}
+use Rattle.parse.specs.Outcome.{Outcome, accept, refuse, andThen, lentOutput, counted, handsBack}
 use Rattle.parse.specs.Parse.{Parsed, value, refused}
 use Rattle.boxes.specs.declared.Span.{Span}
 use Rattle.parse.proofs.Lent.{lent-too-long, lent-within}
@@ -25,30 +25,9 @@ use Rattle.access_unit.specs.AccessUnit.{assemble}
 use Rattle.vvcc_c.specs.Exports.{writtenAnswer, writtenGiven, readBeside, scratchFilled, streamBeside}
 use Rattle.vvcc_c.specs.declared.VvccWritten.{VvccWritten}
 use Rattle.vvcc_c.proofs.Given.{given-refused, given-target}
+use Rattle.parse.proofs.Output.{OutputAccepted, output-accepted}
 
 -- ### a result of bytes in lent memory, and a call that goes on from it
-
--- it was accepted: the bytes fit, and stand in front
-pub record Accepted {A : Type 0} (o : Outcome (A × List ℕ)) (out exit : List ℕ) (a : A) : Type 0 where
-  pub bytes : List ℕ
-  pub given : o ≡ accept (a, bytes)
-  pub fits : length bytes ≤ length out
-  pub holds : exit ≡ overlay bytes out
-
-accepted-bytes : {A : Type 0} (b : A) (bytes out exit : List ℕ) (a : A) → _≡_ {A = Outcome A} (accept a) (lentOutput (accept (b, bytes)) out .0) → exit ≡ lentOutput (accept (b, bytes)) out .1
-    → Accepted (accept (b, bytes)) out exit a
-accepted-bytes {A} b bytes out exit a e f =
-    elim (decLe (length bytes) (length out)) [
-      | yes k ↦ fitting k (e ∙ rw (le-leb (length bytes) (length out) k)) (f ∙ rw (le-leb (length bytes) (length out) k))
-      | no k ↦ absurd (let x : _≡_ {A = Outcome A} (accept a) (refuse 20) = e ∙ rw (lt-leb (length bytes) (length out) (omega arith)) in let z : _≡_ {A = ℕ} 0 1 = cc in omega arith)
-    ]
-  where
-    fitting : length bytes ≤ length out → _≡_ {A = Outcome A} (accept a) (accept b) → exit ≡ overlay bytes out → Accepted (accept (b, bytes)) out exit a
-    fitting k x y = let s : a ≡ b = cc in record { bytes = bytes; given = rw s; fits = k; holds = y }
-
-pub accepted : {A : Type 0} (o : Outcome (A × List ℕ)) (out exit : List ℕ) (a : A) → accept a ≡ lentOutput o out .0 → exit ≡ lentOutput o out .1 → Accepted o out exit a
-accepted (accept (b, bytes)) out exit a e f = accepted-bytes b bytes out exit a e f
-accepted (refuse n) out exit a e f = let z : _≡_ {A = ℕ} 0 1 = cc in absurd (omega arith)
 
 -- what comes after it where the bytes fit the scratch, else 20
 abbrev onward : {A B : Type 0} → Outcome (A × List ℕ) → List ℕ → (A × List ℕ → Outcome B) → Outcome B
@@ -155,8 +134,8 @@ module _ (rec item scratch : List ℕ) (tols : Option ℕ) where
       abbrev parsed : FullParsed
       parsed = record { head = r .head; consumed = q; listLength = n }
 
-      into : Accepted (parseFull rec) scratch exit parsed
-      into = accepted (parseFull rec) scratch exit parsed (sym (ap (λ (x : FullAnswer). fullAnswerOf x (r .head)) is) ∙ answered) left
+      into : OutputAccepted (parseFull rec) scratch exit parsed
+      into = output-accepted (parseFull rec) scratch exit parsed (sym (ap (λ (x : FullAnswer). fullAnswerOf x (r .head)) is) ∙ answered) left
 
       long : n ≡ length (into .bytes)
       long = read-as rec parsed (into .bytes) (into .given) .long

@@ -6,7 +6,7 @@ use Rattle.access_unit.specs.Answers.{tolsOf}
 use Rattle.access_unit.specs.inner.Gathered.{sizesAnswerOf}
 use Rattle.access_unit.specs.declared.sizes.Sizes.{Sizes}
 use Rattle.access_unit.specs.declared.sizes.SizesAnswer.the-variants.{Sized}
-use Rattle.boxes.proofs.Output.{written-refused, written-short, written-fits}
+use Rattle.parse.proofs.Output.{written-refused, written-short, written-fits}
 use Rattle.access_unit.proofs.Gathering.{Known, known, unknown, known-small}
 use Rattle.access_unit.proofs.Answering.{assemble-unknown, Assembled, assemble-known}
 use Rattle.access_unit_annex_b.proofs.Putting.{puts-stream}

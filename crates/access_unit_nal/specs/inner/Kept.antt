@@ -14,7 +14,7 @@ use Rattle.access_unit.specs.inner.Gathered.{keptLeft}
 use Rattle.access_unit.specs.declared.sizes.Sizes.{Sizes}
 use Rattle.access_unit_nal.specs.declared.source.UnitNumber.{UnitNumber}
 use Rattle.access_unit_nal.specs.declared.source.UnitNumber.the-variants as K
-use Rattle.boxes.specs.inner.Walk.{more}
+use Rattle.parse.specs.inner.Walk.{more}
 
 -- what a step to the next kept unit says of those from the place that it started from
 abbrev pub keptStepped : ℕ → Option ℕ → List ℕ → NextUnit → Outcome (List Span)

@@ -6,7 +6,7 @@ use native.Mathlib.Omega.{arith}
 use borrow.Author.Needs.{needs}
 use lib.Seq.{sets}
 use Rattle.boxes.specs.Parts.{held}
-use Rattle.boxes.proofs.Output.{output-refused, output-short, output-fits}
+use Rattle.parse.proofs.Output.{output-refused, output-short, output-fits}
 use Rattle.compact.specs.Compact.{oneArray, parseCompact}
 use Rattle.compact.specs.inner.Units.{recordUnits, configOf}
 use Rattle.compact.proofs.OneArray.{list-long}

@@ -29,11 +29,6 @@ headAnswerOf (H.Refused e) h = refused (numberOf e)
 abbrev pub headReadOf : HeadRead → Parsed VvcConfig × VvcConfig
 headReadOf r = (headAnswerOf (r .answer) (r .head), r .head)
 
--- what was read, with zeros beside a refusal
-abbrev pub orZeroHead : Parsed VvcConfig → Parsed VvcConfig × VvcConfig
-orZeroHead (value h q) = (value h q, h)
-orZeroHead (refused e) = (refused e, zeroHead)
-
 -- the fields under the PTL flag, from the numbers that hold them
 abbrev pub headFields : ℕ → ℕ → ℕ → VvcPtlRecord → ℕ → ℕ → ℕ → VvcConfig
 headFields size w d ptl width height rate = record {

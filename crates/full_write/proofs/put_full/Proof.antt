@@ -2,7 +2,7 @@
 use native.Mathlib.Omega.{arith}
 use borrow.Author.Needs.{needs}
 use Rattle.unit_list.specs.UnitList.{heldArrays}
-use Rattle.boxes.proofs.Output.{written-short, written-fits}
+use Rattle.parse.proofs.Output.{written-short, written-fits}
 use Rattle.full.specs.Write.{fullBytes, serializeFull}
 use Rattle.full_write.proofs.Records.{head-room, arrays-put, record-stored}
 use Rattle.full_write.proofs.put_full.Statement.{statement}

@@ -1,6 +1,6 @@
 -- A record whose size is known is stored; its refusal leaves the output as it is.
 use borrow.Author.Needs.{needs}
-use Rattle.boxes.proofs.Output.{written-refused}
+use Rattle.parse.proofs.Output.{written-refused}
 use Rattle.full.specs.Write.{serializeFull}
 use Rattle.full_write.proofs.Records.{size-refused, size-is}
 use Rattle.full_write.proofs.serialize.Statement.{statement}

@@ -4,7 +4,7 @@ use native.Mathlib.Omega.{arith}
 use borrow.Author.Needs.{needs}
 use lib.Seq.{sets}
 use Rattle.parse.specs.Answers.{countOf}
-use Rattle.boxes.proofs.Output.{written-refused, written-short, written-fits}
+use Rattle.parse.proofs.Output.{written-refused, written-short, written-fits}
 use Rattle.compact.specs.ItemData.{restore}
 use Rattle.item_data.specs.inner.Still.{restoredBytes}
 use Rattle.item_data.proofs.Measured.{MeasuredAs, measured-as, measured-refused}

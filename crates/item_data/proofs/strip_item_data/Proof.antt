@@ -7,7 +7,7 @@ use Rattle.parse.specs.Outcome.{Outcome, accept, lentOutput, counted}
 use Rattle.boxes.specs.Parts.{held}
 use Rattle.compact.specs.ItemData.{strip}
 use Rattle.item_data.specs.inner.Still.{payloadOf, PayloadFits}
-use Rattle.boxes.proofs.Output.{written-refused}
+use Rattle.parse.proofs.Output.{written-refused}
 use Rattle.item_data.proofs.Stills.{strip-too-long, strip-copy, strip-unit}
 use Rattle.item_data.proofs.strip_item_data.Statement.{statement}
 use Rattle.item_data.proofs.strip_item_data.Tie as tie

@@ -110,14 +110,3 @@ arrayInRecord s complete t us = arrayBytes (heldArray s (record { complete = com
 -- arrays whose units lie in s
 abbrev pub arraysInRecord : List ℕ → List (Array Span) → List ℕ
 arraysInRecord s xs = arraysBytes (heldArrays s xs)
-
--- the bytes of what was found
-abbrev pub bytesOf : {A : Type 0} → (A → List ℕ) → Outcome A → List ℕ
-bytesOf f (accept a) = f a
-bytesOf f (refuse e) = []
-
--- something was found, and from a place of the output on there is room for its bytes
-pub record Puts {A : Type 0} (f : A → List ℕ) (o : Outcome A) (out : List ℕ) (to : ℕ) : Type 0 where
-  pub it : A
-  pub found : o ≡ accept it
-  pub room : to + length (f it) ≤ length out

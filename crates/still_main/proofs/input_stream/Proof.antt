@@ -1,6 +1,6 @@
 -- `input_stream` takes the input apart and gives the stream of its still.
 use Rattle.unit_list.specs.inner.Walk.{chunkStepped}
-use Rattle.boxes.proofs.Output.{written-refused}
+use Rattle.parse.proofs.Output.{written-refused}
 use Rattle.still.proofs.LocalArrays.{given-as}
 use Rattle.still_main.specs.Input.{inputStream}
 use Rattle.still_main.proofs.Inputs.{input-too-long, inside, input-cut, input-given}

@@ -5,7 +5,7 @@ use borrow.Author.Needs.{needs}
 use Rattle.expand.specs.Expand.{Picture}
 use Rattle.expand.specs.Answers.{expandAnswerOf}
 use Rattle.expand.specs.declared.ExpandAnswer.{ExpandAnswer}
-use Rattle.boxes.proofs.Output.{written-refused}
+use Rattle.parse.proofs.Output.{written-refused}
 use Rattle.still.specs.inner.Steps.{recordFrom}
 use Rattle.still.proofs.LocalArrays.{Expanded, was-expanded, not-expanded, given-as, record-expanded, record-unexpanded}
 use Rattle.still_record.proofs.put_still.Statement.{statement}

@@ -5,7 +5,7 @@ use borrow.Author.Needs.{needs}
 use Rattle.compact.specs.Answers.{compactOf}
 use Rattle.compact.specs.declared.CompactRead.{CompactRead}
 use Rattle.expand.specs.Expand.{Picture}
-use Rattle.boxes.proofs.Output.{written-refused}
+use Rattle.parse.proofs.Output.{written-refused}
 use Rattle.still.specs.Stills.{stillRecord}
 use Rattle.still.proofs.LocalArrays.{Read, was-read, not-read, given-as, record-read, record-unread}
 use Rattle.still_record.proofs.still_record.Statement.{statement}

@@ -2,7 +2,7 @@
 use mathlib.Core.Path.{sym, ap, _∙_}
 use Rattle.parse.specs.Answers.{countOf}
 use Rattle.access_unit.specs.Answers.{tolsOf}
-use Rattle.boxes.proofs.Output.{written-refused}
+use Rattle.parse.proofs.Output.{written-refused}
 use Rattle.still.specs.inner.Steps.{streamExpanded}
 use Rattle.still.proofs.Lists.{ready}
 use Rattle.still.proofs.LocalArrays.{given-as}

@@ -4,7 +4,7 @@ use mathlib.Core.Path.{sym, ap, _∙_}
 use Rattle.expand.specs.Answers.{expandAnswerOf}
 use Rattle.expand.specs.declared.ExpandAnswer.{ExpandAnswer}
 use Rattle.access_unit.specs.Answers.{tolsOf}
-use Rattle.boxes.proofs.Output.{written-refused}
+use Rattle.parse.proofs.Output.{written-refused}
 use Rattle.still.specs.Stills.{anyPicture}
 use Rattle.still.specs.inner.Steps.{streamFrom}
 use Rattle.still.proofs.LocalArrays.{Expanded, was-expanded, not-expanded, given-as, stream-expanded, stream-unexpanded}

@@ -5,7 +5,7 @@ use mathlib.Core.Path.{sym, ap, _∙_}
 use Rattle.compact.specs.Answers.{compactOf}
 use Rattle.compact.specs.declared.CompactRead.{CompactRead}
 use Rattle.access_unit.specs.Answers.{tolsOf}
-use Rattle.boxes.proofs.Output.{written-refused}
+use Rattle.parse.proofs.Output.{written-refused}
 use Rattle.still.specs.Stills.{stillStream}
 use Rattle.still.proofs.LocalArrays.{Read, was-read, not-read, given-as, stream-too-long, stream-read, stream-unread}
 use borrow.Author.Needs.{needs}

@@ -18,7 +18,7 @@ use Rattle.unit_list.specs.declared.ArrayStep.{ArrayStep}
 use Rattle.unit_list.specs.declared.ArrayStep.the-variants as A
 use Rattle.unit_list.specs.declared.ChunkRead.{ChunkRead}
 use Rattle.unit_list.specs.declared.ChunkRead.the-variants as C
-use Rattle.boxes.specs.inner.Walk.{more}
+use Rattle.parse.specs.inner.Walk.{more}
 
 -- where a unit lies, and the type of its array
 pub record TypedUnit : Type 0 where

@@ -4,16 +4,17 @@ use mathlib.Core.Path.{sym, ap, _∙_}
 use native.Mathlib.Omega.{arith}
 use lib.ListN.{length}
 use borrow.Author.Needs.{needs}
-use Rattle.full_read.specs.inner.Heads.{orZeroHead}
 use Rattle.full_read.proofs.Heads.{head-none, head-three, head-with-ptl, head-plain}
 use Rattle.full_read.proofs.head.read_head.Statement.{statement}
 use Rattle.full_read.proofs.head.read_head.Tie as tie
+use Rattle.full.specs.Read.{zeroHead}
+use Rattle.parse.specs.inner.Answers.{orZeros}
 
 refused-requires : tie.Need-refused-requires
 refused-requires c κs = search needs
 
 returns : tie.Need-returns
-returns c = c .refused .ensures ∙ ap orZeroHead (sym (head-none _ (c .before .if1 .taken)))
+returns c = c .refused .ensures ∙ ap (orZeros zeroHead) (sym (head-none _ (c .before .if1 .taken)))
 
 shared-slice-read-first : tie.Need-shared-slice-read-first
 shared-slice-read-first c = search needs
@@ -25,7 +26,7 @@ returns-2 : tie.Need-returns-2
 returns-2 c =
     let a = c .before .before .before .before .before .args in
     let h : 0 < length (a .s .now) = omega (arith, c .before .before .before .if1 .left) in
-    c .refused2 .ensures ∙ ap orZeroHead (sym (head-three (a .s .now) h (c .before .if2 .taken)))
+    c .refused2 .ensures ∙ ap (orZeros zeroHead) (sym (head-three (a .s .now) h (c .before .if2 .taken)))
 
 add-size : tie.Need-add-size
 add-size c = search needs
@@ -37,7 +38,7 @@ returns-3 : tie.Need-returns-3
 returns-3 c =
     let a = c .before .before .before .before .before .before .args in
     let h : 0 < length (a .s .now) = omega (arith, c .before .before .before .before .if1 .left) in
-    c .read-with-ptl .ensures ∙ ap orZeroHead (sym (head-with-ptl (a .s .now) h (c .before .before .if2 .left) (c .before .if3 .taken)))
+    c .read-with-ptl .ensures ∙ ap (orZeros zeroHead) (sym (head-with-ptl (a .s .now) h (c .before .before .if2 .left) (c .before .if3 .taken)))
 
 plain-head-requires : tie.Need-plain-head-requires
 plain-head-requires c κs = search needs

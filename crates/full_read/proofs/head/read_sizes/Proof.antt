@@ -7,10 +7,11 @@ use native.Mathlib.Omega.{arith}
 use lib.ListN.{length}
 use borrow.Author.Needs.{needs}
 use Rattle.boxes.specs.Bytes.{be}
-use Rattle.full_read.specs.inner.Heads.{orZeroHead}
 use Rattle.full_read.proofs.Heads.{reads-sizes}
 use Rattle.full_read.proofs.head.read_sizes.Statement.{statement}
 use Rattle.full_read.proofs.head.read_sizes.Tie as tie
+use Rattle.full.specs.Read.{zeroHead}
+use Rattle.parse.specs.inner.Answers.{orZeros}
 
 sub-if2 : tie.Need-sub-if2
 sub-if2 c = search needs
@@ -22,7 +23,7 @@ returns : tie.Need-returns
 returns c =
     let a = c .before .before .before .args in
     let h : length (a .s .now) < a .at + 6 = ⊎-elim (λ k. omega arith) (λ k. omega (arith, ltb-true)) (c .before .if1 .came) in
-    c .refused .ensures ∙ ap orZeroHead (sym (reads-sizes (a .s .now) (a .size) _ _ (a .ptl) (a .at) .short h))
+    c .refused .ensures ∙ ap (orZeros zeroHead) (sym (reads-sizes (a .s .now) (a .size) _ _ (a .ptl) (a .at) .short h))
 
 head-fields-requires : tie.Need-head-fields-requires
 head-fields-requires c κs = omega (arith, ltb-false)

@@ -4,10 +4,11 @@ use mathlib.Core.Path.{sym, ap, _∙_}
 use native.Mathlib.Omega.{arith}
 use lib.ListN.{length}
 use borrow.Author.Needs.{needs}
-use Rattle.full_read.specs.inner.Heads.{orZeroHead}
 use Rattle.full_read.proofs.Heads.{reads-no-ptl, ptl-read, ptl-refused}
 use Rattle.full_read.proofs.head.read_with_ptl.Statement.{statement}
 use Rattle.full_read.proofs.head.read_with_ptl.Tie as tie
+use Rattle.full.specs.Read.{zeroHead}
+use Rattle.parse.specs.inner.Answers.{orZeros}
 
 refused-requires : tie.Need-refused-requires
 refused-requires c κs = search needs
@@ -15,7 +16,7 @@ refused-requires c κs = search needs
 returns : tie.Need-returns
 returns c =
     let a = c .before .before .before .args in
-    c .refused .ensures ∙ ap orZeroHead (sym (reads-no-ptl (a .size) (a .s .now) (c .before .if1 .taken)))
+    c .refused .ensures ∙ ap (orZeros zeroHead) (sym (reads-no-ptl (a .size) (a .s .now) (c .before .if1 .taken)))
 
 number-requires : tie.Need-number-requires
 number-requires c κs = search needs
@@ -44,7 +45,7 @@ returns-2 c =
     let h : 4 ≤ length (a .s .now) = omega (arith, c .before .before .before .before .before .before .before .if1 .left) in
     let n = c .before .before .before .before .before .before .number in
     let r = c .before .before .before .before .before .read-ptl in
-    c .read-sizes .ensures ∙ ap orZeroHead (sym (ptl-read (a .size) (a .s .now) h (n .result) (n .ensures .0) (r .result) (r .ensures) _ (c .before .before .answer .given .1)))
+    c .read-sizes .ensures ∙ ap (orZeros zeroHead) (sym (ptl-read (a .size) (a .s .now) h (n .result) (n .ensures .0) (r .result) (r .ensures) _ (c .before .before .answer .given .1)))
 
 returns-3 : tie.Need-returns-3
 returns-3 c =
@@ -52,7 +53,7 @@ returns-3 c =
     let h : 4 ≤ length (a .s .now) = omega (arith, c .before .before .before .before .before .before .before .if1 .left) in
     let n = c .before .before .before .before .before .before .number in
     let r = c .before .before .before .before .before .read-ptl in
-    c .refused2 .ensures ∙ ap orZeroHead (sym (ptl-refused (a .size) (a .s .now) h (n .result) (n .ensures .0) (r .result) (r .ensures) _ (c .before .before .answer2 .given .1)))
+    c .refused2 .ensures ∙ ap (orZeros zeroHead) (sym (ptl-refused (a .size) (a .s .now) h (n .result) (n .ensures .0) (r .result) (r .ensures) _ (c .before .before .answer2 .given .1)))
 
 pub read-with-ptl-spec : {M : Type 1} → statement M
 read-with-ptl-spec =

@@ -3,7 +3,7 @@ use mathlib.Core.Path.{refl}
 use native.Mathlib.Omega.{arith}
 use borrow.Author.Needs.{needs}
 use Rattle.parse.specs.Outcome.{accept}
-use Rattle.boxes.proofs.Output.{written-short, written-fits}
+use Rattle.parse.proofs.Output.{written-short, written-fits}
 use Rattle.item_data.proofs.copied.put_all.Statement.{statement}
 use Rattle.item_data.proofs.copied.put_all.Tie as tie
 

@@ -11,8 +11,8 @@ use Rattle.compact.specs.ItemData.{onlyStill}
 use Rattle.item_data.proofs.Stills.{none-still, more-after}
 use Rattle.item_data.proofs.still.find_still.Statement.{statement}
 use Rattle.item_data.proofs.still.find_still.Tie as tie
-use Rattle.boxes.specs.inner.Walk.{more}
 use Rattle.split.specs.inner.Walk.{itemUnitsFrom}
+use Rattle.parse.specs.inner.Walk.{more}
 
 -- the prefix size
 sized : (c : tie.After-wide) → (1 ≤ c .wide .result) × (c .wide .result ≤ 4)

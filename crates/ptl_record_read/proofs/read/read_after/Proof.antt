@@ -9,7 +9,8 @@ use lib.ListN.{length}
 use borrow.Author.Needs.{needs}
 use Rattle.ptl_record_read.proofs.read.read_after.Statement.{statement}
 use Rattle.ptl_record_read.proofs.read.read_after.Tie as tie
-use Rattle.ptl.specs.inner.Answers.{orZeroPtl}
+use Rattle.parse.specs.inner.Answers.{orZeros}
+use Rattle.ptl.specs.Ptl.{zeroPtl}
 
 add-after : tie.Need-add-after
 add-after c = search needs
@@ -70,7 +71,7 @@ refused-requires : tie.Need-refused-requires
 refused-requires c κs = search needs
 
 returns : tie.Need-returns
-returns c = c .refused .ensures ∙ ap orZeroPtl (sym (found (c .before .before) .short (c .before .if1 .taken)))
+returns c = c .refused .ensures ∙ ap (orZeros zeroPtl) (sym (found (c .before .before) .short (c .before .if1 .taken)))
 
 ptl-fields-requires : tie.Need-ptl-fields-requires
 ptl-fields-requires c κs = search needs

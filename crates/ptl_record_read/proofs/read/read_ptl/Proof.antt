@@ -7,13 +7,14 @@ use lib.ListN.{length, getD}
 use borrow.Author.Needs.{needs}
 use Rattle.ptl_record_read.proofs.read.read_ptl.Statement.{statement}
 use Rattle.ptl_record_read.proofs.read.read_ptl.Tie as tie
-use Rattle.ptl.specs.inner.Answers.{orZeroPtl}
+use Rattle.parse.specs.inner.Answers.{orZeros}
+use Rattle.ptl.specs.Ptl.{zeroPtl}
 
 refused-requires : tie.Need-refused-requires
 refused-requires c κs = search needs
 
 returns : tie.Need-returns
-returns c = c .refused .ensures ∙ ap orZeroPtl (sym (reads-none _ _ _ (c .before .if1 .taken)))
+returns c = c .refused .ensures ∙ ap (orZeros zeroPtl) (sym (reads-none _ _ _ (c .before .if1 .taken)))
 
 shared-slice-read-wide : tie.Need-shared-slice-read-wide
 shared-slice-read-wide c = search needs
@@ -29,7 +30,7 @@ returns-2 c =
     let a = c .before .before .before .before .before .before .args in
     let h : a .at < length (a .s .now) = omega arith in
     let e : getD (a .s .now) (a .at) 0 % 64 ≡ 0 = rw (c .before .before .wide .ensures .0) at (c .before .if2 .taken) in
-    c .refused2 .ensures ∙ ap orZeroPtl (sym (reads-zero (a .sublayers) (a .s .now) (a .at) h e))
+    c .refused2 .ensures ∙ ap (orZeros zeroPtl) (sym (reads-zero (a .sublayers) (a .s .now) (a .at) h e))
 
 read-after-requires : tie.Need-read-after-requires
 read-after-requires c κs = search needs

@@ -4,7 +4,7 @@ use native.Mathlib.Omega.{arith}
 use lib.ListN.{length}
 use borrow.Author.Needs.{needs}
 use Rattle.parse.specs.Parse.{times}
-use Rattle.boxes.proofs.Output.{output-refused}
+use Rattle.parse.proofs.Output.{output-refused}
 use Rattle.record_arrays.specs.Read.{recordArray}
 use Rattle.record_arrays_read.specs.inner.Arrays.{arraysInList, roomTaken}
 use Rattle.record_arrays_read.proofs.Repeated.{RoomAt, room-short, room-at}

@@ -1,5 +1,5 @@
 -- `put_plain` stores the stream of the list and the picture, or gives the refusal of the item.
-use Rattle.boxes.proofs.Output.{written-refused}
+use Rattle.parse.proofs.Output.{written-refused}
 use Rattle.still.specs.inner.Steps.{plainStream}
 use Rattle.still.proofs.LocalArrays.{given-as}
 use Rattle.still_measure.proofs.Streams.{sized-listed, sized-refused}

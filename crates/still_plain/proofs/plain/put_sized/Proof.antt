@@ -1,6 +1,6 @@
 -- `put_sized` stores the list's stream and the picture's unit after it, where there is room for both.
 use native.Mathlib.Omega.{arith}
-use Rattle.boxes.proofs.Output.{written-short, written-fits}
+use Rattle.parse.proofs.Output.{written-short, written-fits}
 use Rattle.still.specs.inner.Steps.{unitsStream}
 use Rattle.still_measure.proofs.Streams.{listed-small, stream-given, stream-long}
 use Rattle.still_plain.proofs.Storing.{puts-front, stream-stored}

@@ -1,0 +1,4 @@
+-- Internal: what the contracts of internal functions say. No public definition needs it.
+pub mod Walk
+pub mod Stores
+pub mod Answers

@@ -33,14 +33,16 @@ enum-known-measured-2 c = search needs
 
 returns : tie.Need-returns
 returns c =
-    let a = c .before .before .before .before .before .before .before .before .args in
-    count-known (a .head) (a .list .now) (a .item .now) (tolsOf (a .tols)) _ (c .before .before .before .before .before .target-of .ensures) _ (known-at (c .before .before .before .before) _ (c .before .before .measured .given .1))
+    let m = c .before .before .before .before in
+    let a = m .before .before .before .before .args in
+    count-known (a .head) (a .list .now) (a .item .now) (tolsOf (a .tols)) _ (m .before .target-of .ensures) _ (known-at m _ (c .before .before .measured .given .1))
 
 returns-2 : tie.Need-returns-2
 returns-2 c =
-    let a = c .before .before .before .before .before .before .before .args in
-    count-unknown (a .head) (a .list .now) (a .item .now) (tolsOf (a .tols)) _ (c .before .before .before .before .target-of .ensures) _
-    (unknown _ _ _ _ _ (ap sizesAnswerOf (sym (c .before .measured2 .given .1)) ∙ c .before .before .before .measure .ensures))
+    let m = c .before .before .before in
+    let a = m .before .before .before .before .args in
+    count-unknown (a .head) (a .list .now) (a .item .now) (tolsOf (a .tols)) _ (m .before .target-of .ensures) _
+    (unknown _ _ _ _ _ (ap sizesAnswerOf (sym (c .before .measured2 .given .1)) ∙ m .measure .ensures))
 
 pub access-unit-count-spec : {M : Type 1} → statement M
 access-unit-count-spec =

@@ -15,6 +15,13 @@ use native.Mathlib.Omega.{arith}
 use Rattle.access_unit_annex_b.proofs.access_unit_annex_b.Statement.{statement}
 use Rattle.access_unit_annex_b.proofs.access_unit_annex_b.Tie as tie
 
+-- Earlier places of the function, each seen from a later one.
+abbrev start : (c : tie.After-measure) → tie.Start
+start c = c .before .before .before .before .before
+
+abbrev after-measure : (c : tie.After-stream-len) → tie.After-measure
+after-measure c = c .before .before .before .before .before
+
 target-of-requires : tie.Need-target-of-requires
 target-of-requires c κs = search needs
 
@@ -22,12 +29,12 @@ measure-requires : tie.Need-measure-requires
 measure-requires c κs = search needs
 
 -- what was measured
-known-at : (d : tie.After-measure) (v : Sizes) → d .measure .result ≡ Sized v
-    → Known (d .before .before .before .before .before .args .head .«length_size») (tolsOf (d .before .target-of .result)) (d .before .before .before .before .before .args .list .now) (d .before .before .before .before .before .args .item .now) v
+known-at : (d : tie.After-measure) → let a = start d .args in (v : Sizes) → d .measure .result ≡ Sized v
+    → Known (a .head .«length_size») (tolsOf (d .before .target-of .result)) (a .list .now) (a .item .now) v
 known-at d v e = known _ _ _ _ v (ap sizesAnswerOf (sym e) ∙ d .measure .ensures)
 
-made-at : (d : tie.After-measure) (v : Sizes) → d .measure .result ≡ Sized v
-    → Assembled (d .before .before .before .before .before .args .head) (d .before .before .before .before .before .args .list .now) (d .before .before .before .before .before .args .item .now) (tolsOf (d .before .before .before .before .before .args .tols)) (tolsOf (d .before .target-of .result)) (d .before .target-of .ensures) v
+made-at : (d : tie.After-measure) → let a = start d .args in (v : Sizes) → d .measure .result ≡ Sized v
+    → Assembled (a .head) (a .list .now) (a .item .now) (tolsOf (a .tols)) (tolsOf (d .before .target-of .result)) (d .before .target-of .ensures) v
 made-at d v e = assemble-known _ _ _ _ _ (d .before .target-of .ensures) v (known-at d v e)
 
 enum-known-measured : tie.Need-enum-known-measured
@@ -41,14 +48,17 @@ stream-len-requires c κs = let s = known-small _ _ _ _ _ (known-at (c .before .
 
 returns : tie.Need-returns
 returns c =
-    let a = c .before .before .before .before .before .before .before .before .before .before .before .args in
-    let m = made-at (c .before .before .before .before .before .before) _ (c .before .before .before .before .measured .given .1) in
+    let me = after-measure (c .before) in
+    let a = start me .args in
+    let m = made-at me _ (c .before .before .before .before .measured .given .1) in
     written-short (assemble (a .head) (a .list .now) (a .item .now) (tolsOf (a .tols))) (a .out .now) (m .bytes) (m .given) (omega (arith, c .before .stream-len .ensures, m .long))
 
 put-stream-requires : tie.Need-put-stream-requires
 put-stream-requires c κs =
-    let a = c .before .before .before .before .before .before .before .before .before .before .before .before .args in
-    puts-stream _ _ _ _ _ (a .out .now) (known-at (c .before .before .before .before .before .before .before) _ (c .before .before .before .before .before .measured .given .1)) (omega (arith, c .before .before .stream-len .ensures))
+    let sl = c .before .before in
+    let me = after-measure sl in
+    let a = start me .args in
+    puts-stream _ _ _ _ _ (a .out .now) (known-at me _ (sl .before .before .before .measured .given .1)) (omega (arith, sl .stream-len .ensures))
 
 enum-known-measured-2 : tie.Need-enum-known-measured-2
 enum-known-measured-2 c = search needs
@@ -58,17 +68,20 @@ same-length c = search needs
 
 returns-2 : tie.Need-returns-2
 returns-2 c =
-    let a = c .before .before .before .before .before .before .before .before .before .before .before .before .before .before .before .args in
-    let m = made-at (c .before .before .before .before .before .before .before .before .before .before) _ (c .before .before .before .before .before .before .before .before .measured .given .1) in
+    let sl = c .before .before .before .before .before in
+    let me = after-measure sl in
+    let a = start me .args in
+    let m = made-at me _ (sl .before .before .before .measured .given .1) in
     written-fits (assemble (a .head) (a .list .now) (a .item .now) (tolsOf (a .tols))) (a .out .now) (m .bytes) (m .given)
-    _ _ (c .before .before .before .before .before .stream-len .ensures ∙ m .long) (c .before .before .before .before .if1 .left) (c .before .before .put-stream .ensures ∙ ap (sets (a .out .now) 0) (m .found))
+    _ _ (sl .stream-len .ensures ∙ m .long) (c .before .before .before .before .if1 .left) (c .before .before .put-stream .ensures ∙ ap (sets (a .out .now) 0) (m .found))
 
 returns-3 : tie.Need-returns-3
 returns-3 c =
-    let a = c .before .before .before .before .before .before .before .before .args in
+    let me = c .before .before .before in
+    let a = start me .args in
     written-refused (assemble (a .head) (a .list .now) (a .item .now) (tolsOf (a .tols))) (a .out .now) _
-    (assemble-unknown (a .head) (a .list .now) (a .item .now) (tolsOf (a .tols)) _ (c .before .before .before .before .target-of .ensures) _
-    (unknown _ _ _ _ _ (ap sizesAnswerOf (sym (c .before .measured2 .given .1)) ∙ c .before .before .before .measure .ensures)))
+    (assemble-unknown (a .head) (a .list .now) (a .item .now) (tolsOf (a .tols)) _ (me .before .target-of .ensures) _
+    (unknown _ _ _ _ _ (ap sizesAnswerOf (sym (c .before .measured2 .given .1)) ∙ me .measure .ensures)))
 
 pub access-unit-annex-b-spec : {M : Type 1} → statement M
 access-unit-annex-b-spec =

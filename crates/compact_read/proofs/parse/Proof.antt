@@ -16,12 +16,19 @@ use Rattle.compact_read.proofs.RecordUnits.{UnitsMeasured, measured-cop
 use Rattle.compact_read.proofs.parse.Statement.{statement}
 use Rattle.compact_read.proofs.parse.Tie as tie
 
+-- Earlier places of the function, each seen from a later one.
+abbrev start : (c : tie.After-count) → tie.Start
+start c = c .before .before .before .before .before
+
+abbrev after-count : (c : tie.After-byte) → tie.After-count
+after-count c = c .before .before .before
+
 -- what was measured
-room-at : (c : tie.After-count) → RoomRead (c .before .before .before .before .before .args .«record» .now) (c .count .given .0 .0) (c .count .given .0 .1 .0)
-room-at c = subst (RoomSays (c .before .before .before .before .before .args .«record» .now)) (c .count .given .1) (c .before .before .record-room .ensures)
+room-at : (c : tie.After-count) → RoomRead (start c .args .«record» .now) (c .count .given .0 .0) (c .count .given .0 .1 .0)
+room-at c = subst (RoomSays (start c .args .«record» .now)) (c .count .given .1) (c .before .before .record-room .ensures)
 
 measured-at : (c : tie.After-count)
-    → UnitsMeasured (c .before .before .before .before .before .args .«record» .now) (recordUnits (c .before .before .before .before .before .args .«record» .now) (c .count .given .0 .0)) (c .count .given .0 .1 .0) (room-at c .after)
+    → let a = start c .args in UnitsMeasured (a .«record» .now) (recordUnits (a .«record» .now) (c .count .given .0 .0)) (c .count .given .0 .1 .0) (room-at c .after)
 measured-at c = let r = room-at c in record { units = r .units; read = r .read; long = r .long }
 
 record-room-requires : tie.Need-record-room-requires
@@ -35,7 +42,7 @@ add-len c = let r = room-at (c .before) in omega (arith, r .few)
 
 returns : tie.Need-returns
 returns c =
-    let a = c .before .before .before .before .before .before .before .args in
+    let a = start (c .before .before) .args in
     let s = a .«record» .now in
     let r = room-at (c .before .before) in
     let l = list-long (map (held s) (r .units)) in
@@ -48,9 +55,10 @@ byte-requires c κs = search needs
 
 put-list-requires : tie.Need-put-list-requires
 put-list-requires c κs =
-    let r = room-at (c .before .before .before .before) in
-    let m = measured-at (c .before .before .before .before) in
-    (r .some, r .lent, measured-copies _ _ _ _ m (c .before .before .before .before .before .before .before .before .before .args .out .now) (c .before .before .if1 .left), measured-room _ _ _ _ m)
+    let co = after-count (c .before) in
+    let r = room-at co in
+    let m = measured-at co in
+    (r .some, r .lent, measured-copies _ _ _ _ m (start co .args .out .now) (c .before .before .if1 .left), measured-room _ _ _ _ m)
 
 config-of-requires : tie.Need-config-of-requires
 config-of-requires c κs = search needs
@@ -63,14 +71,16 @@ same-length c = search needs
 
 returns-2 : tie.Need-returns-2
 returns-2 c =
-    let a = c .before .before .before .before .before .before .before .before .before .before .before .before .before .args in
+    let by = c .before .before .before .before .before in
+    let co = after-count by in
+    let a = start co .args in
     let s = a .«record» .now in
-    let r = room-at (c .before .before .before .before .before .before .before .before) in
-    let m = measured-at (c .before .before .before .before .before .before .before .before) in
+    let r = room-at co in
+    let m = measured-at co in
     let l = list-long (map (held s) (m .units)) in
     output-fits (parseCompact s) (a .out .now) _ (oneArray (map (held s) (m .units)))
-    (parse-read s (r .lent) (r .some) _ (r .counted) (m .units) _ (m .read) (r .end) (c .config-of .result) (7 + c .before .before .before .before .before .before .before .before .count .given .0 .1 .0) (c .config-of .ensures ∙ ap configOf (c .before .before .before .before .before .byte .ensures)) (omega (arith, m .long)))
-    _ (omega (arith, l, m .long, c .before .before .before .before .before .before .if1 .left)) (c .before .before .before .put-list .ensures ∙ ap (sets (a .out .now) 0) (measured-list _ _ _ _ m))
+    (parse-read s (r .lent) (r .some) _ (r .counted) (m .units) _ (m .read) (r .end) (c .config-of .result) (7 + co .count .given .0 .1 .0) (c .config-of .ensures ∙ ap configOf (by .byte .ensures)) (omega (arith, m .long)))
+    _ (omega (arith, l, m .long, by .before .if1 .left)) (c .before .before .before .put-list .ensures ∙ ap (sets (a .out .now) 0) (measured-list _ _ _ _ m))
 
 returns-3 : tie.Need-returns-3
 returns-3 c =

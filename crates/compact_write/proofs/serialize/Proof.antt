@@ -27,9 +27,10 @@ same-length c = search needs
 
 returns : tie.Need-returns
 returns c =
-    let a = c .before .before .before .before .before .before .before .before .before .before .args in
-    let s = c .before .before .before .before .before .before .before .start in
-    let g = c .before .before .before .before .before .c .given in
+    let p = c .before .before .before .before .before in
+    let a = p .before .before .before .before .before .args in
+    let s = p .before .before .start in
+    let g = p .c .given in
     c .before .before .put-compact .ensures
     ∙ ap (λ (o : Outcome (List ℕ)). lentOutput (counted o) (a .out .now)) (serialize-start (a .config) (a .list .now) (s .result) (s .ensures) (g .0 .0) (g .1))
 

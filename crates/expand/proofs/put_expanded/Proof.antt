@@ -37,8 +37,9 @@ same-length c = search needs
 returns-2 : tie.Need-returns-2
 unfolding encode
 returns-2 c =
-    let a = c .before .before .before .before .before .before .before .before .args in
-    expanded-fits (a .full-head) (unitsAt (a .list .now) (a .c)) (a .out .now) _ _ (omega (arith, c .before .before .before .before .before .groups-len .ensures .0)) (omega (arith, c .before .before .before .before .if1 .left)) (c .before .before .put-list .ensures)
+    let e = c .before .before .before .before in
+    let a = e .before .before .before .before .args in
+    expanded-fits (a .full-head) (unitsAt (a .list .now) (a .c)) (a .out .now) _ _ (omega (arith, e .before .groups-len .ensures .0)) (omega (arith, e .if1 .left)) (c .before .before .put-list .ensures)
 
 pub put-expanded-spec : {M : Type 1} → statement M
 put-expanded-spec =

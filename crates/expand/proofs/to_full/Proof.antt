@@ -32,11 +32,12 @@ same-length c = search needs
 
 returns : tie.Need-returns
 returns c =
-    let a = c .before .before .before .before .before .before .before .before .before .before .args in
+    let q = c .before .before .before .before .before in
+    let a = q .before .before .before .before .before .args in
     let s = a .list .now in
     let pic : Picture = record { chroma = a .chroma-format-idc; depth = a .bit-depth; width = a .width; height = a .height } in
-    let y = c .before .before .before .before .before .before .before .start in
-    let e = sym (ap (startedUnits s) (c .before .before .before .before .before .c .given .1)) ∙ y .ensures .0 in
+    let y = q .before .before .start in
+    let e = sym (ap (startedUnits s) (q .c .given .1)) ∙ y .ensures .0 in
     c .before .before .expand-units .ensures ∙ ap (λ (o : Outcome (FullHead × List ℕ)). expandedGiven o (a .out .now)) (sym (list-expanded (a .config) pic s _ e))
 
 returns-2 : tie.Need-returns-2

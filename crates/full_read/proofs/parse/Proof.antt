@@ -6,6 +6,13 @@ use Rattle.full_read.proofs.Given.{given-too-long, given-headless, give
 use Rattle.full_read.proofs.parse.Statement.{statement}
 use Rattle.full_read.proofs.parse.Tie as tie
 
+-- Earlier places of the function, each seen from a later one.
+abbrev start : (c : tie.After-read-head) → tie.Start
+start c = c .before .before .before .before
+
+abbrev after-read-head : (c : tie.After-answer) → tie.After-read-head
+after-read-head c = c .before .before .before
+
 refused-requires : tie.Need-refused-requires
 refused-requires c κs = search needs
 
@@ -35,16 +42,19 @@ same-length c = search needs
 
 returns-2 : tie.Need-returns-2
 returns-2 c =
-    let a = c .before .before .before .before .before .before .before .before .before .before .before .before .before .args in
-    let r = c .before .before .before .before .before .before .before .before .before .read-head in
-    let w = head-read (r .result) (vvcHead (a .«record» .now) 0) (r .ensures) _ (c .before .before .before .before .before .before .answer .given .1) in
-    given-arrays (a .«record» .now) (a .out .now) (c .before .before .before .before .before .before .before .before .before .before .if1 .left) _ _ w _ _ (c .before .before .before .read-list .ensures) _ (c .with-head .ensures)
+    let an = c .before .before .before .before .before .before in
+    let rh = after-read-head an in
+    let a = start rh .args in
+    let r = rh .read-head in
+    let w = head-read (r .result) (vvcHead (a .«record» .now) 0) (r .ensures) _ (an .answer .given .1) in
+    given-arrays (a .«record» .now) (a .out .now) (rh .before .if1 .left) _ _ w _ _ (c .before .before .before .read-list .ensures) _ (c .with-head .ensures)
 
 returns-3 : tie.Need-returns-3
 returns-3 c =
-    let a = c .before .before .before .before .before .before .before .before .before .args in
-    let r = c .before .before .before .before .before .read-head in
-    given-headless (a .«record» .now) (a .out .now) (c .before .before .before .before .before .before .if1 .left) _ _ (c .refused2 .ensures)
+    let rh = c .before .before .before .before .before in
+    let a = start rh .args in
+    let r = rh .read-head in
+    given-headless (a .«record» .now) (a .out .now) (rh .before .if1 .left) _ _ (c .refused2 .ensures)
     (head-refused (r .result) (vvcHead (a .«record» .now) 0) (r .ensures) _ (c .before .before .answer2 .given .1))
 
 pub parse-spec : {M : Type 1} → statement M

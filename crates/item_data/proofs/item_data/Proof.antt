@@ -11,8 +11,12 @@ use Rattle.item_data.proofs.Measured.{MeasuredAs, measured-as, measured
 use Rattle.item_data.proofs.item_data.Statement.{statement}
 use Rattle.item_data.proofs.item_data.Tie as tie
 
+-- Where the function starts, seen from a later place.
+abbrev start : (c : tie.After-len) → tie.Start
+start c = c .before .before .before .before .before
+
 -- the item that was measured
-told-at : (c : tie.After-len) → MeasuredAs (restore (c .before .before .before .before .before .args .config) (c .before .before .before .before .before .args .stored .now)) (c .len .given .0 .0)
+told-at : (c : tie.After-len) → let a = start c .args in MeasuredAs (restore (a .config) (a .stored .now)) (c .len .given .0 .0)
 told-at c = measured-as _ _ (sym (ap countOf (c .len .given .1)) ∙ c .before .before .item-len .ensures)
 
 item-len-requires : tie.Need-item-len-requires
@@ -24,7 +28,7 @@ enum-known-len c = search needs
 returns : tie.Need-returns
 returns c =
     let t = told-at (c .before .before) in
-    written-short _ (c .before .before .before .before .before .before .before .args .out .now) (t .bytes) (t .given) (omega (arith, t .long, c .if1 .taken))
+    written-short _ (start (c .before .before) .args .out .now) (t .bytes) (t .given) (omega (arith, t .long, c .if1 .taken))
 
 store-item-requires : tie.Need-store-item-requires
 store-item-requires c κs = let t = told-at (c .before .before .before) in record { item = t .bytes; found = t .given; room = omega (arith, t .long, c .before .if1 .left) }
@@ -37,8 +41,9 @@ same-length c = search needs
 
 returns-2 : tie.Need-returns-2
 returns-2 c =
-    let a = c .before .before .before .before .before .before .before .before .before .before .before .args in
-    let t = told-at (c .before .before .before .before .before .before) in
+    let l = c .before .before .before .before .before .before in
+    let a = start l .args in
+    let t = told-at l in
     written-fits _ (a .out .now) (t .bytes) (t .given) _ _ (t .long) (c .before .before .before .before .if1 .left)
     (c .before .before .store-item .ensures ∙ ap (sets (a .out .now) 0) (ap restoredBytes (t .given)))
 

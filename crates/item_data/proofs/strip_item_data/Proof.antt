@@ -12,6 +12,13 @@ use Rattle.item_data.proofs.Stills.{strip-too-long, strip-copy, strip-u
 use Rattle.item_data.proofs.strip_item_data.Statement.{statement}
 use Rattle.item_data.proofs.strip_item_data.Tie as tie
 
+-- Earlier places of the function, each seen from a later one.
+abbrev start : (c : tie.Else1) → tie.Start
+start c = c .before .before .before
+
+abbrev at-else2 : (c : tie.After-a) → tie.Else2
+at-else2 c = c .before .before .before
+
 returns : tie.Need-returns
 returns c =
     let a = c .before .before .before .args in
@@ -25,9 +32,10 @@ same-length c = search needs
 
 returns-2 : tie.Need-returns-2
 returns-2 c =
-    let a = c .before .before .before .before .before .before .before .before .args in
+    let t = c .before .before .before .before in
+    let a = start (t .before) .args in
     c .before .before .put-all .ensures
-    ∙ ap (λ (o : Outcome (List ℕ)). lentOutput (counted o) (a .out .now)) (sym (strip-copy (a .config) (a .item .now) (c .before .before .before .before .before .if1 .left) (c .before .before .before .before .if2 .taken)))
+    ∙ ap (λ (o : Outcome (List ℕ)). lentOutput (counted o) (a .out .now)) (sym (strip-copy (a .config) (a .item .now) (t .before .if1 .left) (t .if2 .taken)))
 
 find-still-requires : tie.Need-find-still-requires
 find-still-requires c κs = search needs
@@ -40,13 +48,16 @@ enum-told c = search needs
 
 returns-3 : tie.Need-returns-3
 returns-3 c =
-    let a = c .before .before .before .before .before .before .before .args in
+    let e = c .before .before .before in
+    let a = start (e .before) .args in
     let f = c .before .before .find-still in
     written-refused _ (a .out .now) 24
-    (strip-unit (a .config) (a .item .now) (c .before .before .before .before .if1 .left) (c .before .before .before .if2 .left) ∙ sym (f .ensures .0) ∙ ap (payloadOf (a .item .now)) (c .enum-told .given .1))
+    (strip-unit (a .config) (a .item .now) (e .before .if1 .left) (e .if2 .left) ∙ sym (f .ensures .0) ∙ ap (payloadOf (a .item .now)) (c .enum-told .given .1))
 
 part-requires : tie.Need-part-requires
-part-requires c κs = subst (PayloadFits (c .before .before .before .before .before .before .before .before .args .item .now)) (c .before .a .given .1) (c .before .before .before .find-still .ensures .1)
+part-requires c κs =
+    let p = c .before in
+    subst (PayloadFits (start (at-else2 p .before) .args .item .now)) (p .a .given .1) (p .before .before .find-still .ensures .1)
 
 put-all-requires-2 : tie.Need-put-all-requires-2
 put-all-requires-2 c κs = search needs
@@ -56,11 +67,13 @@ same-length-2 c = search needs
 
 returns-4 : tie.Need-returns-4
 returns-4 c =
-    let a = c .before .before .before .before .before .before .before .before .before .before .before .before .before .args in
-    let f = c .before .before .before .before .before .before .before .before .find-still in
-    let g = c .before .before .before .before .before .before .a .given in
+    let p = c .before .before .before .before .before .before in
+    let e = at-else2 p in
+    let a = start (e .before) .args in
+    let f = p .before .before .find-still in
+    let g = p .a .given in
     let h : accept (held (a .item .now) (g .0 .0)) ≡ strip (a .config) (a .item .now) =
-    sym (ap (payloadOf (a .item .now)) (g .1)) ∙ f .ensures .0 ∙ sym (strip-unit (a .config) (a .item .now) (c .before .before .before .before .before .before .before .before .before .before .if1 .left) (c .before .before .before .before .before .before .before .before .before .if2 .left)) in
+    sym (ap (payloadOf (a .item .now)) (g .1)) ∙ f .ensures .0 ∙ sym (strip-unit (a .config) (a .item .now) (e .before .if1 .left) (e .if2 .left)) in
     c .before .before .put-all2 .ensures
     ∙ ap (λ (o : Outcome (List ℕ)). lentOutput (counted o) (a .out .now)) (ap accept (c .before .before .before .before .part .ensures .holds) ∙ h)
 

@@ -47,11 +47,12 @@ sps-format-requires c κs = search needs
 
 returns-4 : tie.Need-returns-4
 returns-4 c =
-    let a = c .before .before .before .before .before .before .before .before .before .args in
-    let p = c .before .before .before .before .before .before .before .sps-at in
+    let e = c .before .before .before .before .before in
+    let a = e .before .before .before .before .args in
+    let p = e .before .before .sps-at in
     let u = c .before .before .before .sps2 in
     c .sps-format .ensures ∙ ap spsFormatOf (c .before .part .ensures .holds)
-    ∙ list-first (a .head) (now (a .list)) (p .result) (p .ensures .0) (c .before .before .before .before .before .before .match .keys2) (c .before .before .before .before .before .if1 .left) (u .given .0 .0) (u .given .1)
+    ∙ list-first (a .head) (now (a .list)) (p .result) (p .ensures .0) (e .before .match .keys2) (e .if1 .left) (u .given .0 .0) (u .given .1)
 
 pub sample-format-spec : {M : Type 1} → statement M
 sample-format-spec =

@@ -12,6 +12,13 @@ use Rattle.still_record.proofs.still_record.Statement.{statement}
 use Rattle.still_record.proofs.still_record.Tie as tie
 use Rattle.boxes.specs.Bytes.{AllBytes}
 
+-- Earlier places of the function, each seen from a later one.
+abbrev start : (c : tie.After-parse) → tie.Start
+start c = c .before .before .before .before
+
+abbrev after-parse : (c : tie.After-known-told) → tie.After-parse
+after-parse c = c .before .before .before .before
+
 slice-aggregate-parse : tie.Need-slice-aggregate-parse
 slice-aggregate-parse c = search needs
 
@@ -27,11 +34,12 @@ bytes-at c i = omega (arith, c .before .before .shared-slice-known .given i)
 
 -- what compact read gave stands at the front of the array
 read-at : (c : tie.After-known-told)
-    → Read (c .before .before .before .before .before .before .before .before .args .«record» .now)
-    (c .before .read .given .0 .0) (c .before .read .given .0 .1 .0) (c .before .read .given .0 .1 .1 .0) (c .before .before .before .before .parse .last .1 .0)
+    → let p = after-parse c in Read (start p .args .«record» .now)
+    (c .before .read .given .0 .0) (c .before .read .given .0 .1 .0) (c .before .read .given .0 .1 .1 .0) (p .parse .last .1 .0)
 read-at c =
-    let y = c .before .before .before .before .parse in
-    was-read _ (bytes-at (c .before .before .before .before .before)) _ _ _ _ _ (ap (λ (x : CompactRead). (compactOf x, y .last .1 .0)) (sym (c .before .read .given .1)) ∙ y .ensures) (omega arith)
+    let p = after-parse c in
+    let y = p .parse in
+    was-read _ (bytes-at (p .before)) _ _ _ _ _ (ap (λ (x : CompactRead). (compactOf x, y .last .1 .0)) (sym (c .before .read .given .1)) ∙ y .ensures) (omega arith)
 
 array-share-prefix-list : tie.Need-array-share-prefix-list
 array-share-prefix-list c = read-at c .within
@@ -53,12 +61,13 @@ returns c = given-as _ _ _ _ (record-read _ _ _ _ (read-at (c .before .before .b
 
 returns-2 : tie.Need-returns-2
 returns-2 c =
-    let a = c .before .before .before .before .before .before .before .before .args in
-    let y = c .before .before .before .before .parse in
+    let p = c .before .before .before .before in
+    let a = start p .args in
+    let y = p .parse in
     let pic : Picture = record { chroma = a .chroma-format-idc; depth = a .bit-depth; width = a .width; height = a .height } in
     let e = ap (λ (x : CompactRead). (compactOf x, y .last .1 .0)) (sym (c .before .read2 .given .1)) ∙ y .ensures in
     written-refused (stillRecord (a .«record» .now) pic) (a .out .now) _
-    (record-unread (a .«record» .now) pic _ (not-read (a .«record» .now) (bytes-at (c .before .before .before .before .before)) _ _ _ e (omega arith)))
+    (record-unread (a .«record» .now) pic _ (not-read (a .«record» .now) (bytes-at (p .before)) _ _ _ e (omega arith)))
 
 pub still-record-spec : {M : Type 1} → statement M
 still-record-spec =

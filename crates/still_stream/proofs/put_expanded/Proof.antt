@@ -11,6 +11,10 @@ use borrow.Author.Needs.{needs}
 use Rattle.still_stream.proofs.put_expanded.Statement.{statement}
 use Rattle.still_stream.proofs.put_expanded.Tie as tie
 
+-- Where the function starts, seen from a later place.
+abbrev start : (c : tie.After-item-len) → tie.Start
+start c = c .before .before .before .before .before .before
+
 restored-len-requires : tie.Need-restored-len-requires
 restored-len-requires c κs = tt
 
@@ -25,15 +29,17 @@ same-length c = search needs
 
 returns : tie.Need-returns
 returns c =
-    let b = c .before .before .before .before .before .before .before .before .before .before .before .before in
-    given-as _ _ _ _ (stream-layers _ _ _ _ _ (ready _ _ _ (b .pre .0)) _ (sym (ap countOf (c .before .before .before .before .before .before .item-len .given .1)) ∙ c .before .before .before .before .before .before .before .before .restored-len .ensures) (b .pre .1) (c .before .before .before .before .if1 .taken))
+    let il = c .before .before .before .before .before .before in
+    let b = start il in
+    given-as _ _ _ _ (stream-layers _ _ _ _ _ (ready _ _ _ (b .pre .0)) _ (sym (ap countOf (il .item-len .given .1)) ∙ il .before .before .restored-len .ensures) (b .pre .1) (c .before .before .before .before .if1 .taken))
     (c .before .before .access-unit-annex-b .ensures)
 
 put-plain-requires : tie.Need-put-plain-requires
 put-plain-requires c κs =
-    let b = c .before .before .before .before .before .before .before .before .before in
+    let il = c .before .before .before in
+    let b = start il in
     let r = ready _ _ _ (b .pre .0) in
-    (r .plain, b .pre .1, plain-item _ _ _ _ (tolsOf (b .args .tols)) r _ (sym (ap countOf (c .before .before .before .item-len .given .1)) ∙ c .before .before .before .before .before .restored-len .ensures) (b .pre .1) (c .before .if1 .left))
+    (r .plain, b .pre .1, plain-item _ _ _ _ (tolsOf (b .args .tols)) r _ (sym (ap countOf (il .item-len .given .1)) ∙ il .before .before .restored-len .ensures) (b .pre .1) (c .before .if1 .left))
 
 enum-known-e : tie.Need-enum-known-e
 enum-known-e c = search needs
@@ -43,8 +49,9 @@ same-length-2 c = search needs
 
 returns-2 : tie.Need-returns-2
 returns-2 c =
-    let b = c .before .before .before .before .before .before .before .before .before .before .before .before in
-    given-as _ _ _ _ (stream-plain _ _ _ _ _ (ready _ _ _ (b .pre .0)) _ (sym (ap countOf (c .before .before .before .before .before .before .item-len .given .1)) ∙ c .before .before .before .before .before .before .before .before .restored-len .ensures) (b .pre .1) (c .before .before .before .before .if1 .left))
+    let il = c .before .before .before .before .before .before in
+    let b = start il in
+    given-as _ _ _ _ (stream-plain _ _ _ _ _ (ready _ _ _ (b .pre .0)) _ (sym (ap countOf (il .item-len .given .1)) ∙ il .before .before .restored-len .ensures) (b .pre .1) (c .before .before .before .before .if1 .left))
     (c .before .before .put-plain .ensures)
 
 returns-3 : tie.Need-returns-3

@@ -13,6 +13,13 @@ use Rattle.still_stream.proofs.still_stream.Statement.{statement}
 use Rattle.still_stream.proofs.still_stream.Tie as tie
 use Rattle.boxes.specs.Bytes.{AllBytes}
 
+-- Earlier places of the function, each seen from a later one.
+abbrev start : (c : tie.After-list) → tie.Start
+start c = c .before .before .before .before .before
+
+abbrev after-list : (c : tie.After-known-told) → tie.After-list
+after-list c = c .before .before .before .before .before
+
 returns : tie.Need-returns
 returns c =
     let a = c .before .before .before .before .args in
@@ -29,16 +36,16 @@ enum-known-read : tie.Need-enum-known-read
 enum-known-read c = search needs
 
 -- the lent record is bytes
-bytes-at : (c : tie.After-list) → AllBytes (c .before .before .before .before .before .args .«record» .now)
+bytes-at : (c : tie.After-list) → AllBytes (start c .args .«record» .now)
 bytes-at c i = omega (arith, c .before .before .before .before .shared-slice-known .given i)
 
 -- what compact read gave stands at the front of the array
 read-at : (c : tie.After-known-told)
-    → Read (c .before .before .before .before .before .before .before .before .before .before .args .«record» .now)
+    → Read (start (after-list c) .args .«record» .now)
     (c .before .read .given .0 .0) (c .before .read .given .0 .1 .0) (c .before .read .given .0 .1 .1 .0) (c .before .before .before .before .parse .last .1 .0)
 read-at c =
     let y = c .before .before .before .before .parse in
-    was-read _ (bytes-at (c .before .before .before .before .before)) _ _ _ _ _ (ap (λ (x : CompactRead). (compactOf x, y .last .1 .0)) (sym (c .before .read .given .1)) ∙ y .ensures) (omega arith)
+    was-read _ (bytes-at (after-list c)) _ _ _ _ _ (ap (λ (x : CompactRead). (compactOf x, y .last .1 .0)) (sym (c .before .read .given .1)) ∙ y .ensures) (omega arith)
 
 array-share-prefix-list : tie.Need-array-share-prefix-list
 array-share-prefix-list c = read-at c .within
@@ -47,7 +54,7 @@ slice-aggregate-put-stream : tie.Need-slice-aggregate-put-stream
 slice-aggregate-put-stream c = sym (read-at (c .before) .long)
 
 put-stream-requires : tie.Need-put-stream-requires
-put-stream-requires c κs = (read-at (c .before .before) .from, c .before .before .before .before .before .before .before .before .if1 .left)
+put-stream-requires c κs = (read-at (c .before .before) .from, after-list (c .before .before) .before .if1 .left)
 
 enum-known-read-2 : tie.Need-enum-known-read-2
 enum-known-read-2 c = search needs
@@ -56,16 +63,19 @@ same-length : tie.Need-same-length
 same-length c = search needs
 
 returns-2 : tie.Need-returns-2
-returns-2 c = given-as _ _ _ _ (stream-read _ _ _ (c .before .before .before .before .before .before .before .before .before .before .before .if1 .left) _ _ (read-at (c .before .before .before .before .before) .given)) (c .before .before .put-stream .ensures)
+returns-2 c =
+    let kt = c .before .before .before .before .before in
+    given-as _ _ _ _ (stream-read _ _ _ (after-list kt .before .if1 .left) _ _ (read-at kt .given)) (c .before .before .put-stream .ensures)
 
 returns-3 : tie.Need-returns-3
 returns-3 c =
-    let a = c .before .before .before .before .before .before .before .before .before .before .args in
+    let l = c .before .before .before .before .before in
+    let a = start l .args in
     let y = c .before .before .before .before .parse in
     let e = ap (λ (x : CompactRead). (compactOf x, y .last .1 .0)) (sym (c .before .read2 .given .1)) ∙ y .ensures in
     written-refused (stillStream (a .«record» .now) (a .stored .now) (tolsOf (a .tols))) (a .out .now) _
-    (stream-unread (a .«record» .now) (a .stored .now) (tolsOf (a .tols)) (c .before .before .before .before .before .before .if1 .left) _
-    (not-read (a .«record» .now) (bytes-at (c .before .before .before .before .before)) _ _ _ e (omega arith)))
+    (stream-unread (a .«record» .now) (a .stored .now) (tolsOf (a .tols)) (l .before .if1 .left) _
+    (not-read (a .«record» .now) (bytes-at l) _ _ _ e (omega arith)))
 
 pub still-stream-spec : {M : Type 1} → statement M
 still-stream-spec =

@@ -36,14 +36,16 @@ enum-known-measured-2 c = search needs
 
 returns : tie.Need-returns
 returns c =
-    let a = c .before .before .before .before .before .before .before .before .before .args in
-    length-known (a .head) (a .list .now) (a .item .now) (tolsOf (a .tols)) _ (c .before .before .before .before .before .before .target-of .ensures) _ (known-at (c .before .before .before .before .before) _ (c .before .before .before .measured .given .1)) _ (c .stream-len .ensures)
+    let m = c .before .before .before .before .before in
+    let a = m .before .before .before .before .args in
+    length-known (a .head) (a .list .now) (a .item .now) (tolsOf (a .tols)) _ (m .before .target-of .ensures) _ (known-at m _ (c .before .before .before .measured .given .1)) _ (c .stream-len .ensures)
 
 returns-2 : tie.Need-returns-2
 returns-2 c =
-    let a = c .before .before .before .before .before .before .before .args in
-    length-unknown (a .head) (a .list .now) (a .item .now) (tolsOf (a .tols)) _ (c .before .before .before .before .target-of .ensures) _
-    (unknown _ _ _ _ _ (ap sizesAnswerOf (sym (c .before .measured2 .given .1)) ∙ c .before .before .before .measure .ensures))
+    let m = c .before .before .before in
+    let a = m .before .before .before .before .args in
+    length-unknown (a .head) (a .list .now) (a .item .now) (tolsOf (a .tols)) _ (m .before .target-of .ensures) _
+    (unknown _ _ _ _ _ (ap sizesAnswerOf (sym (c .before .measured2 .given .1)) ∙ m .measure .ensures))
 
 pub access-unit-len-spec : {M : Type 1} → statement M
 access-unit-len-spec =

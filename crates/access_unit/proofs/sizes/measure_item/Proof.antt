@@ -14,6 +14,13 @@ use native.Mathlib.Omega.{arith}
 use Rattle.access_unit.proofs.sizes.measure_item.Statement.{statement}
 use Rattle.access_unit.proofs.sizes.measure_item.Tie as tie
 
+-- Earlier places of the function, each seen from a later one.
+abbrev start : (c : tie.After-item-sum) → tie.Start
+start c = c .before .before .before .before .before
+
+abbrev after-item-sum : (c : tie.After-summed) → tie.After-item-sum
+after-item-sum c = c .before .before
+
 -- the prefix size
 sized : (c : tie.Else1) → (1 ≤ c .before .before .before .args .length-size) × (c .before .before .before .args .length-size ≤ 4)
 sized c = size-inside _ (sym (c .before .outside .ensures) ∙ c .if1 .left)
@@ -36,49 +43,63 @@ item-sum-requires c κs =
 
 -- what the item's sum says
 sums : (d : tie.After-item-sum)
-    → summedOf (d .item-sum .result) ≡ andThen (keptLeft (d .before .before .before .before .before .args .length-size) (tolsOf (d .before .before .before .before .before .args .target)) (d .before .before .before .before .before .args .item .now) 0) (λ ks. accept (itemSum (d .before .before .before .before .before .args .item .now) ks))
+    → let a = start d .args in summedOf (d .item-sum .result) ≡ andThen (keptLeft (a .length-size) (tolsOf (a .target)) (a .item .now) 0) (λ ks. accept (itemSum (a .item .now) ks))
 sums d = rw (d .before .wide .ensures .0) at (d .item-sum .ensures)
 
 said : (d : tie.After-item-sum)
-    → andThen (summedOf (d .item-sum .result)) (bothSums (d .before .before .before .before .before .args .listed))
-    ≡ sizesWith (d .before .before .before .before .before .args .length-size) (tolsOf (d .before .before .before .before .before .args .target)) (d .before .before .before .before .before .args .item .now) (d .before .before .before .before .before .args .listed)
+    → let a = start d .args in andThen (summedOf (d .item-sum .result)) (bothSums (a .listed))
+    ≡ sizesWith (a .length-size) (tolsOf (a .target)) (a .item .now) (a .listed)
 said d =
-    let a = d .before .before .before .before .before .args in
+    let s = start d in
+    let a = s .args in
     let z = sized (d .before .before) in
-    sizes-left (a .length-size) (tolsOf (a .target)) (a .item .now) (a .listed) (d .before .before .before .before .before .pre .0) (z .0) (z .1) (summedOf (d .item-sum .result)) (sums d)
+    sizes-left (a .length-size) (tolsOf (a .target)) (a .item .now) (a .listed) (s .pre .0) (z .0) (z .1) (summedOf (d .item-sum .result)) (sums d)
 
-sum-said : (d : tie.After-item-sum) (w : UnitSum) → d .item-sum .result ≡ Sum w
-    → bothSums (d .before .before .before .before .before .args .listed) w ≡ sizesWith (d .before .before .before .before .before .args .length-size) (tolsOf (d .before .before .before .before .before .args .target)) (d .before .before .before .before .before .args .item .now) (d .before .before .before .before .before .args .listed)
-sum-said d w e = ap (λ (r : Summed). andThen (summedOf r) (bothSums (d .before .before .before .before .before .args .listed))) (sym e) ∙ said d
+sum-said : (d : tie.After-item-sum) → let a = start d .args in (w : UnitSum) → d .item-sum .result ≡ Sum w
+    → bothSums (a .listed) w ≡ sizesWith (a .length-size) (tolsOf (a .target)) (a .item .now) (a .listed)
+sum-said d w e = ap (λ (r : Summed). andThen (summedOf r) (bothSums (start d .args .listed))) (sym e) ∙ said d
 
 few : (d : tie.After-item-sum) (w : UnitSum) → d .item-sum .result ≡ Sum w → w .count + w .lengths ≤ 2 ^ 30
 few d w e =
-    let a = d .before .before .before .before .before .args in
+    let s = start d in
+    let a = s .args in
     let z = sized (d .before .before) in
-    item-sum-few (a .length-size) (tolsOf (a .target)) (a .item .now) (a .listed) (d .before .before .before .before .before .pre .0) (z .0) (z .1) w (ap summedOf (sym e) ∙ sums d)
+    item-sum-few (a .length-size) (tolsOf (a .target)) (a .item .now) (a .listed) (s .pre .0) (z .0) (z .1) w (ap summedOf (sym e) ∙ sums d)
 
 enum-known-summed : tie.Need-enum-known-summed
 enum-known-summed c = search needs
 
 add-count : tie.Need-add-count
-add-count c = let f = few (c .before .before .before .before .before) _ (c .before .before .before .summed .given .1) in omega (arith, c .before .before .before .before .before .before .before .before .before .before .pre .1)
+add-count c =
+    let su = c .before .before .before in
+    let is = after-item-sum su in
+    let f = few is _ (su .summed .given .1) in omega (arith, start is .pre .1)
 
 returns-2 : tie.Need-returns-2
-returns-2 c = sums-none (c .before .before .before .before .before .before .before .before .before .before .before .args .listed) (c .before .before .before .before .summed .given .0 .0) (c .if2 .taken) ∙ sum-said (c .before .before .before .before .before .before) _ (c .before .before .before .before .summed .given .1)
+returns-2 c =
+    let su = c .before .before .before .before in
+    let is = after-item-sum su in
+    sums-none (start is .args .listed) (su .summed .given .0 .0) (c .if2 .taken) ∙ sum-said is _ (su .summed .given .1)
 
 add-lengths : tie.Need-add-lengths
-add-lengths c = let f = few (c .before .before .before .before .before .before .before .before) _ (c .before .before .before .before .before .before .summed .given .1) in omega (arith, c .before .before .before .before .before .before .before .before .before .before .before .before .before .pre .1)
+add-lengths c =
+    let su = c .before .before .before .before .before .before in
+    let is = after-item-sum su in
+    let f = few is _ (su .summed .given .1) in omega (arith, start is .pre .1)
 
 enum-known-summed-2 : tie.Need-enum-known-summed-2
 enum-known-summed-2 c = search needs
 
 returns-3 : tie.Need-returns-3
-returns-3 c = sums-some (c .before .before .before .before .before .before .before .before .before .before .before .before .before .args .listed) (c .before .before .before .before .before .before .summed .given .0 .0) (c .before .before .if2 .left) ∙ sum-said (c .before .before .before .before .before .before .before .before) _ (c .before .before .before .before .before .before .summed .given .1)
+returns-3 c =
+    let su = c .before .before .before .before .before .before in
+    let is = after-item-sum su in
+    sums-some (start is .args .listed) (su .summed .given .0 .0) (c .before .before .if2 .left) ∙ sum-said is _ (su .summed .given .1)
 
 returns-4 : tie.Need-returns-4
 returns-4 c =
     let d = c .before .before .before in
-    ap (λ (r : Summed). andThen (summedOf r) (bothSums (d .before .before .before .before .before .args .listed))) (sym (c .before .summed2 .given .1)) ∙ said d
+    ap (λ (r : Summed). andThen (summedOf r) (bothSums (start d .args .listed))) (sym (c .before .summed2 .given .1)) ∙ said d
 
 pub measure-item-spec : {M : Type 1} → statement M
 measure-item-spec =

@@ -23,6 +23,10 @@ Inv-loop item size target from n out₀ to at₀ end₀ left₀ out at end left 
 abbrev μ-loop : tie.MeasureT-loop
 μ-loop item size target from n out₀ to at₀ end₀ left₀ out at end left = length item - at
 
+-- Where the function starts, seen from a later place.
+abbrev start : (c : tie.After-step Inv-loop μ-loop) → tie.Start Inv-loop μ-loop
+start c = c .before .before .before .before .before .before .before
+
 loop-holds : tie.Need-loop-holds Inv-loop μ-loop
 loop-holds c =
     let p = c .before .before .pre in
@@ -47,24 +51,24 @@ returns c =
 
 -- the unit that the step found
 turn-at : (c : tie.After-known-told Inv-loop μ-loop)
-    → Turn (c .before .before .before .before .before .before .before .before .args .size) (c .before .before .before .before .before .before .before .before .args .item .now)
-    (c .before .before .before .before .before .loop .at) (c .before .step .given .0 .0) (c .before .step .given .0 .1 .0)
+    → let st = c .before in let a = start st .args in Turn (a .size) (a .item .now)
+    (st .before .before .before .before .loop .at) (st .step .given .0 .0) (st .step .given .0 .1 .0)
 turn-at c = found-unit _ _ _ _ (c .before .before .before .item-step .ensures) _ _ (c .before .step .given .1)
 
 -- it lies inside the item
 inside-at : (c : tie.After-known-told Inv-loop μ-loop)
-    → c .before .step .given .0 .0 .start + c .before .step .given .0 .0 .len ≤ length (c .before .before .before .before .before .before .before .before .args .item .now)
+    → c .before .step .given .0 .0 .start + c .before .step .given .0 .0 .len ≤ length (start (c .before) .args .item .now)
 inside-at c = let t = turn-at c in omega (arith, t .here)
 
 kept-at-requires : tie.Need-kept-at-requires Inv-loop μ-loop
-kept-at-requires c κs = (inside-at c, c .before .before .before .before .before .before .before .before .pre .walks .lent)
+kept-at-requires c κs = (inside-at c, start (c .before) .pre .walks .lent)
 
 put-unit-requires : tie.Need-put-unit-requires Inv-loop μ-loop
 put-unit-requires c κs =
     let u = c .before .before .before in
     let t = turn-at u in
     let l = u .before .before .before .before .before .loop in
-    let a = u .before .before .before .before .before .before .before .before .args in
+    let a = start (u .before) .args in
     let k = over-kept (a .size) (tolsOf (a .target)) (a .item .now) _ _ _ (t .rest) (sym (c .before .before .kept-at .ensures) ∙ c .before .if1 .taken) in
     (inside-at u, first-room _ _ _ _ _ _ _ (keptLeft (a .size) (tolsOf (a .target)) (a .item .now) (u .before .step .given .0 .1 .0)) k (inside-at u) _ _ _ (l .inv .1) (u .before .before .before .before .loop-test .taken))
 
@@ -79,7 +83,7 @@ loop-again c =
     let u = c .before .before .before .before .before .before in
     let t = turn-at u in
     let l = u .before .before .before .before .before .loop in
-    let a = u .before .before .before .before .before .before .before .before .args in
+    let a = start (u .before) .args in
     let p = c .before .before .put-unit .ensures in
     let k = over-kept (a .size) (tolsOf (a .target)) (a .item .now) _ _ _ (t .rest) (sym (c .before .before .before .before .before .kept-at .ensures) ∙ c .before .before .before .before .if1 .taken) in
     (omega (arith, t .here), first-more _ _ _ _ _ _ _ (keptLeft (a .size) (tolsOf (a .target)) (a .item .now) (u .before .step .given .0 .1 .0)) k (inside-at u) _ _ _ (l .inv .1) (u .before .before .before .before .loop-test .taken) _ _ (p .0) (p .1))
@@ -92,7 +96,7 @@ loop-again-2 c =
     let u = c .before .before in
     let t = turn-at u in
     let l = u .before .before .before .before .before .loop in
-    let a = u .before .before .before .before .before .before .before .before .args in
+    let a = start (u .before) .args in
     let d = over-dropped (a .size) (tolsOf (a .target)) (a .item .now) _ _ _ (t .rest) (sym (c .before .kept-at .ensures) ∙ c .if1 .left) in
     (omega (arith, t .here), first-on _ _ _ _ _ _ _ d _ _ _ (l .inv .1))
 

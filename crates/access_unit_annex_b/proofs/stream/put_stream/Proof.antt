@@ -7,6 +7,16 @@ use native.Mathlib.Omega.{arith}
 use Rattle.access_unit_annex_b.proofs.stream.put_stream.Statement.{statement}
 use Rattle.access_unit_annex_b.proofs.stream.put_stream.Tie as tie
 
+-- Earlier places of the function, each seen from a later one.
+abbrev start : (c : tie.After-c) → tie.Start
+start c = c .before .before .before .before .before .before
+
+abbrev after-c : (c : tie.After-put-kept) → tie.After-c
+after-c c = c .before .before .before .before
+
+abbrev after-put-kept : (c : tie.After-put-units) → tie.After-put-kept
+after-put-kept c = c .before .before .before .before
+
 start-requires : tie.Need-start-requires
 start-requires c κs = search needs
 
@@ -25,32 +35,45 @@ wide-requires : tie.Need-wide-requires
 wide-requires c κs = search needs
 
 put-kept-requires : tie.Need-put-kept-requires
-put-kept-requires c κs = let s = c .before .before .before .before .before .before .before .before .before in puts-leading (s .args .length-size) (tolsOf (s .args .target)) (s .args .list .now) (s .args .item .now) (s .args .sizes) (s .args .out .now) (s .pre) _ (c .before .wide .ensures .0)
+put-kept-requires c κs =
+    let s = start (c .before .before .before) in
+    puts-leading (s .args .length-size) (tolsOf (s .args .target)) (s .args .list .now) (s .args .item .now) (s .args .sizes) (s .args .out .now) (s .pre) _ (c .before .wide .ensures .0)
 
 put-units-requires : tie.Need-put-units-requires
 put-units-requires c κs =
-    let s = c .before .before .before .before .before .before .before .before .before .before .before .before .before in
-    let t = c .before .before .before .before .before .before .before .before .before .start .ensures in
-    let g = c .before .before .before .before .before .before .before .c .given in
-    (start-fits _ _ t _ (g .1), puts-listed (s .args .length-size) (tolsOf (s .args .target)) (s .args .list .now) (s .args .item .now) (s .args .sizes) (s .args .out .now) (s .pre) _ (c .before .before .before .before .before .wide .ensures .0) _ _ (c .before .before .before .put-kept .ensures) _ (start-units _ _ t _ (g .1)))
+    let pk = c .before .before .before in
+    let p = after-c pk in
+    let s = start p in
+    let t = p .before .before .start .ensures in
+    let g = p .c .given in
+    (start-fits _ _ t _ (g .1), puts-listed (s .args .length-size) (tolsOf (s .args .target)) (s .args .list .now) (s .args .item .now) (s .args .sizes) (s .args .out .now) (s .pre) _ (pk .before .before .wide .ensures .0) _ _ (pk .put-kept .ensures) _ (start-units _ _ t _ (g .1)))
 
 sub-rest : tie.Need-sub-rest
-sub-rest c = let s = c .before .before .before .before .before .before .before .before .before .before .before .before .before .before .before .before .before in let l = lead-le (s .args .length-size) (tolsOf (s .args .target)) (s .args .list .now) (s .args .item .now) (s .args .sizes) (s .args .out .now) (s .pre) _ (c .before .before .before .before .before .before .before .before .before .wide .ensures .0) in omega arith
+sub-rest c =
+    let pk = after-put-kept (c .before .before .before) in
+    let s = start (after-c pk) in
+    let l = lead-le (s .args .length-size) (tolsOf (s .args .target)) (s .args .list .now) (s .args .item .now) (s .args .sizes) (s .args .out .now) (s .pre) _ (pk .before .before .wide .ensures .0) in omega arith
 
 put-kept-requires-2 : tie.Need-put-kept-requires-2
 put-kept-requires-2 c κs =
-    let s = c .before .before .before .before .before .before .before .before .before .before .before .before .before .before .before .before .before .before in
-    puts-following (s .args .length-size) (tolsOf (s .args .target)) (s .args .list .now) (s .args .item .now) (s .args .sizes) (s .args .out .now) (s .pre) _ (c .before .before .before .before .before .before .before .before .before .before .wide .ensures .0) _ _ (c .before .before .before .before .before .before .before .before .put-kept .ensures) _
-    (start-units _ _ (c .before .before .before .before .before .before .before .before .before .before .before .before .before .before .start .ensures) _ (c .before .before .before .before .before .before .before .before .before .before .before .before .c .given .1)) _ _ (c .before .before .before .before .put-units .ensures)
+    let pu = c .before .before .before .before in
+    let pk = after-put-kept pu in
+    let p = after-c pk in
+    let s = start p in
+    puts-following (s .args .length-size) (tolsOf (s .args .target)) (s .args .list .now) (s .args .item .now) (s .args .sizes) (s .args .out .now) (s .pre) _ (pk .before .before .wide .ensures .0) _ _ (pk .put-kept .ensures) _
+    (start-units _ _ (p .before .before .start .ensures) _ (p .c .given .1)) _ _ (pu .put-units .ensures)
 
 same-length : tie.Need-same-length
 same-length c = search needs
 
 returns-2 : tie.Need-returns-2
 returns-2 c =
-    let s = c .before .before .before .before .before .before .before .before .before .before .before .before .before .before .before .before .before .before .before .before .before in
-    put-whole (s .args .length-size) (tolsOf (s .args .target)) (s .args .list .now) (s .args .item .now) (s .args .sizes) (s .args .out .now) (s .pre) _ (c .before .before .before .before .before .before .before .before .before .before .before .before .before .wide .ensures .0) _ _ (c .before .before .before .before .before .before .before .before .before .before .before .put-kept .ensures) _
-    (start-units _ _ (c .before .before .before .before .before .before .before .before .before .before .before .before .before .before .before .before .before .start .ensures) _ (c .before .before .before .before .before .before .before .before .before .before .before .before .before .before .before .c .given .1)) _ _ (c .before .before .before .before .before .before .before .put-units .ensures) _ _ (c .before .before .put-kept2 .ensures)
+    let pu = c .before .before .before .before .before .before .before in
+    let pk = after-put-kept pu in
+    let p = after-c pk in
+    let s = start p in
+    put-whole (s .args .length-size) (tolsOf (s .args .target)) (s .args .list .now) (s .args .item .now) (s .args .sizes) (s .args .out .now) (s .pre) _ (pk .before .before .wide .ensures .0) _ _ (pk .put-kept .ensures) _
+    (start-units _ _ (p .before .before .start .ensures) _ (p .c .given .1)) _ _ (pu .put-units .ensures) _ _ (c .before .before .put-kept2 .ensures)
 
 pub put-stream-spec : {M : Type 1} → statement M
 put-stream-spec =

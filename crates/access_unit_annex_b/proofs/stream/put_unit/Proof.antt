@@ -20,8 +20,9 @@ put-number-requires c κs = search needs
 
 copy-requires : tie.Need-copy-requires
 copy-requires c κs =
-    let a = c .before .before .before .before .before .before .before .before .args in
-    let p = c .before .before .before .before .before .part in
+    let pa = c .before .before .before .before .before in
+    let a = pa .before .before .before .args in
+    let p = pa .part in
     let l = ap length (p .ensures .holds) ∙ held-long (a .src .now) (a .a) (omega arith) in
     omega arith
 

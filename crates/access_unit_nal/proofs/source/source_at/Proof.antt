@@ -13,14 +13,21 @@ use borrow.Author.Needs.{needs}
 use Rattle.access_unit_nal.proofs.source.source_at.Statement.{statement}
 use Rattle.access_unit_nal.proofs.source.source_at.Tie as tie
 
+-- Earlier places of the function, each seen from a later one.
+abbrev start : (c : tie.After-known-told) → tie.Start
+start c = c .before .before .before .before .before .before
+
+abbrev after-known-told : (c : tie.After-wide) → tie.After-known-told
+after-known-told c = c .before .before .before .before .before
+
 -- what was measured
 known-at : (c : tie.After-known-told)
-    → Known (c .before .before .before .before .before .before .args .length-size) (tolsOf (c .before .before .before .before .before .before .args .target)) (c .before .before .before .before .before .before .args .list .now) (c .before .before .before .before .before .before .args .item .now) (c .before .measured .given .0 .0)
+    → let a = start c .args in Known (a .length-size) (tolsOf (a .target)) (a .list .now) (a .item .now) (c .before .measured .given .0 .0)
 known-at c = known _ _ _ _ _ (ap sizesAnswerOf (sym (c .before .measured .given .1)) ∙ c .before .before .before .measure .ensures)
 
 -- the kept unit that stands as number k
 kept-at : (c : tie.After-wide)
-    → KeptAt (c .before .before .before .before .before .before .before .before .before .before .before .args .length-size) (tolsOf (c .before .before .before .before .before .before .before .before .before .before .before .args .target)) (c .before .before .before .before .before .before .before .before .before .before .before .args .list .now) (c .before .before .before .before .before .before .before .before .before .before .before .args .item .now) (c .before .before .before .before .before .before .before .before .before .before .before .args .k) (c .before .before .before .before .before .before .measured .given .0 .0) (known-at (c .before .before .before .before .before)) (c .wide .result) (c .wide .ensures .0) (c .before .before .n .given .0 .0)
+    → let kt = after-known-told c in let a = start kt .args in KeptAt (a .length-size) (tolsOf (a .target)) (a .list .now) (a .item .now) (a .k) (kt .before .measured .given .0 .0) (known-at kt) (c .wide .result) (c .wide .ensures .0) (c .before .before .n .given .0 .0)
 kept-at c = kept-number _ _ _ _ _ _ (known-at (c .before .before .before .before .before)) _ (c .wide .ensures .0) _ (subst (Numbered _ _) (c .before .before .n .given .1) (c .before .before .before .before .number-of .ensures))
 
 measure-requires : tie.Need-measure-requires
@@ -40,7 +47,8 @@ wide-requires c κs = search needs
 
 kept-unit-requires : tie.Need-kept-unit-requires
 kept-unit-requires c κs =
-    has-kept _ _ _ _ (c .before .before .before .before .before .before .before .before .before .before .before .args .k) _ (known-at (c .before .before .before .before .before)) _ (c .wide .ensures .0) _ (kept-at c .within)
+    let kt = after-known-told c in
+    has-kept _ _ _ _ (start kt .args .k) _ (known-at kt) _ (c .wide .ensures .0) _ (kept-at c .within)
 
 enum-known-n-2 : tie.Need-enum-known-n-2
 enum-known-n-2 c = search needs
@@ -59,16 +67,18 @@ returns c = (kept-at (c .before) .is _ (c .kept-unit .ensures .0), c .kept-unit 
 
 returns-2 : tie.Need-returns-2
 returns-2 c =
-    let a = c .before .before .before .before .before .before .before .before .before .before .before .args in
-    let h = subst (Numbered (c .before .before .before .before .before .before .measured .given .0 .0) (a .k)) (c .before .before .n2 .given .1) (c .before .before .before .before .number-of .ensures) in
+    let kt = c .before .before .before .before .before in
+    let a = start kt .args in
+    let h = subst (Numbered (kt .before .measured .given .0 .0) (a .k)) (c .before .before .n2 .given .1) (c .before .before .before .before .number-of .ensures) in
     let u = c .nal-unit-at in
-    (u .ensures .0 ∙ ap (λ (j : ℕ). placeFound inFirst (listUnits (a .list .now)) j) (h .1) ∙ at-listed (a .length-size) (tolsOf (a .target)) (a .list .now) (a .item .now) (a .k) _ (known-at (c .before .before .before .before .before)) (a .length-size) refl (h .0) (rw (h .1) at (h .2)), fits-more (a .list .now) (a .item .now) (u .result) (u .ensures .1))
+    (u .ensures .0 ∙ ap (λ (j : ℕ). placeFound inFirst (listUnits (a .list .now)) j) (h .1) ∙ at-listed (a .length-size) (tolsOf (a .target)) (a .list .now) (a .item .now) (a .k) _ (known-at kt) (a .length-size) refl (h .0) (rw (h .1) at (h .2)), fits-more (a .list .now) (a .item .now) (u .result) (u .ensures .1))
 
 returns-3 : tie.Need-returns-3
 returns-3 c =
-    let a = c .before .before .before .before .before .before .before .before .before .args in
-    let h = subst (Numbered (c .before .before .before .before .measured .given .0 .0) (a .k)) (c .enum-told .given .1) (c .before .before .number-of .ensures) in
-    (at-past (a .length-size) (tolsOf (a .target)) (a .list .now) (a .item .now) (a .k) _ (known-at (c .before .before .before)) (a .length-size) refl (h .0) (h .1) (h .2), tt)
+    let kt = c .before .before .before in
+    let a = start kt .args in
+    let h = subst (Numbered (kt .before .measured .given .0 .0) (a .k)) (c .enum-told .given .1) (c .before .before .number-of .ensures) in
+    (at-past (a .length-size) (tolsOf (a .target)) (a .list .now) (a .item .now) (a .k) _ (known-at kt) (a .length-size) refl (h .0) (h .1) (h .2), tt)
 
 returns-4 : tie.Need-returns-4
 returns-4 c =

@@ -11,6 +11,13 @@ use Rattle.compact_read.proofs.RecordUnits.{list-stored}
 use Rattle.compact_read.proofs.record_units.put_list.Statement.{statement}
 use Rattle.compact_read.proofs.record_units.put_list.Tie as tie
 
+-- Earlier places of the function, each seen from a later one.
+abbrev start : (c : tie.After-put) → tie.Start
+start c = c .before .before .before .before
+
+abbrev after-put : (c : tie.After-put-array-head) → tie.After-put
+after-put c = c .before .before .before .before
+
 -- there is room for all of it
 room-at : (c : tie.Start) → 7 + c .args .room ≤ length (c .args .out .now)
 room-at c =
@@ -25,22 +32,28 @@ add-put-array-head : tie.Need-add-put-array-head
 add-put-array-head c = let h = room-at (c .before .before .before .before .before .before .before) in omega arith
 
 put-array-head-requires : tie.Need-put-array-head-requires
-put-array-head-requires c κs = let h = room-at (c .before .before .before .before .before .before .before) in let k = c .before .before .before .put .kept .0 in omega arith
+put-array-head-requires c κs =
+    let p = c .before .before .before in
+    let h = room-at (start p) in let k = p .put .kept .0 in omega arith
 
 put-units-requires : tie.Need-put-units-requires
 put-units-requires c κs =
-    let b = c .before .before .before .before .before .before .before .before .before .before .before in
-    (b .pre .0, b .pre .1, copies-on _ _ _ (b .args .out .now) _ _ (b .pre .2) (c .before .before .before .put-array-head .kept .0 ∙ c .before .before .before .before .before .before .before .put .kept .0))
+    let pah = c .before .before .before in
+    let p = after-put pah in
+    let b = start p in
+    (b .pre .0, b .pre .1, copies-on _ _ _ (b .args .out .now) _ _ (b .pre .2) (pah .put-array-head .kept .0 ∙ p .put .kept .0))
 
 same-length : tie.Need-same-length
 same-length c = search needs
 
 returns : tie.Need-returns
 returns c =
-    let b = c .before .before .before .before .before .before .before .before .before .before .before .before .before .before in
+    let pah = c .before .before .before .before .before .before in
+    let p = after-put pah in
+    let b = start p in
     let a = b .args in
-    list-stored (a .«record» .now) (outcome (recordUnits (a .«record» .now) (a .count))) (a .out .now) (c .before .before .before .before .before .before .before .before .before .before .put .last .0) (c .before .before .before .before .before .before .put-array-head .last .0) _ (a .room) 7
-    (b .pre .2) (b .pre .3) (c .before .before .before .before .before .before .before .before .before .before .put .ensures) (c .before .before .before .before .before .before .put-array-head .ensures) (c .before .before .put-units .ensures)
+    list-stored (a .«record» .now) (outcome (recordUnits (a .«record» .now) (a .count))) (a .out .now) (p .put .last .0) (pah .put-array-head .last .0) _ (a .room) 7
+    (b .pre .2) (b .pre .3) (p .put .ensures) (pah .put-array-head .ensures) (c .before .before .put-units .ensures)
 
 pub put-list-spec : {M : Type 1} → statement M
 put-list-spec =

@@ -22,6 +22,10 @@ Inv-loop s count out₀ to left₀ at₀ next₀ out left at next =
 abbrev μ-loop : tie.MeasureT-loop
 μ-loop s count out₀ to left₀ at₀ next₀ out left at next = left
 
+-- An earlier place of the function, seen from a later one.
+abbrev at-loop : (c : tie.After-known-told Inv-loop μ-loop) → tie.At-loop Inv-loop μ-loop
+at-loop c = c .before .before .before .before .before
+
 loop-holds : tie.Need-loop-holds Inv-loop μ-loop
 loop-holds c =
     let b = c .before .before in
@@ -49,7 +53,7 @@ returns c =
 
 -- the unit that the turn found
 unit-at : (c : tie.After-known-told Inv-loop μ-loop)
-    → Turn (c .before .before .before .before .before .before .before .before .args .«record» .now) (c .before .before .before .before .before .loop .left) (c .before .before .before .before .before .loop .at) (c .before .a .given .0 .0)
+    → let lo = at-loop c in Turn (lo .before .before .before .args .«record» .now) (lo .loop .left) (lo .loop .at) (c .before .a .given .0 .0)
 unit-at c =
     let k = c .before .before .before .chunk in
     turn _ _ _ (c .before .before .before .before .loop-test .taken) (k .result) (k .ensures) _ (c .before .a .given .1)
@@ -57,11 +61,12 @@ unit-at c =
 -- what is left after it
 abbrev left-at : (c : tie.After-known-told Inv-loop μ-loop) → Outcome (List Span)
 left-at c =
+    let lo = at-loop c in
     let a = c .before .a .given .0 .0 in
-    outcome (times (c .before .before .before .before .before .loop .left - 1) (chunk 1) (c .before .before .before .before .before .before .before .before .args .«record» .now) (a .start + a .len))
+    outcome (times (lo .loop .left - 1) (chunk 1) (lo .before .before .before .args .«record» .now) (a .start + a .len))
 
-room-at : (c : tie.After-known-told Inv-loop μ-loop) → c .before .before .before .before .before .loop .next + 4 + c .before .a .given .0 .0 .len ≤ length (c .before .before .before .before .before .loop .out)
-room-at c = let t = unit-at c in copying-room _ _ _ _ _ _ _ _ (c .before .before .before .before .before .loop .inv .1) _ (t .inside) (left-at c) (t .left)
+room-at : (c : tie.After-known-told Inv-loop μ-loop) → let lo = at-loop c in lo .loop .next + 4 + c .before .a .given .0 .0 .len ≤ length (lo .loop .out)
+room-at c = let t = unit-at c in copying-room _ _ _ _ _ _ _ _ (at-loop c .loop .inv .1) _ (t .inside) (left-at c) (t .left)
 
 put-unit-requires : tie.Need-put-unit-requires Inv-loop μ-loop
 put-unit-requires c κs = (unit-at (c .before) .inside, omega arith, room-at (c .before))
@@ -83,8 +88,9 @@ loop-less c = search needs
 
 loop-again : tie.Need-loop-again Inv-loop μ-loop
 loop-again c =
-    let t = unit-at (c .before .before .before .before .before .before) in
-    (t .inside, copying-again _ _ _ _ _ _ _ _ (c .before .before .before .before .before .before .before .before .before .before .before .loop .inv .1) _ (t .inside) (left-at (c .before .before .before .before .before .before)) (t .left) _ (c .before .before .before .before .put-unit .ensures))
+    let kt = c .before .before .before .before .before .before in
+    let t = unit-at kt in
+    (t .inside, copying-again _ _ _ _ _ _ _ _ (at-loop kt .loop .inv .1) _ (t .inside) (left-at kt) (t .left) _ (c .before .before .before .before .put-unit .ensures))
 
 same-length-2 : tie.Need-same-length-2 Inv-loop μ-loop
 same-length-2 c = c .before .loop .inv .1 .same

@@ -11,13 +11,20 @@ use Rattle.compact_read.proofs.RecordUnits.{UnitsMeasured, measured-uni
 use Rattle.compact_read.proofs.record_units.record_room.Statement.{statement}
 use Rattle.compact_read.proofs.record_units.record_room.Tie as tie
 
+-- Earlier places of the function, each seen from a later one.
+abbrev start : (c : tie.After-wide) → tie.Start
+start c = c .before .before .before .before .before
+
+abbrev after-wide : (c : tie.After-known-told) → tie.After-wide
+after-wide c = c .before .before .before .before
+
 -- the unit count, by the record's first byte
-count-at : (c : tie.After-wide) → c .wide .result % 32 + 2 ≡ getD (c .before .before .before .before .before .args .«record» .now) 0 0 % 32 + 2
+count-at : (c : tie.After-wide) → c .wide .result % 32 + 2 ≡ getD (start c .args .«record» .now) 0 0 % 32 + 2
 count-at c = ap (λ (b : ℕ). b % 32 + 2) (c .wide .ensures .0 ∙ c .before .before .byte .ensures)
 
 -- what the measurement says
 measured-at : (c : tie.After-known-told)
-    → UnitsMeasured (c .before .before .before .before .before .before .before .before .before .args .«record» .now) (recordUnits (c .before .before .before .before .before .before .before .before .before .args .«record» .now) (c .before .before .before .before .wide .result % 32 + 2)) (c .before .room .given .0 .0) (c .before .room .given .0 .1 .0)
+    → let w = after-wide c in let a = start w .args in UnitsMeasured (a .«record» .now) (recordUnits (a .«record» .now) (w .wide .result % 32 + 2)) (c .before .room .given .0 .0) (c .before .room .given .0 .1 .0)
 measured-at c = measured-units _ _ _ _ (sym (ap unitsRoomOf (c .before .room .given .1)) ∙ c .before .before .before .units-room .ensures .0)
 
 returns : tie.Need-returns
@@ -46,29 +53,33 @@ enum-told c = search needs
 
 returns-3 : tie.Need-returns-3
 returns-3 c =
-    let s = c .before .before .before .before .before .before .before .before .args .«record» .now in
-    parse-short s (c .before .before .before .before .before .before .if1 .left) (omega (arith, c .before .before .before .before .if2 .left)) _ (count-at (c .before .before .before)) 1
+    let w = c .before .before .before in
+    let s = start w .args .«record» .now in
+    parse-short s (w .before .before .before .if1 .left) (omega (arith, w .before .if2 .left)) _ (count-at w) 1
     (measured-refused s _ 1 (sym (ap unitsRoomOf (c .enum-told .given .1)) ∙ c .before .before .units-room .ensures .0))
 
 returns-4 : tie.Need-returns-4
 returns-4 c =
-    let s = c .before .before .before .before .before .before .before .before .before .before .args .«record» .now in
+    let w = after-wide (c .before) in
+    let s = start w .args .«record» .now in
     let m = measured-at (c .before) in
-    parse-over s (c .before .before .before .before .before .before .before .before .if1 .left) (omega (arith, c .before .before .before .before .before .before .if2 .left)) _ (count-at (c .before .before .before .before .before)) (m .units) _ (m .read) (c .if3 .taken)
+    parse-over s (w .before .before .before .if1 .left) (omega (arith, w .before .if2 .left)) _ (count-at w) (m .units) _ (m .read) (c .if3 .taken)
 
 returns-5 : tie.Need-returns-5
 returns-5 c =
-    let m = measured-at (c .before) in
+    let kt = c .before in
+    let w = after-wide kt in
+    let m = measured-at kt in
     record {
-      lent = c .before .before .before .before .before .before .before .before .if1 .left;
-      some = omega (arith, c .before .before .before .before .before .before .if2 .left);
-      counted = count-at (c .before .before .before .before .before);
+      lent = w .before .before .before .if1 .left;
+      some = omega (arith, w .before .if2 .left);
+      counted = count-at w;
       units = m .units;
-      after = c .before .before .room .given .0 .1 .0;
+      after = kt .before .room .given .0 .1 .0;
       read = m .read;
       end = c .if3 .left;
       long = m .long;
-      few = subst RoomSmall (c .before .before .room .given .1) (c .before .before .before .before .units-room .ensures .1);
+      few = subst RoomSmall (kt .before .room .given .1) (kt .before .before .before .units-room .ensures .1);
     }
 
 pub record-room-spec : {M : Type 1} → statement M

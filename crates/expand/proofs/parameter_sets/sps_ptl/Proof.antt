@@ -10,6 +10,10 @@ use Rattle.expand.proofs.SetsRead.{sps-missing, sps-found, sps-refused,
 use Rattle.expand.proofs.parameter_sets.sps_ptl.Statement.{statement}
 use Rattle.expand.proofs.parameter_sets.sps_ptl.Tie as tie
 
+-- Where the function starts, seen from a later place.
+abbrev start : (c : tie.After-parse-nal) → tie.Start
+start c = c .before .before .before .before .before .before .before
+
 first-having-requires : tie.Need-first-having-requires
 first-having-requires c κs = search needs
 
@@ -47,25 +51,27 @@ no-ptl-requires-2 c κs = search needs
 
 returns-2 : tie.Need-returns-2
 returns-2 c =
-    let a = c .before .before .before .before .before .before .before .before .before .before .before .args in
+    let pn = c .before .before .before .before in
+    let a = start pn .args in
     let s = a .list .now in
-    let y = c .before .before .before .before .parse-nal in
-    let g = c .before .before .before .before .before .before .before .first .given in
+    let y = pn .parse-nal in
+    let g = pn .before .before .before .first .given in
     let u = held s (g .0 .0) in
-    let e = sym (ap (foundUnit s) (g .1)) ∙ c .before .before .before .before .before .before .before .before .before .first-having .ensures .0 in
-    let f = y .ensures ∙ ap spsGiven (c .before .before .before .before .before .part .ensures .holds) in
+    let e = sym (ap (foundUnit s) (g .1)) ∙ pn .before .before .before .before .before .first-having .ensures .0 in
+    let f = y .ensures ∙ ap spsGiven (pn .before .part .ensures .holds) in
     c .ptl-of-sets .ensures
     ∙ ap ptlOrZeros (sym (sps-found (unitsAt s (a .c)) u e (y .result .head) (read-value zeroSps (y .result .answer) (y .result .head) (parseSps u) f (c .before .enum-told2 .given .1))))
 
 returns-3 : tie.Need-returns-3
 returns-3 c =
-    let a = c .before .before .before .before .before .before .before .before .before .before .before .before .args in
+    let pn = c .before .before .before .before .before in
+    let a = start pn .args in
     let s = a .list .now in
-    let y = c .before .before .before .before .before .parse-nal in
-    let g = c .before .before .before .before .before .before .before .before .first .given in
+    let y = pn .parse-nal in
+    let g = pn .before .before .before .first .given in
     let u = held s (g .0 .0) in
-    let e = sym (ap (foundUnit s) (g .1)) ∙ c .before .before .before .before .before .before .before .before .before .before .first-having .ensures .0 in
-    let f = y .ensures ∙ ap spsGiven (c .before .before .before .before .before .before .part .ensures .holds) in
+    let e = sym (ap (foundUnit s) (g .1)) ∙ pn .before .before .before .before .before .first-having .ensures .0 in
+    let f = y .ensures ∙ ap spsGiven (pn .before .part .ensures .holds) in
     c .no-ptl2 .ensures
     ∙ ap ptlOrZeros (sym (sps-refused (unitsAt s (a .c)) u e _ (read-refusal zeroSps (y .result .answer) (y .result .head) (parseSps u) f _ (c .before .before .answer .given .1))))
 

@@ -10,6 +10,10 @@ use Rattle.full_read.proofs.head.read_with_ptl.Tie as tie
 use Rattle.full.specs.Read.{zeroHead}
 use Rattle.parse.specs.inner.Answers.{orZeros}
 
+-- Where the function starts, seen from a later place.
+abbrev start : (c : tie.After-read-ptl) → tie.Start
+start c = c .before .before .before .before
+
 refused-requires : tie.Need-refused-requires
 refused-requires c κs = search needs
 
@@ -41,18 +45,20 @@ refused-requires-2 c κs = search needs
 
 returns-2 : tie.Need-returns-2
 returns-2 c =
-    let a = c .before .before .before .before .before .before .before .before .before .args in
-    let h : 4 ≤ length (a .s .now) = omega (arith, c .before .before .before .before .before .before .before .if1 .left) in
-    let n = c .before .before .before .before .before .before .number in
-    let r = c .before .before .before .before .before .read-ptl in
+    let rp = c .before .before .before .before .before in
+    let a = start rp .args in
+    let h : 4 ≤ length (a .s .now) = omega (arith, rp .before .before .if1 .left) in
+    let n = rp .before .number in
+    let r = rp .read-ptl in
     c .read-sizes .ensures ∙ ap (orZeros zeroHead) (sym (ptl-read (a .size) (a .s .now) h (n .result) (n .ensures .0) (r .result) (r .ensures) _ (c .before .before .answer .given .1)))
 
 returns-3 : tie.Need-returns-3
 returns-3 c =
-    let a = c .before .before .before .before .before .before .before .before .before .args in
-    let h : 4 ≤ length (a .s .now) = omega (arith, c .before .before .before .before .before .before .before .if1 .left) in
-    let n = c .before .before .before .before .before .before .number in
-    let r = c .before .before .before .before .before .read-ptl in
+    let rp = c .before .before .before .before .before in
+    let a = start rp .args in
+    let h : 4 ≤ length (a .s .now) = omega (arith, rp .before .before .if1 .left) in
+    let n = rp .before .number in
+    let r = rp .read-ptl in
     c .refused2 .ensures ∙ ap (orZeros zeroHead) (sym (ptl-refused (a .size) (a .s .now) h (n .result) (n .ensures .0) (r .result) (r .ensures) _ (c .before .before .answer2 .given .1)))
 
 pub read-with-ptl-spec : {M : Type 1} → statement M

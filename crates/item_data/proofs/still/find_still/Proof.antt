@@ -14,6 +14,13 @@ use Rattle.item_data.proofs.still.find_still.Tie as tie
 use Rattle.split.specs.inner.Walk.{itemUnitsFrom}
 use Rattle.parse.specs.inner.Walk.{more}
 
+-- Earlier places of the function, each seen from a later one.
+abbrev start : (c : tie.After-wide) → tie.Start
+start c = c .before .before .before .before
+
+abbrev after-wide : (c : tie.After-known-told) → tie.After-wide
+after-wide c = c .before .before .before .before
+
 -- the prefix size
 sized : (c : tie.After-wide) → (1 ≤ c .wide .result) × (c .wide .result ≤ 4)
 sized c = rw (c .wide .ensures .0) (size-inside _ (sym (c .before .before .outside .ensures) ∙ c .before .if1 .left))
@@ -25,7 +32,7 @@ left-at c =
     sym (items-left (c .wide .result) (c .before .before .before .before .args .item .now) (z .0) (z .1)) ∙ ap (λ (n : ℕ). itemUnits n (c .before .before .before .before .args .item .now)) (c .wide .ensures .0)
 
 -- the unit that the step found
-unit-at : (c : tie.After-known-told) → Turn (c .before .before .before .before .wide .result) (c .before .before .before .before .before .before .before .before .args .item .now) 0 (c .before .a .given .0 .0) (c .before .a .given .0 .1 .0)
+unit-at : (c : tie.After-known-told) → let w = after-wide c in Turn (w .wide .result) (start w .args .item .now) 0 (c .before .a .given .0 .0) (c .before .a .given .0 .1 .0)
 unit-at c = found-unit _ _ _ _ (c .before .before .before .item-step .ensures) _ _ (c .before .a .given .1)
 
 outside-requires : tie.Need-outside-requires
@@ -47,29 +54,33 @@ enum-known-a c = search needs
 
 returns-2 : tie.Need-returns-2
 returns-2 c =
-    let a = c .before .before .before .before .before .before .args in
+    let w = c .before .before in
+    let a = start w .args in
     let k = c .before .item-step in (
-      none-still (a .item .now) (itemUnitsFrom (c .before .before .wide .result) (a .item .now) 0) (found-none _ _ _ (k .result) (k .ensures) (c .match .keys2))
-          ∙ ap (onlyStill (a .item .now)) (left-at (c .before .before)),
+      none-still (a .item .now) (itemUnitsFrom (w .wide .result) (a .item .now) 0) (found-none _ _ _ (k .result) (k .ensures) (c .match .keys2))
+          ∙ ap (onlyStill (a .item .now)) (left-at w),
       tt,
     )
 
 returns-3 : tie.Need-returns-3
 returns-3 c =
-    let a = c .before .before .before .before .before .before .before .before .before .args in
+    let w = after-wide (c .before) in
+    let a = start w .args in
     let u = unit-at (c .before) in
-    (more-after (a .item .now) (c .before .before .before .before .before .wide .result) _ _ (c .if2 .taken) ∙ ap (onlyStill (a .item .now)) (sym (u .rest) ∙ left-at (c .before .before .before .before .before)), tt)
+    (more-after (a .item .now) (w .wide .result) _ _ (c .if2 .taken) ∙ ap (onlyStill (a .item .now)) (sym (u .rest) ∙ left-at w), tt)
 
 still-of-requires : tie.Need-still-of-requires
 still-of-requires c κs = let u = unit-at (c .before) in omega arith
 
 returns-4 : tie.Need-returns-4
 returns-4 c =
-    let a = c .before .before .before .before .before .before .before .before .before .before .args in
-    let u = unit-at (c .before .before) in
-    let e : itemUnitsFrom (c .before .before .before .before .before .before .wide .result) (a .item .now) (c .before .before .before .a .given .0 .1 .0) ≡ accept [] = left-end _ _ _ (c .before .if2 .left) in (
+    let kt = c .before .before in
+    let w = after-wide kt in
+    let a = start w .args in
+    let u = unit-at kt in
+    let e : itemUnitsFrom (w .wide .result) (a .item .now) (kt .before .a .given .0 .1 .0) ≡ accept [] = left-end _ _ _ (c .before .if2 .left) in (
       c .still-of .ensures .0
-          ∙ ap (onlyStill (a .item .now)) (ap (more (c .before .before .before .a .given .0 .0)) (sym e) ∙ sym (u .rest) ∙ left-at (c .before .before .before .before .before .before)),
+          ∙ ap (onlyStill (a .item .now)) (ap (more (kt .before .a .given .0 .0)) (sym e) ∙ sym (u .rest) ∙ left-at w),
       c .still-of .ensures .1,
     )
 

@@ -11,6 +11,10 @@ use Rattle.item_data.proofs.Stills.{one-short, one-layer, one-type, one
 use Rattle.item_data.proofs.still.still_of.Statement.{statement}
 use Rattle.item_data.proofs.still.still_of.Tie as tie
 
+-- Where the function starts, seen from a later place.
+abbrev start : (c : tie.After-is-picture-data-of) → tie.Start
+start c = c .before .before .before .before .before .before .before
+
 returns : tie.Need-returns
 returns c =
     let b = c .before .before .before in
@@ -34,17 +38,17 @@ is-picture-data-of-requires : tie.Need-is-picture-data-of-requires
 is-picture-data-of-requires c κs = search needs
 
 -- the test of the kind is that of the type
-tested : (c : tie.After-is-picture-data-of) → c .is-picture-data-of .result ≡ eqb (getD (c .before .before .before .before .before .before .before .args .item .now) (c .before .before .before .before .before .before .before .args .a .start + 1) 0 / 8) 8
+tested : (c : tie.After-is-picture-data-of) → let a = start c .args in c .is-picture-data-of .result ≡ eqb (getD (a .item .now) (a .a .start + 1) 0 / 8) 8
 tested c = c .is-picture-data-of .ensures ∙ picture-data-of 8 _ (omega arith)
 
 returns-3 : tie.Need-returns-3
 returns-3 c =
-    let b = c .before .before .before .before .before .before .before .before in
+    let b = start (c .before) in
     (one-type (b .args .item .now) (b .args .a) (b .pre) (omega (arith, c .before .before .before .before .before .if1 .left)) (eqb-false _ 8 (sym (tested (c .before)) ∙ not-true _ (c .if3 .taken))), tt)
 
 returns-4 : tie.Need-returns-4
 returns-4 c =
-    let b = c .before .before .before .before .before .before .before .before .before in
+    let b = start (c .before .before) in
     (one-temporal (b .args .item .now) (b .args .a) (b .pre) (omega (arith, c .before .before .before .before .before .before .if1 .left)) (c .if4 .taken), tt)
 
 add-t9 : tie.Need-add-t9
@@ -52,10 +56,11 @@ add-t9 c = search needs
 
 returns-5 : tie.Need-returns-5
 returns-5 c =
-    let b = c .before .before .before .before .before .before .before .before .before .before in
-    let e = c .before .before .before .before .before .before .before .if1 .left in
-    let t = eqb-true _ 8 (sym (tested (c .before .before .before)) ∙ not-false _ (c .before .before .if3 .left)) in
-    (one-still (b .args .item .now) (b .args .a) (b .pre) (omega arith) (c .before .before .before .before .if2 .left) t (c .before .if4 .left), omega arith)
+    let ip = c .before .before .before in
+    let b = start ip in
+    let e = ip .before .before .before .before .if1 .left in
+    let t = eqb-true _ 8 (sym (tested ip) ∙ not-false _ (c .before .before .if3 .left)) in
+    (one-still (b .args .item .now) (b .args .a) (b .pre) (omega arith) (ip .before .if2 .left) t (c .before .if4 .left), omega arith)
 
 pub still-of-spec : {M : Type 1} → statement M
 still-of-spec =

@@ -36,7 +36,9 @@ same-length-2 : tie.Need-same-length-2
 same-length-2 c = search needs
 
 returns-2 : tie.Need-returns-2
-returns-2 c = let b = c .before .before .before .before .before .before .before .before in stored-unit _ _ _ (b .pre) (c .before .before .before .before .before .if1 .left) _ _ (c .before .before .before .before .wide .ensures .0) (c .before .before .store-still .ensures)
+returns-2 c =
+    let w = c .before .before .before .before in
+    let b = w .before .before .before .before in stored-unit _ _ _ (b .pre) (w .before .if1 .left) _ _ (w .wide .ensures .0) (c .before .before .store-still .ensures)
 
 pub store-item-spec : {M : Type 1} → statement M
 store-item-spec =

@@ -4,6 +4,10 @@ use Rattle.item_data.proofs.Stills.{still-stored}
 use Rattle.item_data.proofs.still.store_still.Statement.{statement}
 use Rattle.item_data.proofs.still.store_still.Tie as tie
 
+-- An earlier place of the function, seen from a later one.
+abbrev after-put-number : (c : tie.After-copy) → tie.After-put-number
+after-put-number c = c .before .before .before .before .before
+
 nal-header-requires : tie.Need-nal-header-requires
 nal-header-requires c κs = search needs
 
@@ -30,10 +34,12 @@ same-length c = search needs
 
 returns : tie.Need-returns
 returns c =
-    let a = c .before .before .before .before .before .before .before .before .before .before .before .before .before .before .before .before .args in
-    let n = c .before .before .before .before .before .before .before .before .before .before .before .put-number in
-    let x = c .before .before .before .before .before .before .copy in
-    still-stored (a .stored .now) (a .out .now) (n .last .0) (x .last .1 .0) _ (a .size) (c .before .before .before .before .before .before .before .before .before .before .before .before .before .nal-header .result) (c .before .before .before .before .before .before .before .before .before .before .before .before .before .nal-header .ensures) (n .ensures) (x .ensures) (c .before .before .copy2 .ensures)
+    let co = c .before .before .before .before .before .before in
+    let pn = after-put-number co in
+    let a = pn .before .before .before .before .before .args in
+    let n = pn .put-number in
+    let x = co .copy in
+    still-stored (a .stored .now) (a .out .now) (n .last .0) (x .last .1 .0) _ (a .size) (pn .before .before .nal-header .result) (pn .before .before .nal-header .ensures) (n .ensures) (x .ensures) (c .before .before .copy2 .ensures)
 
 pub store-still-spec : {M : Type 1} → statement M
 store-still-spec =

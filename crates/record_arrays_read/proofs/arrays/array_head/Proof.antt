@@ -9,6 +9,10 @@ use Rattle.record_arrays_read.proofs.arrays.array_head.Statement.{state
 use Rattle.record_arrays_read.proofs.arrays.array_head.Tie as tie
 use Rattle.record_arrays.specs.inner.Counts.{countLen}
 
+-- Where the function starts, seen from a later place.
+abbrev start : (c : tie.After-count-len) → tie.Start
+start c = c .before .before .before .before .before .before
+
 returns : tie.Need-returns
 returns c = let a = c .before .before .args in (sym (array-none (a .«record» .now) (a .at) (c .if1 .taken)), tt)
 
@@ -31,14 +35,15 @@ add-units-2 : tie.Need-add-units-2
 add-units-2 c = search needs
 
 -- the count takes what the type in the first byte says
-count-at : (c : tie.After-count-len) → c .count-len .result ≡ countLen (getD (c .before .before .before .before .before .before .args .«record» .now) (c .before .before .before .before .before .before .args .at) 0 % 32)
+count-at : (c : tie.After-count-len) → let a = start c .args in c .count-len .result ≡ countLen (getD (a .«record» .now) (a .at) 0 % 32)
 count-at c = c .count-len .ensures .0 ∙ ap countLen (c .before .unit-type-of .ensures)
 
 returns-2 : tie.Need-returns-2
 returns-2 c =
-    let a = c .before .before .before .before .before .before .before .args in
+    let cl = c .before in
+    let a = start cl .args in
     let n = count-at (c .before) in
-    (sym (array-short (a .«record» .now) (a .at) (omega (arith, c .before .before .before .before .before .if1 .left)) (omega (arith, c .if2 .taken))), tt)
+    (sym (array-short (a .«record» .now) (a .at) (omega (arith, cl .before .before .before .before .if1 .left)) (omega (arith, c .if2 .taken))), tt)
 
 add-unit-count : tie.Need-add-unit-count
 add-unit-count c = search needs
@@ -48,10 +53,11 @@ unit-count-requires c κs = let n = c .before .count-len .ensures .0 in omega (a
 
 returns-3 : tie.Need-returns-3
 returns-3 c =
-    let a = c .before .before .before .before .before .before .before .before .args in
-    let l : a .at + 1 + c .before .before .count-len .result ≤ length (a .«record» .now) = omega (arith, c .before .if2 .left) in (
-      array-headed (a .«record» .now) (a .at) (omega (arith, c .before .before .before .before .before .before .if1 .left)) _ _ _ _
-          (c .before .before .before .before .complete-of .ensures) (c .before .before .before .unit-type-of .ensures) (c .before .before .count-len .ensures .0) (c .unit-count .ensures) l,
+    let cl = c .before .before in
+    let a = start cl .args in
+    let l : a .at + 1 + cl .count-len .result ≤ length (a .«record» .now) = omega (arith, c .before .if2 .left) in (
+      array-headed (a .«record» .now) (a .at) (omega (arith, cl .before .before .before .before .if1 .left)) _ _ _ _
+          (cl .before .before .complete-of .ensures) (cl .before .unit-type-of .ensures) (cl .count-len .ensures .0) (c .unit-count .ensures) l,
       (omega arith, omega (arith, l)),
     )
 

@@ -12,6 +12,13 @@ use Rattle.record_arrays_read.proofs.Lists.{arrays-absent, arrays-refus
 use Rattle.record_arrays_read.proofs.arrays.read_list.Statement.{statement}
 use Rattle.record_arrays_read.proofs.arrays.read_list.Tie as tie
 
+-- Earlier places of the function, each seen from a later one.
+abbrev start : (c : tie.After-wide) → tie.Start
+start c = c .before .before .before .before .before
+
+abbrev after-wide : (c : tie.After-put) → tie.After-wide
+after-wide c = c .before .before .before .before .before .before .before
+
 returns : tie.Need-returns
 returns c = let a = c .before .before .before .args in output-refused _ _ 1 (arrays-absent (a .«record» .now) (a .at) (c .if1 .taken))
 
@@ -34,21 +41,22 @@ enum-told : tie.Need-enum-told
 enum-told c = search needs
 
 -- the count is there
-there : (c : tie.After-wide) → c .before .before .before .before .before .args .at < length (c .before .before .before .before .before .args .«record» .now)
+there : (c : tie.After-wide) → let a = start c .args in a .at < length (a .«record» .now)
 there c = omega (arith, c .before .before .if1 .left)
 
 returns-2 : tie.Need-returns-2
 returns-2 c =
-    let a = c .before .before .before .before .before .before .before .before .args in
-    let w = c .before .before .before .wide in
+    let wi = c .before .before .before in
+    let a = start wi .args in
+    let w = wi .wide in
     let k = c .before .before .arrays-room in
     output-refused _ _ 1
-    (arrays-refused (a .«record» .now) (a .at) (there (c .before .before .before)) (w .result) (w .ensures .0) 1 (room-short _ _ _ (k .result) (k .ensures) (c .enum-told .given .1)))
+    (arrays-refused (a .«record» .now) (a .at) (there wi) (w .result) (w .ensures .0) 1 (room-short _ _ _ (k .result) (k .ensures) (c .enum-told .given .1)))
 
 -- the arrays, measured
 found : (c : tie.After-known-told)
-    → RoomAt (c .before .before .before .before .before .before .before .before .before .args .«record» .now) (c .before .before .before .before .before .before .before .before .before .args .at + 1)
-    (roomTaken arraysInList (c .before .before .before .before .before .before .before .before .before .args .«record» .now) 0 (times (c .before .before .before .before .wide .result) recordArray (c .before .before .before .before .before .before .before .before .before .args .«record» .now) (c .before .before .before .before .before .before .before .before .before .args .at + 1)))
+    → let wi = c .before .before .before .before in let a = start wi .args in RoomAt (a .«record» .now) (a .at + 1)
+    (roomTaken arraysInList (a .«record» .now) 0 (times (wi .wide .result) recordArray (a .«record» .now) (a .at + 1)))
     (c .before .room .given .0 .0) (c .before .room .given .0 .1 .0)
 found c =
     let k = c .before .before .before .arrays-room in
@@ -59,9 +67,10 @@ add-len c = let r = found c in omega arith
 
 returns-3 : tie.Need-returns-3
 returns-3 c =
-    let a = c .before .before .before .before .before .before .before .before .before .before .args in
-    let w = c .before .before .before .before .before .wide in
-    list-too-long (a .«record» .now) (a .at) (there (c .before .before .before .before .before)) (w .result) (w .ensures .0) _ _ (found (c .before) .read) _ (c .if2 .taken)
+    let wi = c .before .before .before .before .before in
+    let a = start wi .args in
+    let w = wi .wide in
+    list-too-long (a .«record» .now) (a .at) (there wi) (w .result) (w .ensures .0) _ _ (found (c .before) .read) _ (c .if2 .taken)
 
 put-requires : tie.Need-put-requires
 put-requires c κs = search needs
@@ -71,19 +80,23 @@ add-put-arrays c = search needs
 
 put-arrays-requires : tie.Need-put-arrays-requires
 put-arrays-requires c κs =
-    let b = c .before .before .before .before .before .before .before .before .before .before .before .before .before .before .before in
+    let p = c .before .before .before in
+    let wi = after-wide p in
+    let b = start wi in
     let a = b .args in
-    let w = c .before .before .before .before .before .before .before .before .before .before .wide in
-    (b .pre, arrays-fit (a .«record» .now) (a .at) (there (c .before .before .before .before .before .before .before .before .before .before)) (w .result) (w .ensures .0) _ _ (found (c .before .before .before .before .before .before) .read) (a .out .now) (c .before .before .before .before .before .if2 .left) _ (c .before .before .before .put .ensures))
+    let w = wi .wide in
+    (b .pre, arrays-fit (a .«record» .now) (a .at) (there wi) (w .result) (w .ensures .0) _ _ (found (p .before .before .before) .read) (a .out .now) (p .before .before .if2 .left) _ (p .put .ensures))
 
 same-length : tie.Need-same-length
 same-length c = search needs
 
 returns-4 : tie.Need-returns-4
 returns-4 c =
-    let a = c .before .before .before .before .before .before .before .before .before .before .before .before .before .before .before .before .before .before .args in
-    let w = c .before .before .before .before .before .before .before .before .before .before .before .before .before .wide in
-    list-given (a .«record» .now) (a .at) (there (c .before .before .before .before .before .before .before .before .before .before .before .before .before)) (w .result) (w .ensures .0) _ _ (found (c .before .before .before .before .before .before .before .before .before) .read) _ (c .before .before .before .before .before .before .before .before .if2 .left) _ _ (c .before .before .before .before .before .before .put .ensures) (c .before .before .put-arrays .ensures)
+    let p = c .before .before .before .before .before .before in
+    let wi = after-wide p in
+    let a = start wi .args in
+    let w = wi .wide in
+    list-given (a .«record» .now) (a .at) (there wi) (w .result) (w .ensures .0) _ _ (found (p .before .before .before) .read) _ (p .before .before .if2 .left) _ _ (p .put .ensures) (c .before .before .put-arrays .ensures)
 
 pub read-list-spec : {M : Type 1} → statement M
 read-list-spec =

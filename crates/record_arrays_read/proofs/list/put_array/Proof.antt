@@ -7,6 +7,13 @@ use Rattle.record_arrays_read.proofs.RecordArrays.{HeadAt, head-short, 
 use Rattle.record_arrays_read.proofs.list.put_array.Statement.{statement}
 use Rattle.record_arrays_read.proofs.list.put_array.Tie as tie
 
+-- Earlier places of the function, each seen from a later one.
+abbrev start : (c : tie.After-known-told) → tie.Start
+start c = c .before .before .before .before .before .before
+
+abbrev after-known-told : (c : tie.After-put-units) → tie.After-known-told
+after-known-told c = c .before .before
+
 array-head-requires : tie.Need-array-head-requires
 array-head-requires c κs = search needs
 
@@ -25,7 +32,7 @@ returns c =
     absurd (let z : _≡_ {A = ℕ} 0 1 = cc in omega arith)
 
 -- what comes before the units
-found : (c : tie.After-known-told) → HeadAt (c .before .before .before .before .before .before .args .«record» .now) (c .before .before .before .before .before .before .args .at) (c .before .head .given .0 .0) (c .before .head .given .0 .1 .0)
+found : (c : tie.After-known-told) → let a = start c .args in HeadAt (a .«record» .now) (a .at) (c .before .head .given .0 .0) (c .before .head .given .0 .1 .0)
 found c =
     let h = c .before .before .before .array-head in
     head-at _ _ (h .result) (h .ensures) _ _ (c .before .head .given .1)
@@ -35,7 +42,7 @@ add-put-units c = search needs
 
 put-units-requires : tie.Need-put-units-requires
 put-units-requires c κs =
-    let a = c .before .before .before .before .before .before .before in
+    let a = start (c .before) in
     let h = found (c .before) in
     (a .pre .0, h .inside, stores-units (a .args .«record» .now) (a .args .at) _ _ (h .read) _ (a .args .to) (a .pre .1))
 
@@ -47,18 +54,22 @@ sub-rest-2 c = search needs
 
 put-array-head-requires : tie.Need-put-array-head-requires
 put-array-head-requires c κs =
-    let a = c .before .before .before .before .before .before .before .before .before .before .before .before in
-    let u = c .before .before .before .before .put-units in
-    head-room (a .args .«record» .now) (a .args .at) _ _ (found (c .before .before .before .before .before .before) .read) _ (a .args .to) (a .pre .1) _ (u .result) (u .ensures)
+    let pu = c .before .before .before .before in
+    let kt = after-known-told pu in
+    let a = start kt in
+    let u = pu .put-units in
+    head-room (a .args .«record» .now) (a .args .at) _ _ (found kt .read) _ (a .args .to) (a .pre .1) _ (u .result) (u .ensures)
 
 same-length : tie.Need-same-length
 same-length c = search needs
 
 returns-2 : tie.Need-returns-2
 returns-2 c =
-    let a = c .before .before .before .before .before .before .before .before .before .before .before .before .before .before .before in
-    let u = c .before .before .before .before .before .before .before .put-units in
-    stored-array (a .args .«record» .now) (a .args .at) _ _ (found (c .before .before .before .before .before .before .before .before .before) .read) _ (a .args .to) (a .pre .1) _ (u .result) (u .ensures) _ (c .before .before .put-array-head .ensures)
+    let pu = c .before .before .before .before .before .before .before in
+    let kt = after-known-told pu in
+    let a = start kt in
+    let u = pu .put-units in
+    stored-array (a .args .«record» .now) (a .args .at) _ _ (found kt .read) _ (a .args .to) (a .pre .1) _ (u .result) (u .ensures) _ (c .before .before .put-array-head .ensures)
 
 pub put-array-spec : {M : Type 1} → statement M
 put-array-spec =

@@ -18,6 +18,10 @@ Inv-loop «record» from count out₀ to left₀ at₀ next₀ out left at next 
 abbrev μ-loop : tie.MeasureT-loop
 μ-loop «record» from count out₀ to left₀ at₀ next₀ out left at next = left
 
+-- An earlier place of the function, seen from a later one.
+abbrev at-loop : (c : tie.After-known-told Inv-loop μ-loop) → tie.At-loop Inv-loop μ-loop
+at-loop c = c .before .before .before .before .before
+
 loop-holds : tie.Need-loop-holds Inv-loop μ-loop
 loop-holds c =
     let a = c .before .before .args in
@@ -48,24 +52,26 @@ returns c = absurd (short c)
 
 -- the unit that the turn found
 found : (c : tie.After-known-told Inv-loop μ-loop)
-    → UnitAt (c .before .before .before .before .before .before .before .before .args .«record» .now) (c .before .before .before .before .before .loop .at) (c .before .a .given .0 .0)
+    → let lo = at-loop c in UnitAt (lo .before .before .before .args .«record» .now) (lo .loop .at) (c .before .a .given .0 .0)
 found c =
     let k = c .before .before .before .chunk in
     unit-at _ _ (k .result) (k .ensures) _ (c .before .a .given .1)
 
 put-unit-requires : tie.Need-put-unit-requires Inv-loop μ-loop
 put-unit-requires c κs =
-    let t = found (c .before) in
-    let l = c .before .before .before .before .before .before .loop in
-    let h = storing-room (chunk 2) unitInList unitsInList units-none units-more _ _ _ _ (l .left) (l .at) (l .out) (l .next) (l .inv .1) (c .before .before .before .before .before .loop-test .taken) _ _ (t .read) in
+    let kt = c .before in
+    let t = found kt in
+    let l = at-loop kt .loop in
+    let h = storing-room (chunk 2) unitInList unitsInList units-none units-more _ _ _ _ (l .left) (l .at) (l .out) (l .next) (l .inv .1) (kt .before .before .before .before .loop-test .taken) _ _ (t .read) in
     (t .inside, omega arith, omega arith)
 
 -- and the room for it
-room : (c : tie.After-put-unit-arg Inv-loop μ-loop) → c .before .before .before .before .before .before .loop .next + (4 + c .before .before .a .given .0 .0 .len) ≤ length (c .before .before .before .before .before .before .loop .out)
+room : (c : tie.After-put-unit-arg Inv-loop μ-loop) → let lo = at-loop (c .before) in lo .loop .next + (4 + c .before .before .a .given .0 .0 .len) ≤ length (lo .loop .out)
 room c =
-    let t = found (c .before) in
-    let l = c .before .before .before .before .before .before .loop in
-    let h = storing-room (chunk 2) unitInList unitsInList units-none units-more _ _ _ _ (l .left) (l .at) (l .out) (l .next) (l .inv .1) (c .before .before .before .before .before .loop-test .taken) _ _ (t .read) in
+    let kt = c .before in
+    let t = found kt in
+    let l = at-loop kt .loop in
+    let h = storing-room (chunk 2) unitInList unitsInList units-none units-more _ _ _ _ (l .left) (l .at) (l .out) (l .next) (l .inv .1) (kt .before .before .before .before .loop-test .taken) _ _ (t .read) in
     omega arith
 
 add-next : tie.Need-add-next Inv-loop μ-loop
@@ -85,9 +91,10 @@ loop-less c = search needs
 
 loop-again : tie.Need-loop-again Inv-loop μ-loop
 loop-again c =
-    let t = found (c .before .before .before .before .before .before) in
-    let l = c .before .before .before .before .before .before .before .before .before .before .before .loop in
-    (t .inside, storing-next (chunk 2) unitInList unitsInList units-none units-more _ _ _ _ (l .left) (l .at) (l .out) (l .next) (l .inv .1) (c .before .before .before .before .before .before .before .before .before .before .loop-test .taken) _ _ (t .read) _ (c .before .before .before .before .put-unit .ensures) _ (omega arith))
+    let kt = c .before .before .before .before .before .before in
+    let t = found kt in
+    let l = at-loop kt .loop in
+    (t .inside, storing-next (chunk 2) unitInList unitsInList units-none units-more _ _ _ _ (l .left) (l .at) (l .out) (l .next) (l .inv .1) (kt .before .before .before .before .loop-test .taken) _ _ (t .read) _ (c .before .before .before .before .put-unit .ensures) _ (omega arith))
 
 same-length-2 : tie.Need-same-length-2 Inv-loop μ-loop
 same-length-2 c = c .before .loop .inv .1 .same

@@ -10,6 +10,10 @@ use Rattle.record_arrays_read.proofs.RecordArrays.{HeadAt, head-short, 
 use Rattle.record_arrays_read.proofs.room.array_room.Statement.{statement}
 use Rattle.record_arrays_read.proofs.room.array_room.Tie as tie
 
+-- Where the function starts, seen from a later place.
+abbrev start : (c : tie.After-known-told) → tie.Start
+start c = c .before .before .before .before .before
+
 array-head-requires : tie.Need-array-head-requires
 array-head-requires c κs = search needs
 
@@ -26,13 +30,13 @@ returns c =
     (sym (ap (roomTaken arrayInList (a .«record» .now) 0) (array-refused (a .«record» .now) (a .at) 1 (head-short (a .«record» .now) (a .at) (h .result) (h .ensures) (c .enum-told .given .1)))), tt)
 
 -- what comes before the units
-found : (c : tie.After-known-told) → HeadAt (c .before .before .before .before .before .args .«record» .now) (c .before .before .before .before .before .args .at) (c .before .head .given .0 .0) (c .before .head .given .0 .1 .0)
+found : (c : tie.After-known-told) → let a = start c .args in HeadAt (a .«record» .now) (a .at) (c .before .head .given .0 .0) (c .before .head .given .0 .1 .0)
 found c =
     let h = c .before .before .before .array-head in
     head-at _ _ (h .result) (h .ensures) _ _ (c .before .head .given .1)
 
 units-room-requires : tie.Need-units-room-requires
-units-room-requires c κs = (c .before .before .before .before .before .pre, found c .inside)
+units-room-requires c κs = (start c .pre, found c .inside)
 
 enum-known-room : tie.Need-enum-known-room
 enum-known-room c = search needs
@@ -42,14 +46,15 @@ enum-told-2 c = search needs
 
 returns-2 : tie.Need-returns-2
 returns-2 c =
-    let a = c .before .before .before .before .before .before .before .before .args in
+    let kt = c .before .before .before in
+    let a = start kt .args in
     let u = c .before .before .units-room in
-    (array-room (a .«record» .now) (a .at) _ _ (found (c .before .before .before) .read) (refused 1) (room-short (a .«record» .now) _ _ (u .result) (u .ensures) (c .enum-told2 .given .1)), tt)
+    (array-room (a .«record» .now) (a .at) _ _ (found kt .read) (refused 1) (room-short (a .«record» .now) _ _ (u .result) (u .ensures) (c .enum-told2 .given .1)), tt)
 
 -- the units, measured
 units-at : (c : tie.After-known-told2)
-    → RoomAt (c .before .before .before .before .before .before .before .before .before .args .«record» .now) (c .before .before .before .before .before .head .given .0 .1 .0)
-    (roomTaken unitsInList (c .before .before .before .before .before .before .before .before .before .args .«record» .now) 0 (times (c .before .before .before .before .before .head .given .0 .0 .count) (chunk 2) (c .before .before .before .before .before .before .before .before .before .args .«record» .now) (c .before .before .before .before .before .head .given .0 .1 .0)))
+    → let kt = c .before .before .before .before in let a = start kt .args in RoomAt (a .«record» .now) (kt .before .head .given .0 .1 .0)
+    (roomTaken unitsInList (a .«record» .now) 0 (times (kt .before .head .given .0 .0 .count) (chunk 2) (a .«record» .now) (kt .before .head .given .0 .1 .0)))
     (c .before .room .given .0 .0) (c .before .room .given .0 .1 .0)
 units-at c =
     let u = c .before .before .before .units-room in
@@ -60,8 +65,9 @@ add-t9 c = let r = units-at c in omega arith
 
 returns-3 : tie.Need-returns-3
 returns-3 c =
-    let a = c .before .before .before .before .before .before .before .before .before .args in
-    let h = found (c .before .before .before .before) in
+    let kt = c .before .before .before .before in
+    let a = start kt .args in
+    let h = found kt in
     let r = units-at c in
     (array-room (a .«record» .now) (a .at) _ _ (h .read) (value _ _) (r .read), (r .inside, omega arith))
 

@@ -9,6 +9,10 @@ use borrow.Author.Needs.{needs}
 use Rattle.still_measure.proofs.stream.expanded_len.Statement.{statement}
 use Rattle.still_measure.proofs.stream.expanded_len.Tie as tie
 
+-- Where the function starts, seen from a later place.
+abbrev start : (c : tie.After-item-len) → tie.Start
+start c = c .before .before .before .before .before
+
 restored-len-requires : tie.Need-restored-len-requires
 restored-len-requires c κs = tt
 
@@ -20,12 +24,13 @@ access-unit-len-requires c κs = tt
 
 returns : tie.Need-returns
 returns c =
-    let b = c .before .before .before .before .before .before .before .before in
-    counted-as _ _ _ (stream-layers _ _ _ _ _ (ready _ _ _ (b .pre .0)) _ (sym (ap countOf (c .before .before .before .item-len .given .1)) ∙ c .before .before .before .before .before .restored-len .ensures) (b .pre .1) (c .before .if1 .taken)) (c .access-unit-len .ensures)
+    let il = c .before .before .before in
+    let b = start il in
+    counted-as _ _ _ (stream-layers _ _ _ _ _ (ready _ _ _ (b .pre .0)) _ (sym (ap countOf (il .item-len .given .1)) ∙ il .before .before .restored-len .ensures) (b .pre .1) (c .before .if1 .taken)) (c .access-unit-len .ensures)
 
 plain-len-requires : tie.Need-plain-len-requires
 plain-len-requires c κs =
-    let b = c .before .before .before .before .before .before .before in
+    let b = start (c .before .before) in
     let r = ready _ _ _ (b .pre .0) in
     (r .plain, b .pre .1, plain-item _ _ _ _ (tolsOf (b .args .tols)) r _ (sym (ap countOf (c .before .before .item-len .given .1)) ∙ c .before .before .before .before .restored-len .ensures) (b .pre .1) (c .if1 .left))
 
@@ -34,8 +39,9 @@ enum-known-e c = search needs
 
 returns-2 : tie.Need-returns-2
 returns-2 c =
-    let b = c .before .before .before .before .before .before .before .before in
-    counted-as _ _ _ (stream-plain _ _ _ _ (tolsOf (b .args .tols)) (ready _ _ _ (b .pre .0)) _ (sym (ap countOf (c .before .before .before .item-len .given .1)) ∙ c .before .before .before .before .before .restored-len .ensures) (b .pre .1) (c .before .if1 .left)) (c .plain-len .ensures)
+    let il = c .before .before .before in
+    let b = start il in
+    counted-as _ _ _ (stream-plain _ _ _ _ (tolsOf (b .args .tols)) (ready _ _ _ (b .pre .0)) _ (sym (ap countOf (il .item-len .given .1)) ∙ il .before .before .restored-len .ensures) (b .pre .1) (c .before .if1 .left)) (c .plain-len .ensures)
 
 returns-3 : tie.Need-returns-3
 returns-3 c =

@@ -7,6 +7,10 @@ use borrow.Author.Needs.{needs}
 use Rattle.still_measure.proofs.stream.plain_len.Statement.{statement}
 use Rattle.still_measure.proofs.stream.plain_len.Tie as tie
 
+-- Where the function starts, seen from a later place.
+abbrev start : (c : tie.After-known-told) → tie.Start
+start c = c .before .before .before .before .before .before
+
 plain-sizes-requires : tie.Need-plain-sizes-requires
 plain-sizes-requires c κs = let p = c .before .before .pre in (p .0, p .2)
 
@@ -14,7 +18,7 @@ enum-known-sizes : tie.Need-enum-known-sizes
 enum-known-sizes c = search needs
 
 -- the list that was measured
-listed-here : (c : tie.After-known-told) → Listed (c .before .before .before .before .before .before .args .length-size) (c .before .before .before .before .before .before .args .list .now) (c .before .sizes .given .0 .0)
+listed-here : (c : tie.After-known-told) → let a = start c .args in Listed (a .length-size) (a .list .now) (c .before .sizes .given .0 .0)
 listed-here c = sized-listed _ _ _ _ (c .before .before .before .plain-sizes .ensures) _ (c .before .sizes .given .1) .0
 
 stream-len-requires : tie.Need-stream-len-requires
@@ -23,15 +27,16 @@ stream-len-requires c κs = let h = listed-small _ _ _ (listed-here c) in (omega
 picture-end-requires : tie.Need-picture-end-requires
 picture-end-requires c κs =
     let h = listed-small _ _ _ (listed-here (c .before)) in
-    (omega (arith, h .0, h .1, c .stream-len .ensures), c .before .before .before .before .before .before .before .pre .1)
+    (omega (arith, h .0, h .1, c .stream-len .ensures), start (c .before) .pre .1)
 
 enum-known-e : tie.Need-enum-known-e
 enum-known-e c = search needs
 
 returns : tie.Need-returns
 returns c =
-    let a = c .before .before .before .before .before .before .before .before .args in
-    stream-counted _ _ _ (listed-here (c .before .before)) (a .stored .now) (sized-listed _ _ _ _ (c .before .before .before .before .before .plain-sizes .ensures) _ (c .before .before .before .sizes .given .1) .1) _
+    let kt = c .before .before in
+    let a = start kt .args in
+    stream-counted _ _ _ (listed-here kt) (a .stored .now) (sized-listed _ _ _ _ (kt .before .before .before .plain-sizes .ensures) _ (kt .before .sizes .given .1) .1) _
     (omega (arith, c .picture-end .ensures, c .before .stream-len .ensures))
 
 returns-2 : tie.Need-returns-2

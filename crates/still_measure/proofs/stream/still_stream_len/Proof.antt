@@ -12,6 +12,13 @@ use Rattle.still_measure.proofs.stream.still_stream_len.Statement.{stat
 use Rattle.still_measure.proofs.stream.still_stream_len.Tie as tie
 use Rattle.boxes.specs.Bytes.{AllBytes}
 
+-- Earlier places of the function, each seen from a later one.
+abbrev start : (c : tie.After-parse) → tie.Start
+start c = c .before .before .before .before .before
+
+abbrev after-parse : (c : tie.After-known-told) → tie.After-parse
+after-parse c = c .before .before .before .before
+
 returns : tie.Need-returns
 returns c =
     let a = c .before .before .before .args in
@@ -33,11 +40,12 @@ bytes-at c i = omega (arith, c .before .before .before .shared-slice-known .give
 
 -- what compact read gave stands at the front of the array
 read-at : (c : tie.After-known-told)
-    → Read (c .before .before .before .before .before .before .before .before .before .args .«record» .now)
-    (c .before .read .given .0 .0) (c .before .read .given .0 .1 .0) (c .before .read .given .0 .1 .1 .0) (c .before .before .before .before .parse .last .1 .0)
+    → let p = after-parse c in Read (start p .args .«record» .now)
+    (c .before .read .given .0 .0) (c .before .read .given .0 .1 .0) (c .before .read .given .0 .1 .1 .0) (p .parse .last .1 .0)
 read-at c =
-    let y = c .before .before .before .before .parse in
-    was-read _ (bytes-at (c .before .before .before .before .before)) _ _ _ _ _ (ap (λ (x : CompactRead). (compactOf x, y .last .1 .0)) (sym (c .before .read .given .1)) ∙ y .ensures) (omega arith)
+    let p = after-parse c in
+    let y = p .parse in
+    was-read _ (bytes-at (p .before)) _ _ _ _ _ (ap (λ (x : CompactRead). (compactOf x, y .last .1 .0)) (sym (c .before .read .given .1)) ∙ y .ensures) (omega arith)
 
 array-share-prefix-list : tie.Need-array-share-prefix-list
 array-share-prefix-list c = read-at c .within
@@ -52,16 +60,17 @@ enum-known-read-2 : tie.Need-enum-known-read-2
 enum-known-read-2 c = search needs
 
 returns-2 : tie.Need-returns-2
-returns-2 c = counted-as _ _ _ (stream-read _ _ _ (c .before .before .before .before .before .before .before .before .if1 .left) _ _ (read-at (c .before .before) .given)) (c .stream-len .ensures)
+returns-2 c = counted-as _ _ _ (stream-read _ _ _ (after-parse (c .before .before) .before .before .if1 .left) _ _ (read-at (c .before .before) .given)) (c .stream-len .ensures)
 
 returns-3 : tie.Need-returns-3
 returns-3 c =
-    let a = c .before .before .before .before .before .before .before .before .before .args in
-    let y = c .before .before .before .before .parse in
+    let p = c .before .before .before .before in
+    let a = start p .args in
+    let y = p .parse in
     let e = ap (λ (x : CompactRead). (compactOf x, y .last .1 .0)) (sym (c .before .read2 .given .1)) ∙ y .ensures in
     counted-refused (stillStream (a .«record» .now) (a .stored .now) (tolsOf (a .tols))) _
-    (stream-unread (a .«record» .now) (a .stored .now) (tolsOf (a .tols)) (c .before .before .before .before .before .before .if1 .left) _
-    (not-read (a .«record» .now) (bytes-at (c .before .before .before .before .before)) _ _ _ e (omega arith)))
+    (stream-unread (a .«record» .now) (a .stored .now) (tolsOf (a .tols)) (p .before .before .if1 .left) _
+    (not-read (a .«record» .now) (bytes-at (p .before)) _ _ _ e (omega arith)))
 
 pub still-stream-len-spec : {M : Type 1} → statement M
 still-stream-len-spec =

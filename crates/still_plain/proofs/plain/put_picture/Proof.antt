@@ -4,6 +4,13 @@ use borrow.Author.Needs.{needs}
 use Rattle.still_plain.proofs.plain.put_picture.Statement.{statement}
 use Rattle.still_plain.proofs.plain.put_picture.Tie as tie
 
+-- Earlier places of the function, each seen from a later one.
+abbrev after-nal-header : (c : tie.After-put) → tie.After-nal-header
+after-nal-header c = c .before .before .before .before .before .before
+
+abbrev after-put : (c : tie.After-put2) → tie.After-put
+after-put c = c .before .before .before .before
+
 nal-header-requires : tie.Need-nal-header-requires
 nal-header-requires c κs = tt
 
@@ -39,8 +46,11 @@ same-length c = search needs
 
 returns : tie.Need-returns
 returns c =
-    let a = c .before .before .before .before .before .before .before .before .before .before .before .before .before .before .before .before .before .before .before .args in
-    picture-stored (a .stored .now) (a .out .now) _ _ _ _ (a .at) (c .before .before .before .before .before .before .before .before .before .before .before .before .before .before .before .before .nal-header .result) (c .before .before .before .before .before .before .before .before .before .before .before .before .before .before .before .before .nal-header .ensures) (c .before .before .before .before .before .before .before .before .before .before .before .before .before .before .put-number .ensures) (c .before .before .before .before .before .before .before .before .before .before .put .ensures) (c .before .before .before .before .before .before .put2 .ensures) (c .before .before .copy .ensures)
+    let pu = c .before .before .before .before .before .before in
+    let p = after-put pu in
+    let nh = after-nal-header p in
+    let a = nh .before .before .before .args in
+    picture-stored (a .stored .now) (a .out .now) _ _ _ _ (a .at) (nh .nal-header .result) (nh .nal-header .ensures) (p .before .before .before .before .put-number .ensures) (p .put .ensures) (pu .put2 .ensures) (c .before .before .copy .ensures)
 
 pub put-picture-spec : {M : Type 1} → statement M
 put-picture-spec =

@@ -7,6 +7,10 @@ use borrow.Author.Needs.{needs}
 use Rattle.still_plain.proofs.plain.put_plain.Statement.{statement}
 use Rattle.still_plain.proofs.plain.put_plain.Tie as tie
 
+-- Where the function starts, seen from a later place.
+abbrev start : (c : tie.After-plain-sizes) → tie.Start
+start c = c .before .before .before .before
+
 plain-sizes-requires : tie.Need-plain-sizes-requires
 plain-sizes-requires c κs = let p = c .before .before .before .pre in (p .0, p .2)
 
@@ -14,7 +18,9 @@ enum-known-sizes : tie.Need-enum-known-sizes
 enum-known-sizes c = search needs
 
 put-sized-requires : tie.Need-put-sized-requires
-put-sized-requires c κs = (sized-listed _ _ _ _ (c .before .before .before .before .plain-sizes .ensures) _ (c .before .before .sizes .given .1) .0, c .before .before .before .before .before .before .before .before .pre .1)
+put-sized-requires c κs =
+    let ps = c .before .before .before .before in
+    (sized-listed _ _ _ _ (ps .plain-sizes .ensures) _ (c .before .before .sizes .given .1) .0, start ps .pre .1)
 
 enum-known-e : tie.Need-enum-known-e
 enum-known-e c = search needs
@@ -27,8 +33,9 @@ returns c = given-as _ _ _ _ (sized-listed _ _ _ _ (c .before .before .before .b
 
 returns-2 : tie.Need-returns-2
 returns-2 c =
-    let a = c .before .before .before .before .before .before .before .args in
-    written-refused (plainStream (a .length-size) (a .list .now) (a .stored .now)) (a .out .now) _ (sized-refused _ _ _ _ (c .before .before .before .plain-sizes .ensures) _ (c .before .e .given .1))
+    let ps = c .before .before .before in
+    let a = start ps .args in
+    written-refused (plainStream (a .length-size) (a .list .now) (a .stored .now)) (a .out .now) _ (sized-refused _ _ _ _ (ps .plain-sizes .ensures) _ (c .before .e .given .1))
 
 pub put-plain-spec : {M : Type 1} → statement M
 put-plain-spec =

@@ -8,6 +8,10 @@ use borrow.Author.Needs.{needs}
 use Rattle.still_plain.proofs.plain.put_sized.Statement.{statement}
 use Rattle.still_plain.proofs.plain.put_sized.Tie as tie
 
+-- Where the function starts, seen from a later place.
+abbrev start : (c : tie.After-picture-end) → tie.Start
+start c = c .before .before .before .before .before
+
 stream-len-requires : tie.Need-stream-len-requires
 stream-len-requires c κs =
     let h = listed-small _ _ _ (c .before .before .before .pre .0) in
@@ -20,8 +24,9 @@ picture-end-requires c κs =
 
 returns : tie.Need-returns
 returns c =
-    let a = c .before .before .before .before .before .before .args in
-    let k = c .before .before .before .before .before .before .pre .0 in
+    let b = start (c .before) in
+    let a = b .args in
+    let k = b .pre .0 in
     written-short (unitsStream (a .list .now) (a .stored .now)) (a .out .now) _ (stream-given _ _ _ k (a .stored .now))
     (omega (arith, c .if1 .taken, c .before .picture-end .ensures, c .before .before .stream-len .ensures, stream-long _ _ _ k (a .stored .now)))
 
@@ -30,7 +35,9 @@ slice-aggregate-put-stream c = search needs
 
 put-stream-requires : tie.Need-put-stream-requires
 put-stream-requires c κs =
-    puts-front _ _ _ (c .before .before .before .before .before .before .before .before .pre .0) (c .before .before .before .before .before .before .before .before .args .out .now) (omega (arith, c .before .before .if1 .left, c .before .before .before .picture-end .ensures, c .before .before .before .before .stream-len .ensures))
+    let pe = c .before .before .before in
+    let b = start pe in
+    puts-front _ _ _ (b .pre .0) (b .args .out .now) (omega (arith, c .before .before .if1 .left, pe .picture-end .ensures, pe .before .stream-len .ensures))
 
 put-picture-requires : tie.Need-put-picture-requires
 put-picture-requires c κs = search needs
@@ -40,12 +47,15 @@ same-length c = search needs
 
 returns-2 : tie.Need-returns-2
 returns-2 c =
-    let a = c .before .before .before .before .before .before .before .before .before .before .before .before .before .before .before .args in
-    let k = c .before .before .before .before .before .before .before .before .before .before .before .before .before .before .before .pre .0 in
+    let ps = c .before .before .before .before .before .before in
+    let pe = ps .before .before .before .before in
+    let b = start pe in
+    let a = b .args in
+    let k = b .pre .0 in
     let l = stream-long _ _ _ k (a .stored .now) in
-    let s = c .before .before .before .before .before .before .before .before .before .before .before .stream-len .ensures in
-    written-fits (unitsStream (a .list .now) (a .stored .now)) (a .out .now) _ (stream-given _ _ _ k (a .stored .now)) _ _ (omega (arith, c .before .before .before .before .before .before .before .before .before .before .picture-end .ensures, s)) (c .before .before .before .before .before .before .before .before .before .if1 .left)
-    (stream-stored _ _ _ k (a .stored .now) (a .out .now) _ _ _ s (c .before .before .before .before .before .before .put-stream .ensures) (c .before .before .put-picture .ensures))
+    let s = pe .before .stream-len .ensures in
+    written-fits (unitsStream (a .list .now) (a .stored .now)) (a .out .now) _ (stream-given _ _ _ k (a .stored .now)) _ _ (omega (arith, pe .picture-end .ensures, s)) (ps .before .before .before .if1 .left)
+    (stream-stored _ _ _ k (a .stored .now) (a .out .now) _ _ _ s (ps .put-stream .ensures) (c .before .before .put-picture .ensures))
 
 pub put-sized-spec : {M : Type 1} → statement M
 put-sized-spec =

@@ -13,7 +13,7 @@ use Rattle.unit_list.specs.declared.ListCursor.{ListCursor}
 use Rattle.access_unit.specs.AccessUnit.{leading, following}
 use Rattle.unit_list.specs.inner.Find.{unitsLeft}
 use Rattle.access_unit.specs.inner.Gathered.{Walks, keptLeft, Gathered, gather, bytesAt, gatheredBytes}
-use Rattle.access_unit_annex_b.specs.inner.Stream.{foundStream, PutsAll, firstUnits, PutsFirst, FirstPut, PutsStream}
+use Rattle.access_unit_annex_b.specs.inner.Stream.{firstUnits, PutsFirst, FirstPut, PutsStream}
 use Rattle.access_unit.specs.declared.sizes.Sizes.{Sizes}
 use Rattle.access_unit_annex_b.specs.declared.stream.Places.{Places}
 use Rattle.access_unit.proofs.KeptUnits.{leads-and-follows, leading-take, following-drop}
@@ -21,6 +21,7 @@ use Rattle.access_unit.proofs.Sums.{leading-le}
 use Rattle.access_unit.proofs.Gathering.{From, gathered, Known}
 use Rattle.access_unit.proofs.Order.{stream-parts, stream-size}
 use Rattle.parse.proofs.General.{sets-append}
+use Rattle.parse.specs.inner.Stores.{bytesOf, Puts}
 
 -- there is room for it
 pub puts-stream : (size : ℕ) (target : Option ℕ) (list item : List ℕ) (v : Sizes) (out : List ℕ) → Known size target list item v
@@ -78,7 +79,7 @@ module _ (size : ℕ) (target : Option ℕ) (list item : List ℕ) (v : Sizes) (
       record { walks = walks 0 (omega arith); units = p .parts .kept; found = all-kept; enough = omega arith; room = rw first-is (omega arith) }
 
   module _ (r : Places) (led : List ℕ) (f : FirstPut s target item 0 (v .lead) out 0 r led) where
-    led-found : foundStream item (firstUnits (v .lead) (keptLeft s target item 0)) ≡ bytesAt item (leading item (p .parts .kept))
+    led-found : bytesOf (bytesAt item) (firstUnits (v .lead) (keptLeft s target item 0)) ≡ bytesAt item (leading item (p .parts .kept))
     led-found = rw (all-kept, first-is)
 
     led-out : r .out ≡ length (bytesAt item (leading item (p .parts .kept)))
@@ -94,17 +95,17 @@ module _ (size : ℕ) (target : Option ℕ) (list item : List ℕ) (v : Sizes) (
       listed : unitsLeft list c ≡ accept (p .parts .units)
       listed = units ∙ from .listed
 
-      pub puts-listed : PutsAll list (unitsLeft list c) led (r .out)
+      pub puts-listed : Puts (bytesAt list) (unitsLeft list c) led (r .out)
       puts-listed =
           let a = led-out in
           let b = led-long in
           let h = parts-long in
-          record { units = p .parts .units; found = listed; room = omega arith }
+          record { it = p .parts .units; found = listed; room = omega arith }
 
-      module _ (b : ℕ) (both : List ℕ) (h : (b ≡ r .out + length (foundStream list (unitsLeft list c))) × (both ≡ sets led (r .out) (foundStream list (unitsLeft list c)))) where
+      module _ (b : ℕ) (both : List ℕ) (h : (b ≡ r .out + length (bytesOf (bytesAt list) (unitsLeft list c))) × (both ≡ sets led (r .out) (bytesOf (bytesAt list) (unitsLeft list c)))) where
         both-out : b ≡ length (bytesAt item (leading item (p .parts .kept))) + length (bytesAt list (p .parts .units))
         both-out =
-            let e : foundStream list (unitsLeft list c) ≡ bytesAt list (p .parts .units) = rw listed in
+            let e : bytesOf (bytesAt list) (unitsLeft list c) ≡ bytesAt list (p .parts .units) = rw listed in
             let l = ap length e in
             let a = led-out in
             omega (arith, h .0)
@@ -144,7 +145,7 @@ module _ (size : ℕ) (target : Option ℕ) (list item : List ℕ) (v : Sizes) (
             let B = bytesAt list (p .parts .units) in
             let C = bytesAt item (following item (p .parts .kept)) in
             let o : b ≡ length A + length B = both-out in
-            let x : foundStream item (firstUnits (v .kept - v .lead) (keptLeft s target item (r .item))) ≡ C = rw (left, rest-all) in
+            let x : bytesOf (bytesAt item) (firstUnits (v .kept - v .lead) (keptLeft s target item (r .item))) ≡ C = rw (left, rest-all) in
             w .stored
             ∙ rw x (go A B C b o both-stored led-stored)
             ∙ ap (sets out 0) (sym (stream-parts list item (p .parts)))

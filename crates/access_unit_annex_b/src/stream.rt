@@ -21,8 +21,9 @@ ghost use Rattle.unit_list.specs.inner.Walk.{Fits};
 ghost use Rattle.unit_list.specs.inner.Find.{unitsLeft};
 ghost use Rattle.access_unit.specs.AccessUnit.{startCode};
 ghost use Rattle.access_unit.specs.Answers.{tolsOf};
-ghost use Rattle.access_unit_annex_b.specs.inner.Stream.{foundStream, PutsFirst, FirstPut, PutsAll, PutsStream};
-ghost use Rattle.access_unit.specs.inner.Gathered.{gather, gatheredBytes};
+ghost use Rattle.access_unit_annex_b.specs.inner.Stream.{PutsFirst, FirstPut, PutsStream};
+ghost use Rattle.access_unit.specs.inner.Gathered.{gather, gatheredBytes, bytesAt};
+ghost use Rattle.parse.specs.inner.Stores.{bytesOf, Puts};
 
 // After the units that were stored: the place of the item to read on from, and the place of the output.
 pub struct Places {
@@ -74,8 +75,8 @@ fn put_kept(
 
 // Stores the units of a list after a cursor; gives the place after them.
 fn put_units(list: &[u8], c: ListCursor, out: &mut [u8], to: usize) -> usize
-    requires { ⌜ Fits (now list) c × PutsAll (now list) (unitsLeft (now list) c) (now out) to ⌝ }
-    ensures { λ r. ⌜ (r ≡ to + length (foundStream (now (list .entry)) (unitsLeft (now (list .entry)) c))) × (now (out .exit) ≡ sets (now (out .entry)) to (foundStream (now (list .entry)) (unitsLeft (now (list .entry)) c))) ⌝ }
+    requires { ⌜ Fits (now list) c × Puts (bytesAt (now list)) (unitsLeft (now list) c) (now out) to ⌝ }
+    ensures { λ r. ⌜ (r ≡ to + length (bytesOf (bytesAt (now (list .entry))) (unitsLeft (now (list .entry)) c))) × (now (out .exit) ≡ sets (now (out .entry)) to (bytesOf (bytesAt (now (list .entry))) (unitsLeft (now (list .entry)) c))) ⌝ }
 {
     let mut here = c;
     let mut end = to;

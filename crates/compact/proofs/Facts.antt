@@ -20,12 +20,13 @@ use Rattle.unit_list.proofs.Arrays.{be-one, sound-none, sound-more}
 use Rattle.unit_list.proofs.Encode.{UnitsRead, units-encode}
 use Rattle.unit_list.proofs.Accepted.{held-long}
 use Rattle.compact.specs.Compact.{compactRecord, CompactParsed, oneArray, parsedWith, parseCompact, allAtMost, compactBytes, serializeCompact}
-use Rattle.compact.specs.inner.Units.{unitBytes, recordUnits, configOf, compactFirstByte}
+use Rattle.compact.specs.inner.Units.{recordUnits, configOf, compactFirstByte}
 use Rattle.compact.specs.declared.CompactVvcConfig.{CompactVvcConfig}
-use Rattle.compact.proofs.Copying.{room-more}
+use Rattle.unit_list.proofs.StoredUnits.{room-more}
 use Rattle.compact.proofs.OneArray.{list-long}
 use Rattle.compact.proofs.RecordRead.{times-length, parse-too-long, parse-empty, parse-short, parse-over, parse-given, record-given}
 use Rattle.compact.proofs.RecordBytes.{bytes-given}
+use Rattle.unit_list.specs.inner.Written.{unitBytes}
 
 -- every element is a byte
 abbrev pub AllBytes : List ℕ → Type 0

@@ -1,4 +1,3 @@
-pub mod Copying
 pub mod OneArray
 pub mod RecordRead
 pub mod RecordBytes

@@ -18,13 +18,14 @@ use Rattle.unit_list.specs.declared.ChunkRead.{ChunkRead}
 use Rattle.unit_list.specs.declared.ChunkRead.the-variants as C
 use Rattle.unit_list.proofs.Steps.{chunk-bytes, chunk-refused}
 use Rattle.compact.specs.Compact.{oneArray}
-use Rattle.compact.specs.inner.Units.{unitBytes, foundUnitBytes, Copies}
 use Rattle.compact_read.specs.inner.Room.{measured, foundList}
 use Rattle.compact.proofs.OneArray.{listHead, head-long, list-bytes}
-use Rattle.compact.proofs.Copying.{room-more}
+use Rattle.unit_list.proofs.StoredUnits.{room-more}
 use Rattle.parse.specs.inner.Walk.{more}
 use Rattle.parse.proofs.General.{sets-append}
 use Rattle.parse.proofs.Binds.{outcome-more}
+use Rattle.unit_list.specs.inner.Written.{unitBytes}
+use Rattle.parse.specs.inner.Stores.{bytesOf, Puts}
 
 -- one of n units read from place p on, and what is left after it
 pub record Turn (s : List ℕ) (n p : ℕ) (a : Span) : Type 0 where
@@ -95,11 +96,11 @@ measured-units s (refused n) room after e = absurd (let z : _≡_ {A = ℕ} 0 1 
 
 -- there is room for the list
 module _ (s : List ℕ) (x : Parsed (List Span)) (room after : ℕ) (m : UnitsMeasured s x room after) where
-  pub measured-copies : (out : List ℕ) → 7 + room ≤ length out → Copies 4 s (outcome x) out 7
-  measured-copies out h = record { units = m .units; found = ap outcome (m .read); fits = omega (arith, m .long) }
+  pub measured-copies : (out : List ℕ) → 7 + room ≤ length out → Puts (unitBytes 4 s) (outcome x) out 7
+  measured-copies out h = record { it = m .units; found = ap outcome (m .read); room = omega (arith, m .long) }
 
-  pub measured-room : room ≡ length (foundUnitBytes 4 s (outcome x))
-  measured-room = m .long ∙ sym (ap (λ (y : Parsed (List Span)). length (foundUnitBytes 4 s (outcome y))) (m .read))
+  pub measured-room : room ≡ length (bytesOf (unitBytes 4 s) (outcome x))
+  measured-room = m .long ∙ sym (ap (λ (y : Parsed (List Span)). length (bytesOf (unitBytes 4 s) (outcome y))) (m .read))
 
   pub measured-list : foundList s (outcome x) ≡ oneArray (map (held s) (m .units))
   measured-list = ap (λ (y : Parsed (List Span)). foundList s (outcome y)) (m .read)
@@ -109,8 +110,8 @@ measured-refused s (value us q) n e = absurd (let z : _≡_ {A = ℕ} 0 1 = cc i
 measured-refused s (refused m) n e = let z : m ≡ n = cc in ap refused z
 
 -- the list stored piece by piece
-pub list-stored : (s : List ℕ) (o : Outcome (List Span)) (out d e f : List ℕ) (room to : ℕ) → Copies 4 s o out to
-    → room ≡ length (foundUnitBytes 4 s o) → d ≡ set out 0 1 → e ≡ sets d 1 (toBe 4 (2 + room) ++ (0 ∷ 0 ∷ [])) → f ≡ sets e 7 (foundUnitBytes 4 s o)
+pub list-stored : (s : List ℕ) (o : Outcome (List Span)) (out d e f : List ℕ) (room to : ℕ) → Puts (unitBytes 4 s) o out to
+    → room ≡ length (bytesOf (unitBytes 4 s) o) → d ≡ set out 0 1 → e ≡ sets d 1 (toBe 4 (2 + room) ++ (0 ∷ 0 ∷ [])) → f ≡ sets e 7 (bytesOf (unitBytes 4 s) o)
     → f ≡ sets out 0 (foundList s o)
 list-stored s (refuse n) out d e f room to h l x y z = absurd (let w = h .found in let z : _≡_ {A = ℕ} 0 1 = cc in omega arith)
 list-stored s (accept us) out d e f room to h l x y z =

@@ -11,8 +11,10 @@ ghost use Prim.Native.Nat.{_≤_, _^_};
 ghost use lib.ListN.{length};
 ghost use lib.Seq.{sets};
 ghost use Rattle.parse.specs.Parse.{outcome};
-ghost use Rattle.compact.specs.inner.Units.{recordUnits, Copies, foundUnitBytes, configOf};
+ghost use Rattle.compact.specs.inner.Units.{recordUnits, configOf};
 ghost use Rattle.compact_read.specs.inner.Room.{measured, unitsRoomOf, RoomSmall, RoomSays, foundList};
+ghost use Rattle.parse.specs.inner.Stores.{bytesOf, Puts};
+ghost use Rattle.unit_list.specs.inner.Written.{unitBytes};
 
 // How many bytes the units take in a list, and the place after them in the record; or that they are not all there.
 pub enum UnitsRoom {
@@ -80,8 +82,8 @@ pub fn record_room(record: &[u8]) -> RecordRoom
 
 // Stores `count` units from a place on, each after a length of four bytes.
 fn put_units(record: &[u8], count: usize, out: &mut [u8], to: usize)
-    requires { ⌜ (1 ≤ length (now «record»)) × (length (now «record») ≤ 2 ^ 30) × Copies 4 (now «record») (outcome (recordUnits (now «record») count)) (now out) to ⌝ }
-    ensures { λ _. ⌜ now (out .exit) ≡ sets (now (out .entry)) to (foundUnitBytes 4 (now («record» .entry)) (outcome (recordUnits (now («record» .entry)) count))) ⌝ }
+    requires { ⌜ (1 ≤ length (now «record»)) × (length (now «record») ≤ 2 ^ 30) × Puts (unitBytes 4 (now «record»)) (outcome (recordUnits (now «record») count)) (now out) to ⌝ }
+    ensures { λ _. ⌜ now (out .exit) ≡ sets (now (out .entry)) to (bytesOf (unitBytes 4 (now («record» .entry))) (outcome (recordUnits (now («record» .entry)) count))) ⌝ }
 {
     let mut left = count;
     let mut at: usize = 1;
@@ -99,7 +101,7 @@ fn put_units(record: &[u8], count: usize, out: &mut [u8], to: usize)
 
 // Stores the list of `count` units, which take `room` bytes: its version, the head of its one array, the units.
 pub fn put_list(record: &[u8], count: usize, room: usize, out: &mut [u8])
-    requires { ⌜ (1 ≤ length (now «record»)) × (length (now «record») ≤ 2 ^ 30) × Copies 4 (now «record») (outcome (recordUnits (now «record») count)) (now out) 7 × (room ≡ length (foundUnitBytes 4 (now «record») (outcome (recordUnits (now «record») count)))) ⌝ }
+    requires { ⌜ (1 ≤ length (now «record»)) × (length (now «record») ≤ 2 ^ 30) × Puts (unitBytes 4 (now «record»)) (outcome (recordUnits (now «record») count)) (now out) 7 × (room ≡ length (bytesOf (unitBytes 4 (now «record»)) (outcome (recordUnits (now «record») count)))) ⌝ }
     ensures { λ _. ⌜ now (out .exit) ≡ sets (now (out .entry)) 0 (foundList (now («record» .entry)) (outcome (recordUnits (now («record» .entry)) count))) ⌝ }
 {
     place::put(out, 0, 1);

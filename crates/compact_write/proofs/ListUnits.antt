@@ -27,13 +27,15 @@ use Rattle.unit_list.proofs.Accepted.{held-long}
 use Rattle.unit_list.proofs.Turns.{ListTurn, list-found, list-end, list-malformed, start-units, start-refused}
 use Rattle.split.proofs.Items.{size-inside}
 use Rattle.compact.specs.Compact.{allAtMost, compactBytes, serializeCompact}
-use Rattle.compact.specs.inner.Units.{unitBytes, foundUnitBytes, Copies, compactFirstByte}
+use Rattle.compact.specs.inner.Units.{compactFirstByte}
 use Rattle.compact_write.specs.inner.Sums.{addingUnit, addingAll, summed, noUnits, recordLength, compactRecordOf}
 use Rattle.compact.specs.declared.CompactVvcConfig.{CompactVvcConfig}
 use Rattle.compact_write.specs.declared.list_units.RecordSum.{RecordSum}
-use Rattle.compact.proofs.Copying.{room-more}
+use Rattle.unit_list.proofs.StoredUnits.{room-more}
 use Rattle.boxes.specs.Bytes.{outside}
 use Rattle.parse.specs.inner.Walk.{more}
+use Rattle.unit_list.specs.inner.Written.{unitBytes}
+use Rattle.parse.specs.inner.Stores.{bytesOf, Puts}
 
 -- one unit more, and the others after it
 module _ (s : List ℕ) (a : Span) (inside : a .start + a .len ≤ length s) (v : RecordSum) where
@@ -168,7 +170,7 @@ module _ (c : CompactVvcConfig) (s : List ℕ) (o : Outcome (List Span)) (v : Re
   units-long = length-map (m .units) (held s) ∙ sym (m .count)
 
   -- it is refused where its length is, and has that length
-  recorded : compactRecordOf c s o ≡ andThen (recordLength c v) (λ n. accept (compactFirstByte c (v .count) ∷ foundUnitBytes 1 s o))
+  recorded : compactRecordOf c s o ≡ andThen (recordLength c v) (λ n. accept (compactFirstByte c (v .count) ∷ bytesOf (unitBytes 1 s) o))
   unfolding compactBytes
   recorded =
       ap (compactRecordOf c s) (m .found)
@@ -186,14 +188,14 @@ module _ (c : CompactVvcConfig) (s : List ℕ) (o : Outcome (List Span)) (v : Re
   pub record-refused : (n : ℕ) → refuse n ≡ recordLength c v → compactRecordOf c s o ≡ refuse n
   record-refused n e = recorded ∙ rw (← e)
 
-  pub record-given : (n : ℕ) → accept n ≡ recordLength c v → compactRecordOf c s o ≡ accept (compactFirstByte c (v .count) ∷ foundUnitBytes 1 s o)
+  pub record-given : (n : ℕ) → accept n ≡ recordLength c v → compactRecordOf c s o ≡ accept (compactFirstByte c (v .count) ∷ bytesOf (unitBytes 1 s) o)
   record-given n e = recorded ∙ rw (← e)
 
-  pub record-room : length (compactFirstByte c (v .count) ∷ foundUnitBytes 1 s o) ≡ 1 + v .room
-  record-room = let l = ap (λ (x : Outcome (List Span)). length (foundUnitBytes 1 s x)) (m .found) in omega (arith, m .room)
+  pub record-room : length (compactFirstByte c (v .count) ∷ bytesOf (unitBytes 1 s) o) ≡ 1 + v .room
+  record-room = let l = ap (λ (x : Outcome (List Span)). length (bytesOf (unitBytes 1 s) x)) (m .found) in omega (arith, m .room)
 
-  pub record-copies : (out : List ℕ) → 1 + v .room ≤ length out → Copies 1 s o out 1
-  record-copies out h = record { units = m .units; found = m .found; fits = omega (arith, m .room) }
+  pub record-copies : (out : List ℕ) → 1 + v .room ≤ length out → Puts (unitBytes 1 s) o out 1
+  record-copies out h = record { it = m .units; found = m .found; room = omega (arith, m .room) }
 
 -- the whole list, from its start
 module _ (c : CompactVvcConfig) (s : List ℕ) (r : ListStart) (f : (started s r ≡ typedList s) × (arraysStarted s r ≡ decode s) × StartFits s r) where

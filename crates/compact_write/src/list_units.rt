@@ -18,7 +18,9 @@ ghost use Rattle.parse.specs.Answers.{countOf, writtenOf};
 ghost use Rattle.unit_list.specs.inner.Walk.{Fits};
 ghost use Rattle.unit_list.specs.inner.Find.{unitsLeft};
 ghost use Rattle.compact_write.specs.inner.Sums.{addingUnit, summed, noUnits, sumOf, SumFits, recordLength, compactRecordOf};
-ghost use Rattle.compact.specs.inner.Units.{Copies, foundUnitBytes, compactFirstByte};
+ghost use Rattle.compact.specs.inner.Units.{compactFirstByte};
+ghost use Rattle.parse.specs.inner.Stores.{bytesOf, Puts};
+ghost use Rattle.unit_list.specs.inner.Written.{unitBytes};
 
 // The units seen so far: how many, the bytes that they take after lengths of one byte, and whether all fit such a length.
 pub struct RecordSum {
@@ -80,8 +82,8 @@ fn units_sum(list: &[u8], c: ListCursor) -> ListSum
 
 // Stores the units after a cursor from a place on, each after a length of one byte.
 fn put_units(list: &[u8], c: ListCursor, out: &mut [u8], to: usize)
-    requires { ⌜ Fits (now list) c × Copies 1 (now list) (unitsLeft (now list) c) (now out) to ⌝ }
-    ensures { λ _. ⌜ now (out .exit) ≡ sets (now (out .entry)) to (foundUnitBytes 1 (now (list .entry)) (unitsLeft (now (list .entry)) c)) ⌝ }
+    requires { ⌜ Fits (now list) c × Puts (unitBytes 1 (now list)) (unitsLeft (now list) c) (now out) to ⌝ }
+    ensures { λ _. ⌜ now (out .exit) ≡ sets (now (out .entry)) to (bytesOf (unitBytes 1 (now (list .entry))) (unitsLeft (now (list .entry)) c)) ⌝ }
 {
     let mut here = c;
     let mut at = to;
@@ -109,8 +111,8 @@ fn first_byte(config: CompactVvcConfig, count: usize) -> u8
 
 // Stores the record of `count` units after a cursor: the first byte, the units.
 fn store_record(config: CompactVvcConfig, count: usize, list: &[u8], c: ListCursor, out: &mut [u8])
-    requires { ⌜ (1 ≤ config .«length_size») × (config .«length_size» ≤ 4) × (2 ≤ count) × (count ≤ 33) × Fits (now list) c × Copies 1 (now list) (unitsLeft (now list) c) (now out) 1 ⌝ }
-    ensures { λ _. ⌜ now (out .exit) ≡ sets (now (out .entry)) 0 (compactFirstByte config count ∷ foundUnitBytes 1 (now (list .entry)) (unitsLeft (now (list .entry)) c)) ⌝ }
+    requires { ⌜ (1 ≤ config .«length_size») × (config .«length_size» ≤ 4) × (2 ≤ count) × (count ≤ 33) × Fits (now list) c × Puts (unitBytes 1 (now list)) (unitsLeft (now list) c) (now out) 1 ⌝ }
+    ensures { λ _. ⌜ now (out .exit) ≡ sets (now (out .entry)) 0 (compactFirstByte config count ∷ bytesOf (unitBytes 1 (now (list .entry))) (unitsLeft (now (list .entry)) c)) ⌝ }
 {
     let first = first_byte(config, count);
     place::put(out, 0, first);

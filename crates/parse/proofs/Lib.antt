@@ -4,3 +4,4 @@ pub mod Binds
 pub mod General
 pub mod Output
 pub mod Zeros
+pub mod Stores

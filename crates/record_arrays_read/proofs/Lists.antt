@@ -6,15 +6,16 @@ use native.Mathlib.Omega.{arith}
 use lib.ListN.{length, getD, set, length-set}
 use lib.Seq.{sets}
 use Rattle.parse.specs.Outcome.{Outcome, accept, refuse, lentOutput}
-use Rattle.parse.specs.Parse.{Parsed, value, refused, times}
+use Rattle.parse.specs.Parse.{Parsed, value, refused, times, outcome}
 use Rattle.boxes.specs.declared.Span.{Span}
 use Rattle.boxes.proofs.Fields.{uint-short}
 use Rattle.parse.proofs.Output.{output-short, output-fits}
 use Rattle.unit_list.specs.UnitList.{Array, encode, heldArrays}
 use Rattle.record_arrays.specs.Read.{recordArray}
-use Rattle.record_arrays_read.specs.inner.Arrays.{countedArrays, listGiven, arraysInList, roomTaken, storedBytes, Stores}
+use Rattle.record_arrays_read.specs.inner.Arrays.{countedArrays, listGiven, arraysInList, roomTaken, storedBytes}
 use Rattle.record_arrays_read.proofs.Repeated.{RoomFound, room-found, room-refused}
 use Rattle.record_arrays_read.proofs.RecordArrays.{byte-read}
+use Rattle.parse.specs.inner.Stores.{Puts}
 
 module _ (s : List ℕ) (at : ℕ) where
   pub arrays-absent : length s ≤ at → listGiven s (countedArrays s at) ≡ refuse 1
@@ -49,11 +50,11 @@ module _ (s : List ℕ) (at : ℕ) where
         list-too-long h = let l = list-long in output-short (listGiven s (countedArrays s at)) out (q, 1 + room) list given (omega arith)
 
         module _ (h : 1 + room ≤ length out) where
-          pub arrays-fit : (d : List ℕ) → d ≡ set out 0 1 → Stores arraysInList s (times n recordArray s (at + 1)) d 1
+          pub arrays-fit : (d : List ℕ) → d ≡ set out 0 1 → Puts (arraysInList s) (outcome (times n recordArray s (at + 1))) d 1
           arrays-fit d e =
               let k = ap length e ∙ length-set out 0 1 in
               let l = found .long in
-              record { what = found .what; ends = q; read = found .read; fits = omega arith }
+              record { it = found .what; found = ap outcome (found .read); room = omega arith }
 
           stored : (d e : List ℕ) → d ≡ set out 0 1 → e ≡ sets d 1 (storedBytes arraysInList s (times n recordArray s (at + 1))) → e ≡ sets out 0 list
           unfolding encode

@@ -7,7 +7,7 @@ use native.Mathlib.Omega.{arith}
 use lib.ListN.{length, getD, take, length-append}
 use lib.Seq.{sets, length-sets, take-length}
 use Rattle.parse.specs.Logic.{if_then_else_}
-use Rattle.parse.specs.Parse.{Parsed, value, refused, bind, give, times}
+use Rattle.parse.specs.Parse.{Parsed, value, refused, bind, give, times, outcome}
 use Rattle.boxes.specs.Bytes.{be, uint, chunk, toBe, toChunk}
 use Rattle.boxes.specs.Parts.{held}
 use Rattle.boxes.specs.declared.Span.{Span}
@@ -22,13 +22,15 @@ use Rattle.unit_list.proofs.Encode.{length-toChunk}
 use Rattle.unit_list.proofs.Accepted.{held-long}
 use Rattle.unit_list.proofs.Steps.{chunk-bytes, chunk-refused}
 use Rattle.record_arrays.specs.Read.{holdsOne, recordArray}
-use Rattle.record_arrays_read.specs.inner.Arrays.{arrayHead, arrayHeadOf, ArrayHeadFits, unitsInList, arrayInList, arraysInList, roomTaken, storedBytes, Stores, StoredAt}
+use Rattle.record_arrays_read.specs.inner.Arrays.{arrayHead, arrayHeadOf, ArrayHeadFits, unitsInList, arrayInList, arraysInList, roomTaken, storedBytes, StoredAt}
 use Rattle.record_arrays_read.specs.declared.ArrayHead.{ArrayHead}
 use Rattle.record_arrays_read.specs.declared.ArrayHeadRead.{ArrayHeadRead}
 use Rattle.record_arrays_read.specs.declared.ArrayHeadRead.the-variants as A
 use Rattle.record_arrays_read.specs.declared.list.Stored.{Stored}
 use Rattle.record_arrays.specs.inner.Counts.{countLen}
 use Rattle.parse.proofs.General.{sets-append, sets-before}
+use Rattle.parse.specs.Outcome.{accept}
+use Rattle.parse.specs.inner.Stores.{Puts}
 
 -- a byte that is there
 pub byte-read : (s : List ℕ) (p : ℕ) → p < length s → uint 1 s p ≡ value (getD s p 0) (p + 1)
@@ -182,28 +184,28 @@ module _ (s : List ℕ) (p : ℕ) where
     array-room m e = array-measured (times (h .count) (chunk 2) s q) m e ∙ ap (roomTaken arrayInList s 0) (sym array-units)
 
     -- stored
-    module _ (out : List ℕ) (to : ℕ) (stores : Stores arrayInList s (recordArray s p) out to) where
-      units-of : (x : Parsed (List Span)) → bind x (λ us r. value (withUnits h us) r) ≡ value (stores .what) (stores .ends) → Stores unitsInList s x out (to + 6)
+    module _ (out : List ℕ) (to : ℕ) (stores : Puts (arrayInList s) (outcome (recordArray s p)) out to) where
+      units-of : (x : Parsed (List Span)) → outcome (bind x (λ us r. value (withUnits h us) r)) ≡ accept (stores .it) → Puts (unitsInList s) (outcome x) out (to + 6)
       units-of (value us r) g =
-          let u : withUnits h us ≡ stores .what = cc in
+          let u : withUnits h us ≡ stores .it = cc in
           let b = ap (λ (a : Array Span). length (arrayInList s a)) u in
           let l = array-long s h us in
-          let f = stores .fits in
-          record { what = us; ends = r; read = refl; fits = omega arith }
+          let f = stores .room in
+          record { it = us; found = refl; room = omega arith }
       units-of (refused e) g = absurd (let z : _≡_ {A = ℕ} 0 1 = cc in omega arith)
 
-      pub stores-units : Stores unitsInList s (times (h .count) (chunk 2) s q) out (to + 6)
-      stores-units = units-of (times (h .count) (chunk 2) s q) (sym array-units ∙ stores .read)
+      pub stores-units : Puts (unitsInList s) (outcome (times (h .count) (chunk 2) s q)) out (to + 6)
+      stores-units = units-of (times (h .count) (chunk 2) s q) (sym (ap outcome array-units) ∙ stores .found)
 
       pub head-room : (d : List ℕ) (r : Stored) → StoredAt unitsInList s (times (h .count) (chunk 2) s q) out (to + 6) d r → to + 6 ≤ length d
       head-room d r i =
           let k = ap length (i .written) ∙ length-sets out (to + 6) (storedBytes unitsInList s (times (h .count) (chunk 2) s q)) in
-          let f = stores-units .fits in
+          let f = stores-units .room in
           omega arith
 
-      stored-of : (x : Parsed (List Span)) → Stores unitsInList s x out (to + 6) → (d : List ℕ) (r : Stored) → StoredAt unitsInList s x out (to + 6) d r
+      stored-of : (x : Parsed (List Span)) → Puts (unitsInList s) (outcome x) out (to + 6) → (d : List ℕ) (r : Stored) → StoredAt unitsInList s x out (to + 6) d r
           → (e : List ℕ) → e ≡ sets d to (headBytes h (r .to - to - 4)) → StoredAt arrayInList s (bind x (λ us r. value (withUnits h us) r)) out to e r
-      stored-of (refused j) g d r i e v = absurd (let w = g .read in let z : _≡_ {A = ℕ} 0 1 = cc in omega arith)
+      stored-of (refused j) g d r i e v = absurd (let w = g .found in let z : _≡_ {A = ℕ} 0 1 = cc in omega arith)
       stored-of (value us j) g d r i e v =
           let t = i .to in
           let n : r .to - to - 4 ≡ 2 + length (unitsInList s us) = omega arith in

@@ -5,14 +5,18 @@ use mathlib.Core.Path.{_≡_, refl, sym, ap, _∙_, subst}
 use mathlib.Core.List.{List, [], _∷_, _++_}
 use native.Mathlib.Omega.{arith}
 use lib.ListN.{length, length-append}
-use lib.Seq.{sets, length-sets}
-use Rattle.parse.specs.Parse.{Parsed, value, refused, bind, Parser, times}
+use lib.Seq.{sets}
+use Rattle.parse.specs.Parse.{Parsed, value, refused, bind, Parser, times, outcome}
 use Rattle.parse.proofs.Many.{times-nil, times-step, times-bad}
-use Rattle.record_arrays_read.specs.inner.Arrays.{listRoomOf, RoomFits, roomTaken, storedBytes, placeAfter, Stores, StoredAt}
+use Rattle.record_arrays_read.specs.inner.Arrays.{listRoomOf, RoomFits, roomTaken, placeAfter, StoredAt}
 use Rattle.record_arrays_read.specs.declared.room.ListRoom.{ListRoom}
 use Rattle.record_arrays_read.specs.declared.room.ListRoom.the-variants as M
 use Rattle.record_arrays_read.specs.declared.list.Stored.{Stored}
-use Rattle.parse.proofs.General.{sets-append}
+use Rattle.parse.specs.Outcome.{Outcome, accept}
+use Rattle.parse.specs.inner.Walk.{more}
+use Rattle.parse.specs.inner.Stores.{bytesOf, Puts}
+use Rattle.parse.proofs.Stores.{Putting, putting-start, putting-never, putting-end, putting-room, putting-again}
+use Rattle.parse.proofs.Binds.{outcome-more}
 
 -- what a measurement says
 module _ {A : Type 0} (f : List ℕ → A → List ℕ) (s : List ℕ) where
@@ -47,12 +51,17 @@ module _ (s : List ℕ) (p : ℕ) (x : Parsed ℕ) (r : ListRoom) (f : (listRoom
       let g = subst (λ (r : ListRoom). (listRoomOf r ≡ x) × RoomFits s p r) e f in
       record { read = g .0; inside = g .1 .0; few = g .1 .1 }
 
+-- what was accepted, and the place after it
+value-of : {A : Type 0} (x : Parsed A) (a : A) → outcome x ≡ accept a → x ≡ value a (placeAfter x)
+value-of (value b q) a e = let z : b ≡ a = cc in ap (λ c. value c q) z
+value-of (refused n) a e = let z : _≡_ {A = ℕ} 0 1 = cc in absurd (omega arith)
+
 -- P's values, the bytes of one and those of many
 module _ {A : Type 0} (P : Parser A) (f : List ℕ → A → List ℕ) (F : List ℕ → List A → List ℕ)
-    (none : (s : List ℕ) → F s [] ≡ []) (more : (s : List ℕ) (a : A) (xs : List A) → F s (a ∷ xs) ≡ f s a ++ F s xs) (s : List ℕ) where
+    (none : (s : List ℕ) → F s [] ≡ []) (first : (s : List ℕ) (a : A) (xs : List A) → F s (a ∷ xs) ≡ f s a ++ F s xs) (s : List ℕ) where
   -- the bytes of one more
   room-more : (a : A) (xs : List A) → length (F s (a ∷ xs)) ≡ length (f s a) + length (F s xs)
-  room-more a xs = ap length (more s a xs) ∙ length-append (f s a) (F s xs)
+  room-more a xs = ap length (first s a xs) ∙ length-append (f s a) (F s xs)
 
   times-done : (n p : ℕ) → n ≤ 0 → times n P s p ≡ value [] p
   times-done zero p h = times-nil P s p
@@ -83,91 +92,65 @@ module _ {A : Type 0} (P : Parser A) (f : List ℕ → A → List ℕ) (F : List
       room-next k m e = room-bind k m e (times (n - 1) P s q) ∙ ap (roomTaken F s k) (sym times-more)
 
   -- ### stored
+  place-more : (a : A) (x : Parsed (List A)) → placeAfter (bind x (λ rest r. value (a ∷ rest) r)) ≡ placeAfter x
+  place-more a (value xs r) = refl
+  place-more a (refused e) = refl
+
   -- n are left to be read from place p on and stored from place `to` on; x₀ was to be stored from place `start` of out₀ on
   pub record Storing (out₀ : List ℕ) (start : ℕ) (x₀ : Parsed (List A)) (n p : ℕ) (out : List ℕ) (to : ℕ) : Type 0 where
-    pub stores : Stores F s (times n P s p) out to
-    pub same : length out ≡ length out₀
-    pub whole : sets out to (storedBytes F s (times n P s p)) ≡ sets out₀ start (storedBytes F s x₀)
+    pub putting : Putting (F s) out₀ start (outcome x₀) (outcome (times n P s p)) out to
     pub place : placeAfter (times n P s p) ≡ placeAfter x₀
-    pub ends : to + length (storedBytes F s (times n P s p)) ≡ start + length (storedBytes F s x₀)
 
-  pub storing-start : (n p : ℕ) (out : List ℕ) (to : ℕ) → Stores F s (times n P s p) out to → Storing out to (times n P s p) n p out to
-  storing-start n p out to h = record { stores = h; same = refl; whole = refl; place = refl; ends = refl }
+  pub storing-start : (n p : ℕ) (out : List ℕ) (to : ℕ) → Puts (F s) (outcome (times n P s p)) out to → Storing out to (times n P s p) n p out to
+  storing-start n p out to h = record { putting = putting-start (F s) out to (outcome (times n P s p)) h; place = refl }
 
   module _ (out₀ : List ℕ) (start : ℕ) (x₀ : Parsed (List A)) (n p : ℕ) (out : List ℕ) (to : ℕ) (i : Storing out₀ start x₀ n p out to) where
+    pub storing-same : length out ≡ length out₀
+    storing-same = i .putting .same
+
     pub storing-done : n ≤ 0 → StoredAt F s x₀ out₀ start out (record { from = p; to = to })
     storing-done h =
         let e = times-done n p h in
-        let l = ap length (none s) in
-        let b : storedBytes F s (times n P s p) ≡ [] = ap (storedBytes F s) e ∙ none s in
-        let m = ap length b in
-        let j = i .ends in
-        record {
-          written = ap (sets out to) (sym b) ∙ i .whole;
-          from = sym (ap placeAfter e) ∙ i .place;
-          to = omega arith;
-        }
+        let w = putting-end (F s) out₀ start (outcome x₀) (outcome (times n P s p)) out to (i .putting) (none s) (ap outcome e) in
+        record { written = w .1; from = sym (ap placeAfter e) ∙ i .place; to = w .0 }
 
     module _ (some : 0 < n) where
       -- the next one is there
       pub storing-not-short : (e : ℕ) → P s p ≡ refused e → ⊥
       storing-not-short e w =
-          let a = times-refused n p some e w in
-          let b = i .stores .read in
-          let z : _≡_ {A = ℕ} 0 1 = cc in omega arith
+          putting-never (F s) out₀ start (outcome x₀) (outcome (times n P s p)) out to (i .putting) e (ap outcome (times-refused n p some e w))
 
       module _ (a : A) (q : ℕ) (w : P s p ≡ value a q) where
         -- what is left after one more
-        rest-of : (x : Parsed (List A)) → bind x (λ rest r. value (a ∷ rest) r) ≡ value (i .stores .what) (i .stores .ends)
-            → (d : List ℕ) → d ≡ sets out to (f s a) → (t : ℕ) → t ≡ to + length (f s a)
-            → Stores F s x d t × (sets d t (storedBytes F s x) ≡ sets out to (storedBytes F s (bind x (λ rest r. value (a ∷ rest) r))))
-            × (placeAfter x ≡ placeAfter (bind x (λ rest r. value (a ∷ rest) r)))
-            × (t + length (storedBytes F s x) ≡ to + length (storedBytes F s (bind x (λ rest r. value (a ∷ rest) r))))
-        rest-of (refused j) g d e t v = absurd (let z : _≡_ {A = ℕ} 0 1 = cc in omega arith)
-        rest-of (value xs r) g d e t v =
-            let u : a ∷ xs ≡ i .stores .what = cc in
-            let b = ap (λ (ys : List A). length (F s ys)) u in
-            let l = room-more a xs in
-            let h = i .stores .fits in
-            let k = ap length e ∙ length-sets out to (f s a) in (
-              record { what = xs; ends = r; read = refl; fits = omega arith },
-              rw (e, v, more s a xs) (sets-append out to (f s a) (F s xs)),
-              refl,
-              omega arith,
-            )
+        left : outcome (times n P s p) ≡ more a (outcome (times (n - 1) P s q))
+        left = ap outcome (times-more n p some a q w) ∙ outcome-more a (times (n - 1) P s q)
 
         pub storing-next : (d : List ℕ) → d ≡ sets out to (f s a) → (t : ℕ) → t ≡ to + length (f s a) → Storing out₀ start x₀ (n - 1) q d t
         storing-next d e t v =
-            let m = times-more n p some a q w in
-            let r = rest-of (times (n - 1) P s q) (sym m ∙ i .stores .read) d e t v in
             record {
-              stores = r .0;
-              same = ap length e ∙ length-sets out to (f s a) ∙ i .same;
-              whole = r .1 ∙ ap (λ (x : Parsed (List A)). sets out to (storedBytes F s x)) (sym m) ∙ i .whole;
-              place = r .2 ∙ ap placeAfter (sym m) ∙ i .place;
-              ends = r .3 ∙ ap (λ (x : Parsed (List A)). to + length (storedBytes F s x)) (sym m) ∙ i .ends;
+              putting =
+                  putting-again (F s) out₀ start (outcome x₀) (outcome (times n P s p)) out to (i .putting) a (f s a) (first s a)
+                  (outcome (times (n - 1) P s q)) left d e t v;
+              place = sym (place-more a (times (n - 1) P s q)) ∙ ap placeAfter (sym (times-more n p some a q w)) ∙ i .place;
             }
 
         pub storing-room : to + length (f s a) ≤ length out
         storing-room =
-            let r = rest-of (times (n - 1) P s q) (sym (times-more n p some a q w) ∙ i .stores .read) (sets out to (f s a)) refl (to + length (f s a)) refl in
-            let h = r .0 .fits in
-            let k = length-sets out to (f s a) in
-            omega arith
+            putting-room (F s) out₀ start (outcome x₀) (outcome (times n P s p)) out to (i .putting) a (f s a) (first s a)
+            (outcome (times (n - 1) P s q)) left
 
-      one-of : (x : Parsed A) → P s p ≡ x → Stores f s (P s p) out to
-      one-of (value a q) w = record { what = a; ends = q; read = w; fits = storing-room a q w }
+      one-of : (x : Parsed A) → P s p ≡ x → Puts (f s) (outcome (P s p)) out to
+      one-of (value a q) w = record { it = a; found = ap outcome w; room = storing-room a q w }
       one-of (refused e) w = absurd (storing-not-short e w)
 
       -- and has room
-      pub storing-one : Stores f s (P s p) out to
+      pub storing-one : Puts (f s) (outcome (P s p)) out to
       storing-one = one-of (P s p) refl
 
       -- and once its bytes are stored, what is left
       pub storing-stored : (d : List ℕ) (r : Stored) → StoredAt f s (P s p) out to d r → Storing out₀ start x₀ (n - 1) (r .from) d (r .to)
       storing-stored d r v =
           let o = storing-one in
-          let e : d ≡ sets out to (f s (o .what)) = v .written ∙ ap (λ (x : Parsed A). sets out to (storedBytes f s x)) (o .read) in
-          let q : r .from ≡ o .ends = v .from ∙ ap placeAfter (o .read) in
-          let t : r .to ≡ to + length (f s (o .what)) = v .to ∙ ap (λ (x : Parsed A). to + length (storedBytes f s x)) (o .read) in
-          storing-next (o .what) (r .from) (o .read ∙ ap (value (o .what)) (sym q)) d e (r .to) t
+          let e : d ≡ sets out to (f s (o .it)) = v .written ∙ ap (λ (x : Outcome A). sets out to (bytesOf (f s) x)) (o .found) in
+          let t : r .to ≡ to + length (f s (o .it)) = v .to ∙ ap (λ (x : Outcome A). to + length (bytesOf (f s) x)) (o .found) in
+          storing-next (o .it) (r .from) (value-of (P s p) (o .it) (o .found) ∙ ap (value (o .it)) (sym (v .from))) d e (r .to) t

@@ -7,10 +7,11 @@ ghost use mathlib.Core.Path.{_≡_};
 ghost use Prim.Native.Nat.{_+_, _≤_, _^_};
 ghost use lib.ListN.{length};
 ghost use lib.Seq.{sets};
-ghost use Rattle.parse.specs.Parse.{times};
+ghost use Rattle.parse.specs.Parse.{times, outcome};
 ghost use Rattle.boxes.specs.Bytes.{chunk};
 ghost use Rattle.record_arrays.specs.Read.{recordArray};
-ghost use Rattle.record_arrays_read.specs.inner.Arrays.{unitsInList, arrayInList, arraysInList, storedBytes, Stores, StoredAt};
+ghost use Rattle.record_arrays_read.specs.inner.Arrays.{unitsInList, arrayInList, arraysInList, storedBytes, StoredAt};
+ghost use Rattle.parse.specs.inner.Stores.{Puts};
 
 // Where storing stands: the next place of the record and that of the output.
 pub struct Stored {
@@ -20,7 +21,7 @@ pub struct Stored {
 
 // Stores `count` units of the record from a place on.
 fn put_units(record: &[u8], from: usize, count: usize, out: &mut [u8], to: usize) -> Stored
-    requires { ⌜ (length (now «record») ≤ 2 ^ 30) × (from ≤ length (now «record»)) × Stores unitsInList (now «record») (times count (chunk 2) (now «record») from) (now out) to ⌝ }
+    requires { ⌜ (length (now «record») ≤ 2 ^ 30) × (from ≤ length (now «record»)) × Puts (unitsInList (now «record»)) (outcome (times count (chunk 2) (now «record») from)) (now out) to ⌝ }
     ensures { λ r. ⌜ StoredAt unitsInList (now («record» .entry)) (times count (chunk 2) (now («record» .entry)) from) (now (out .entry)) to (now (out .exit)) r ⌝ }
 {
     let mut left = count;
@@ -40,7 +41,7 @@ fn put_units(record: &[u8], from: usize, count: usize, out: &mut [u8], to: usize
 
 // Stores the array at a place of the record: its units, and then what comes before them.
 fn put_array(record: &[u8], at: usize, out: &mut [u8], to: usize) -> Stored
-    requires { ⌜ (length (now «record») ≤ 2 ^ 30) × Stores arrayInList (now «record») (recordArray (now «record») at) (now out) to ⌝ }
+    requires { ⌜ (length (now «record») ≤ 2 ^ 30) × Puts (arrayInList (now «record»)) (outcome (recordArray (now «record») at)) (now out) to ⌝ }
     ensures { λ r. ⌜ StoredAt arrayInList (now («record» .entry)) (recordArray (now («record» .entry)) at) (now (out .entry)) to (now (out .exit)) r ⌝ }
 {
     let ArrayHeadRead::Head(head, units) = super::arrays::array_head(record, at) else {
@@ -54,7 +55,7 @@ fn put_array(record: &[u8], at: usize, out: &mut [u8], to: usize) -> Stored
 
 // Stores `count` arrays of the record from a place on.
 pub fn put_arrays(record: &[u8], from: usize, count: usize, out: &mut [u8], to: usize)
-    requires { ⌜ (length (now «record») ≤ 2 ^ 30) × Stores arraysInList (now «record») (times count recordArray (now «record») from) (now out) to ⌝ }
+    requires { ⌜ (length (now «record») ≤ 2 ^ 30) × Puts (arraysInList (now «record»)) (outcome (times count recordArray (now «record») from)) (now out) to ⌝ }
     ensures { λ _. ⌜ now (out .exit) ≡ sets (now (out .entry)) to (storedBytes arraysInList (now («record» .entry)) (times count recordArray (now («record» .entry)) from)) ⌝ }
 {
     let mut left = count;

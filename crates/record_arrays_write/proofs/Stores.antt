@@ -14,7 +14,7 @@ use Rattle.parse.specs.Outcome.{Outcome, accept, refuse, andThen}
 use Rattle.boxes.specs.Bytes.{toBe, toChunk}
 use Rattle.boxes.specs.Parts.{held}
 use Rattle.boxes.specs.declared.Span.{Span}
-use Rattle.unit_list.specs.UnitList.{Array, largestType, encodeUnits, heldArray}
+use Rattle.unit_list.specs.UnitList.{Array, largestType, heldArray}
 use Rattle.unit_list.specs.inner.Walk.{arrayUnitsFrom, unitsStepped, UnitStepFits, arraysFrom, arraysStepped, ArrayStepFits, Fits}
 use Rattle.unit_list.specs.declared.ListCursor.{ListCursor}
 use Rattle.unit_list.specs.declared.ListStep.{ListStep}
@@ -23,112 +23,46 @@ use Rattle.unit_list.specs.declared.ArrayStep.{ArrayStep}
 use Rattle.unit_list.specs.declared.ArrayStep.the-variants as A
 use Rattle.unit_list.proofs.ListStep as list-step
 use Rattle.unit_list.proofs.ArrayStep as array-step
-use Rattle.unit_list.proofs.Encode.{length-toChunk}
-use Rattle.unit_list.proofs.Accepted.{held-long}
 use Rattle.record_arrays.specs.Read.{holdsOne}
 use Rattle.record_arrays.specs.Write.{arrayBytes, arraysBytes}
-use Rattle.record_arrays_write.specs.inner.Measures.{unitsMeasure, measuredBy, unitsInRecord, countBytes, arrayInRecord, arraysInRecord}
+use Rattle.record_arrays_write.specs.inner.Measures.{unitsMeasure, measuredBy, countBytes, arrayInRecord, arraysInRecord}
 use Rattle.record_arrays_write.specs.declared.measure.Measure.{Measure}
 use Rattle.record_arrays_write.proofs.Measures.{ahead, units-next, entered, arrayWith}
 use Rattle.parse.specs.inner.Walk.{more}
 use Rattle.parse.specs.inner.Stores.{Puts, bytesOf}
 use Rattle.parse.proofs.General.{sets-append}
-
--- what is to be put, once it is known what was found
-pub put-room : {A : Type 0} (f : A → List ℕ) (o : Outcome A) (out : List ℕ) (to : ℕ) → Puts f o out to → to + length (bytesOf f o) ≤ length out
-put-room f o out to h = rw (h .found) (h .room)
-
-pub puts-found : {A : Type 0} (f : A → List ℕ) (o : Outcome A) (out : List ℕ) (to : ℕ) (a : A) → o ≡ accept a → to + length (f a) ≤ length out → Puts f o out to
-puts-found f o out to a e h = record { it = a; found = e; room = h }
-
-module _ {A : Type 0} (f : List A → List ℕ) (out₀ : List ℕ) (to₀ : ℕ) (o₀ : Outcome (List A)) where
-  -- the walk has come to where o is left, to be stored from place `to` of the output on
-  pub record Putting (o : Outcome (List A)) (out : List ℕ) (to : ℕ) : Type 0 where
-    pub puts : Puts f o out to
-    pub same : length out ≡ length out₀
-    pub place : to + length (bytesOf f o) ≡ to₀ + length (bytesOf f o₀)
-    pub whole : sets out to (bytesOf f o) ≡ sets out₀ to₀ (bytesOf f o₀)
-
-  pub putting-start : Puts f o₀ out₀ to₀ → Putting o₀ out₀ to₀
-  putting-start h = record { puts = h; same = refl; place = refl; whole = refl }
-
-  module _ (o : Outcome (List A)) (out : List ℕ) (to : ℕ) (i : Putting o out to) where
-    pub putting-never : (n : ℕ) → o ≡ refuse n → ⊥
-    putting-never n e = let f = i .puts .found in let z : _≡_ {A = ℕ} 0 1 = cc in omega arith
-
-    pub putting-end : f [] ≡ [] → o ≡ accept [] → (to ≡ to₀ + length (bytesOf f o₀)) × (out ≡ sets out₀ to₀ (bytesOf f o₀))
-    putting-end none e =
-        let b : bytesOf f o ≡ [] = rw (e, none) in
-        let l : length (bytesOf f o) ≡ 0 = rw b in
-        (omega (arith, i .place), ap (λ (x : List ℕ). sets out to x) (sym b) ∙ i .whole)
-
-    -- the first of what is left, and its bytes
-    module _ (a : A) (bytes : List ℕ) (step : (xs : List A) → f (a ∷ xs) ≡ bytes ++ f xs) where
-      first : (xs : List A) → o ≡ accept (a ∷ xs) → to + (length bytes + length (f xs)) ≤ length out
-      first xs e =
-          let g = i .puts .found in
-          let u : i .puts .it ≡ a ∷ xs = cc in
-          let h = i .puts .room in
-          let l = ap (λ (x : List A). length (f x)) u ∙ ap length (step xs) ∙ length-append bytes (f xs) in
-          omega arith
-
-      pub putting-room : (rest : Outcome (List A)) → o ≡ more a rest → to + length bytes ≤ length out
-      putting-room (accept xs) e = let h = first xs e in omega arith
-      putting-room (refuse n) e = absurd (putting-never n e)
-
-      pub putting-again : (rest : Outcome (List A)) → o ≡ more a rest → (d : List ℕ) → d ≡ sets out to bytes → (next : ℕ) → next ≡ to + length bytes → Putting rest d next
-      putting-again (refuse n) e d g next k = absurd (putting-never n e)
-      putting-again (accept xs) e d g next k =
-          let l : length d ≡ length out = ap length g ∙ length-sets out to bytes in
-          let b : bytesOf f o ≡ bytes ++ f xs = ap (bytesOf f) e ∙ step xs in
-          let m = ap length b ∙ length-append bytes (f xs) in
-          let r = first xs e in
-          record {
-            puts = record { it = xs; found = refl; room = omega arith };
-            same = l ∙ i .same;
-            place = omega (arith, i .place);
-            whole = rw (g, k) (sets-append out to bytes (f xs)) ∙ ap (λ (x : List ℕ). sets out to x) (sym b) ∙ i .whole;
-          }
+use Rattle.parse.proofs.Stores.{puts-found, Putting, putting-start, putting-never, putting-end, putting-room, putting-again}
+use Rattle.unit_list.specs.inner.Written.{unitBytes}
+use Rattle.unit_list.proofs.StoredUnits.{Copying, copying-start, copying-never, copying-done, copying-room, copying-again}
 
 -- ---- the units of an array
-
-units-nil : (s : List ℕ) → unitsInRecord s [] ≡ []
-unfolding encodeUnits
-units-nil s = refl
-
-units-first : (s : List ℕ) (a : Span) (us : List Span) → unitsInRecord s (a ∷ us) ≡ toChunk 2 (held s a) ++ unitsInRecord s us
-unfolding encodeUnits
-units-first s a us = refl
 
 -- the walk from c has come to `here`
 pub record PuttingUnits (s : List ℕ) (c : ListCursor) (out₀ : List ℕ) (to₀ : ℕ) (here : ListCursor) (out : List ℕ) (to : ℕ) : Type 0 where
   pub fits : Fits s here
-  pub putting : Putting (unitsInRecord s) out₀ to₀ (arrayUnitsFrom s c) (arrayUnitsFrom s here) out to
+  pub putting : Copying 2 s out₀ to₀ (arrayUnitsFrom s c) (arrayUnitsFrom s here) out to
 
 module _ (s : List ℕ) (c : ListCursor) (out₀ : List ℕ) (to₀ : ℕ) where
-  pub units-start : Fits s c → Puts (unitsInRecord s) (arrayUnitsFrom s c) out₀ to₀ → PuttingUnits s c out₀ to₀ c out₀ to₀
-  units-start h p = record { fits = h; putting = putting-start (unitsInRecord s) out₀ to₀ (arrayUnitsFrom s c) p }
+  pub units-start : Fits s c → Puts (unitBytes 2 s) (arrayUnitsFrom s c) out₀ to₀ → PuttingUnits s c out₀ to₀ c out₀ to₀
+  units-start h p = record { fits = h; putting = copying-start 2 s out₀ to₀ (arrayUnitsFrom s c) p }
 
   module _ (here : ListCursor) (out : List ℕ) (to : ℕ) (i : PuttingUnits s c out₀ to₀ here out to) (r : ListStep)
       (f : (unitsStepped s r ≡ arrayUnitsFrom s here) × UnitStepFits s here r) where
     pub units-done : OneOf (1 ∷ 2 ∷ []) (tagOf list-step.the-type r)
-        → (to ≡ to₀ + length (bytesOf (unitsInRecord s) (arrayUnitsFrom s c))) × (out ≡ sets out₀ to₀ (bytesOf (unitsInRecord s) (arrayUnitsFrom s c)))
+        → (to ≡ to₀ + length (bytesOf (unitBytes 2 s) (arrayUnitsFrom s c))) × (out ≡ sets out₀ to₀ (bytesOf (unitBytes 2 s) (arrayUnitsFrom s c)))
     units-done = go r f
       where
         go : (r : ListStep) → (unitsStepped s r ≡ arrayUnitsFrom s here) × UnitStepFits s here r → OneOf (1 ∷ 2 ∷ []) (tagOf list-step.the-type r)
-            → (to ≡ to₀ + length (bytesOf (unitsInRecord s) (arrayUnitsFrom s c))) × (out ≡ sets out₀ to₀ (bytesOf (unitsInRecord s) (arrayUnitsFrom s c)))
+            → (to ≡ to₀ + length (bytesOf (unitBytes 2 s) (arrayUnitsFrom s c))) × (out ≡ sets out₀ to₀ (bytesOf (unitBytes 2 s) (arrayUnitsFrom s c)))
         go (L.Unit a next) f k = absurd (⊎-elim (λ h. omega arith) (λ h. omega arith) k)
-        go L.End f k = putting-end (unitsInRecord s) out₀ to₀ (arrayUnitsFrom s c) (arrayUnitsFrom s here) out to (i .putting) (units-nil s) (sym (f .0))
-        go L.Malformed f k = absurd (putting-never (unitsInRecord s) out₀ to₀ (arrayUnitsFrom s c) (arrayUnitsFrom s here) out to (i .putting) 21 (sym (f .0)))
+        go L.End f k = copying-done 2 s out₀ to₀ (arrayUnitsFrom s c) (arrayUnitsFrom s here) out to (i .putting) (sym (f .0))
+        go L.Malformed f k = absurd (copying-never 2 s out₀ to₀ (arrayUnitsFrom s c) (arrayUnitsFrom s here) out to (i .putting) 21 (sym (f .0)))
 
     module _ (a : Span) (next : ListCursor) (e : r ≡ L.Unit a next) where
-      unit-long : length (toChunk 2 (held s a)) ≡ 2 + a .len
-      unit-long = let l = held-long s a (ahead s here r f a next e .inside) in length-toChunk 2 (held s a) ∙ rw l
-
       pub unit-room : (a .start + a .len ≤ length s) × (to + 2 + a .len ≤ length out)
       unit-room =
-          let h = putting-room (unitsInRecord s) out₀ to₀ (arrayUnitsFrom s c) (arrayUnitsFrom s here) out to (i .putting) a (toChunk 2 (held s a)) (units-first s a) (arrayUnitsFrom s next) (units-next s here r f a next e) in
-          (ahead s here r f a next e .inside, omega (arith, unit-long))
+          let h = ahead s here r f a next e .inside in
+          (h, copying-room 2 s out₀ to₀ (arrayUnitsFrom s c) (arrayUnitsFrom s here) out to (i .putting) a h (arrayUnitsFrom s next) (units-next s here r f a next e))
 
       pub units-less : length s - next .at < length s - here .at
       units-less = ahead s here r f a next e .less
@@ -138,8 +72,8 @@ module _ (s : List ℕ) (c : ListCursor) (out₀ : List ℕ) (to₀ : ℕ) where
           record {
             fits = ahead s here r f a next e .fits;
             putting =
-                putting-again (unitsInRecord s) out₀ to₀ (arrayUnitsFrom s c) (arrayUnitsFrom s here) out to (i .putting) a (toChunk 2 (held s a)) (units-first s a)
-                (arrayUnitsFrom s next) (units-next s here r f a next e) d g (to + 2 + a .len) (omega (arith, unit-long));
+                copying-again 2 s out₀ to₀ (arrayUnitsFrom s c) (arrayUnitsFrom s here) out to (i .putting) a (ahead s here r f a next e .inside)
+                (arrayUnitsFrom s next) (units-next s here r f a next e) d g;
           }
 
 -- ---- one array
@@ -149,12 +83,12 @@ pub three-stored : (d : List ℕ) (to x : ℕ) (xs ys : List ℕ) → sets (sets
 three-stored d to x xs ys = rw (add-one to) (sets-append (set d to x) _ xs ys)
 
 module _ (s : List ℕ) (complete t : ℕ) (us : List Span) where
-  pub array-parts : arrayInRecord s complete t us ≡ (complete * 128 + t) ∷ (countBytes s t us ++ unitsInRecord s us)
+  pub array-parts : arrayInRecord s complete t us ≡ (complete * 128 + t) ∷ (countBytes s t us ++ unitBytes 2 s us)
   unfolding arrayBytes
   array-parts = refl
 
-  pub array-long : length (arrayInRecord s complete t us) ≡ 1 + length (countBytes s t us) + length (unitsInRecord s us)
-  array-long = ap length array-parts ∙ (let l = length-append (countBytes s t us) (unitsInRecord s us) in omega arith)
+  pub array-long : length (arrayInRecord s complete t us) ≡ 1 + length (countBytes s t us) + length (unitBytes 2 s us)
+  array-long = ap length array-parts ∙ (let l = length-append (countBytes s t us) (unitBytes 2 s us) in omega arith)
 
 -- the count: none, or two bytes
 module _ (s : List ℕ) (t : ℕ) (o : Outcome (List Span)) where
@@ -195,25 +129,25 @@ module _ (s : List ℕ) (complete t : ℕ) (o : Outcome (List Span)) (out : List
       count-found : bytesOf (countBytes s t) o ≡ countBytes s t (h .it)
       count-found = ap (bytesOf (countBytes s t)) (h .found)
 
-      pub units-puts : Puts (unitsInRecord s) o d₂ at
+      pub units-puts : Puts (unitBytes 2 s) o d₂ at
       units-puts =
           let l = array-long s complete t (h .it) in
           let k = two-long in
           let m = ap length count-found in
           record { it = h .it; found = h .found; room = omega (arith, h .room, e₂ .0) }
 
-      pub array-stored : (d₃ : List ℕ) (end : ℕ) → (end ≡ at + length (bytesOf (unitsInRecord s) o)) × (d₃ ≡ sets d₂ at (bytesOf (unitsInRecord s) o))
+      pub array-stored : (d₃ : List ℕ) (end : ℕ) → (end ≡ at + length (bytesOf (unitBytes 2 s) o)) × (d₃ ≡ sets d₂ at (bytesOf (unitBytes 2 s) o))
           → (end ≡ to + length (bytesOf (arrayInRecord s complete t) o)) × (d₃ ≡ sets out to (bytesOf (arrayInRecord s complete t) o))
       array-stored d₃ end e₃ =
           let us = h .it in
-          let u : bytesOf (unitsInRecord s) o ≡ unitsInRecord s us = ap (bytesOf (unitsInRecord s)) (h .found) in
+          let u : bytesOf (unitBytes 2 s) o ≡ unitBytes 2 s us = ap (bytesOf (unitBytes 2 s)) (h .found) in
           let w : bytesOf (arrayInRecord s complete t) o ≡ arrayInRecord s complete t us = ap (bytesOf (arrayInRecord s complete t)) (h .found) in
           let l = array-long s complete t us in
           let m = ap length count-found in
           let n = ap length u in
           let k = ap length w in (
             omega (arith, e₂ .0, e₃ .0),
-            e₃ .1 ∙ rw (e₂ .1, e₂ .0, e₁, is, u, w, count-found, array-parts s complete t us) (three-stored out to (complete * 128 + t) (countBytes s t us) (unitsInRecord s us)),
+            e₃ .1 ∙ rw (e₂ .1, e₂ .0, e₁, is, u, w, count-found, array-parts s complete t us) (three-stored out to (complete * 128 + t) (countBytes s t us) (unitBytes 2 s us)),
           )
 
 -- ---- arrays

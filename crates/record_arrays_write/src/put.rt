@@ -13,13 +13,14 @@ ghost use lib.ListN.{length};
 ghost use lib.Seq.{sets};
 ghost use Rattle.unit_list.specs.UnitList.{largestType};
 ghost use Rattle.unit_list.specs.inner.Walk.{Fits, arrayUnitsFrom, arraysFrom};
-ghost use Rattle.record_arrays_write.specs.inner.Measures.{unitsInRecord, countBytes, arrayInRecord, arraysInRecord};
+ghost use Rattle.record_arrays_write.specs.inner.Measures.{countBytes, arrayInRecord, arraysInRecord};
 ghost use Rattle.parse.specs.inner.Stores.{Puts, bytesOf};
+ghost use Rattle.unit_list.specs.inner.Written.{unitBytes};
 
 // Stores the units after a cursor, up to the end of its array, and gives the place after them.
 fn put_units(list: &[u8], c: ListCursor, out: &mut [u8], to: usize) -> usize
-    requires { ⌜ Fits (now list) c × Puts (unitsInRecord (now list)) (arrayUnitsFrom (now list) c) (now out) to ⌝ }
-    ensures { λ r. ⌜ (r ≡ to + length (bytesOf (unitsInRecord (now (list .entry))) (arrayUnitsFrom (now (list .entry)) c))) × (now (out .exit) ≡ sets (now (out .entry)) to (bytesOf (unitsInRecord (now (list .entry))) (arrayUnitsFrom (now (list .entry)) c))) ⌝ }
+    requires { ⌜ Fits (now list) c × Puts (unitBytes 2 (now list)) (arrayUnitsFrom (now list) c) (now out) to ⌝ }
+    ensures { λ r. ⌜ (r ≡ to + length (bytesOf (unitBytes 2 (now (list .entry))) (arrayUnitsFrom (now (list .entry)) c))) × (now (out .exit) ≡ sets (now (out .entry)) to (bytesOf (unitBytes 2 (now (list .entry))) (arrayUnitsFrom (now (list .entry)) c))) ⌝ }
 {
     let mut here = c;
     let mut at = to;

@@ -8,3 +8,4 @@ pub mod Written
 pub mod Encode
 pub mod Accepted
 pub mod Decoded
+pub mod StoredUnits

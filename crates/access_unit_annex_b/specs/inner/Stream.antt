@@ -1,26 +1,16 @@
 -- What the functions inside this crate say: units found in a list or an item, stored as a stream.
 use Prim.Native.Nat.{ℕ, _+_, _≤_}
 use mathlib.Core.Path.{_≡_}
-use mathlib.Core.List.{List, []}
+use mathlib.Core.List.{List}
 use mathlib.Core.Option.{Option}
 use lib.ListN.{length, take, drop}
 use lib.Seq.{sets}
-use Rattle.parse.specs.Outcome.{Outcome, accept, refuse, andThen}
+use Rattle.parse.specs.Outcome.{Outcome, accept, andThen}
 use Rattle.boxes.specs.declared.Span.{Span}
 use Rattle.access_unit.specs.inner.Gathered.{Walks, keptLeft, Gathered, gather, sizesOf, bytesAt, gatheredBytes}
 use Rattle.access_unit.specs.declared.sizes.Sizes.{Sizes}
 use Rattle.access_unit_annex_b.specs.declared.stream.Places.{Places}
-
--- the stream of units that were found
-abbrev pub foundStream : List ℕ → Outcome (List Span) → List ℕ
-foundStream s (accept us) = bytesAt s us
-foundStream s (refuse e) = []
-
--- units were found, and from a place of the output on there is room for their stream
-pub record PutsAll (s : List ℕ) (o : Outcome (List Span)) (out : List ℕ) (to : ℕ) : Type 0 where
-  pub units : List Span
-  pub found : o ≡ accept units
-  pub room : to + length (bytesAt s units) ≤ length out
+use Rattle.parse.specs.inner.Stores.{bytesOf}
 
 -- the first n of those that were found, and those after them
 abbrev pub firstUnits : ℕ → Outcome (List Span) → Outcome (List Span)
@@ -41,8 +31,8 @@ pub record PutsFirst (size : ℕ) (target : Option ℕ) (item : List ℕ) (p n :
 pub record FirstPut (size : ℕ) (target : Option ℕ) (item : List ℕ) (p n : ℕ) (out : List ℕ) (to : ℕ) (r : Places) (after : List ℕ) : Type 0 where
   pub within : r .item ≤ length item
   pub next : keptLeft size target item (r .item) ≡ restUnits n (keptLeft size target item p)
-  pub ends : r .out ≡ to + length (foundStream item (firstUnits n (keptLeft size target item p)))
-  pub stored : after ≡ sets out to (foundStream item (firstUnits n (keptLeft size target item p)))
+  pub ends : r .out ≡ to + length (bytesOf (bytesAt item) (firstUnits n (keptLeft size target item p)))
+  pub stored : after ≡ sets out to (bytesOf (bytesAt item) (firstUnits n (keptLeft size target item p)))
 
 -- an access unit was measured, and there is room for its stream
 pub record PutsStream (size : ℕ) (target : Option ℕ) (list item : List ℕ) (sizes : Sizes) (out : List ℕ) : Type 0 where

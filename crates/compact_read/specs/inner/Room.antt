@@ -9,11 +9,12 @@ use Rattle.error.specs.Refusals.{numberOf}
 use Rattle.boxes.specs.Parts.{held}
 use Rattle.boxes.specs.declared.Span.{Span}
 use Rattle.compact.specs.Compact.{oneArray, parseCompact}
-use Rattle.compact.specs.inner.Units.{recordUnits, unitBytes}
+use Rattle.compact.specs.inner.Units.{recordUnits}
 use Rattle.compact_read.specs.declared.record_units.UnitsRoom.{UnitsRoom}
 use Rattle.compact_read.specs.declared.record_units.UnitsRoom.the-variants as R
 use Rattle.compact_read.specs.declared.record_units.RecordRoom.{RecordRoom}
 use Rattle.compact_read.specs.declared.record_units.RecordRoom.the-variants as M
+use Rattle.unit_list.specs.inner.Written.{unitBytes}
 
 -- how many bytes units that were read take in a list, n more before them, and the place after the units
 abbrev pub measured : List ℕ → ℕ → Parsed (List Span) → Parsed ℕ

@@ -9,12 +9,12 @@ use Rattle.parse.specs.Outcome.{Outcome, accept, refuse, andThen}
 use Rattle.boxes.specs.Parts.{held}
 use Rattle.boxes.specs.declared.Span.{Span}
 use Rattle.compact.specs.Compact.{allAtMost, compactBytes}
-use Rattle.compact.specs.inner.Units.{unitBytes}
 use Rattle.compact.specs.declared.CompactVvcConfig.{CompactVvcConfig}
 use Rattle.compact_write.specs.declared.list_units.RecordSum.{RecordSum}
 use Rattle.compact_write.specs.declared.list_units.ListSum.{ListSum}
 use Rattle.compact_write.specs.declared.list_units.ListSum.the-variants as L
 use Rattle.boxes.specs.Bytes.{outside}
+use Rattle.unit_list.specs.inner.Written.{unitBytes}
 
 -- one unit more: its count, its bytes after a length of one byte, and whether it is short enough for that
 abbrev pub addingUnit : ℕ → RecordSum → RecordSum

@@ -1,17 +1,16 @@
 -- What reading the arrays of a full record into a unit list says: their heads, the room that they take in a list, and what is stored.
 use Prim.Native.Nat.{ℕ, _+_, _*_, _/_, _%_, _≤_}
 use mathlib.Core.Path.{_≡_}
-use mathlib.Core.List.{List, [], map}
+use mathlib.Core.List.{List}
 use lib.ListN.{length}
 use lib.Seq.{sets}
 use Rattle.parse.specs.Logic.{if_then_else_}
 use Rattle.parse.specs.Outcome.{Outcome, accept, refuse}
-use Rattle.parse.specs.Parse.{Parsed, value, refused, Parser, _>>=_, give, times}
+use Rattle.parse.specs.Parse.{Parsed, value, refused, Parser, _>>=_, give, times, outcome}
 use Rattle.error.specs.Refusals.{numberOf}
 use Rattle.boxes.specs.Bytes.{uint}
-use Rattle.boxes.specs.Parts.{held}
 use Rattle.boxes.specs.declared.Span.{Span}
-use Rattle.unit_list.specs.UnitList.{Array, listWidth, heldArray, heldArrays, encodeUnits, encodeArray, encodeArrays, encode}
+use Rattle.unit_list.specs.UnitList.{Array, listWidth, heldArray, heldArrays, encodeArray, encodeArrays, encode}
 use Rattle.record_arrays.specs.Read.{holdsOne, recordArray}
 use Rattle.record_arrays_read.specs.declared.ArrayHead.{ArrayHead}
 use Rattle.record_arrays_read.specs.declared.ArrayHeadRead.{ArrayHeadRead}
@@ -21,6 +20,8 @@ use Rattle.record_arrays_read.specs.declared.ListRead.the-variants as L
 use Rattle.record_arrays_read.specs.declared.room.ListRoom.{ListRoom}
 use Rattle.record_arrays_read.specs.declared.room.ListRoom.the-variants as M
 use Rattle.record_arrays_read.specs.declared.list.Stored.{Stored}
+use Rattle.parse.specs.inner.Stores.{bytesOf}
+use Rattle.unit_list.specs.inner.Written.{unitBytes}
 
 -- the arrays of a record, after their count
 unfoldable pub countedArrays : Parser (List (Array Span))
@@ -56,7 +57,7 @@ ArrayHeadFits s p A.Short = Unit {0}
 
 -- the bytes of units in a list, and those of one array and of arrays
 abbrev pub unitsInList : List ℕ → List Span → List ℕ
-unitsInList s us = encodeUnits listWidth (map (held s) us)
+unitsInList s us = unitBytes listWidth s us
 
 abbrev pub arrayInList : List ℕ → Array Span → List ℕ
 arrayInList s a = encodeArray listWidth (heldArray s a)
@@ -80,15 +81,7 @@ RoomFits s p M.Short = Unit {0}
 
 -- the bytes of what was read
 abbrev pub storedBytes : {A : Type 0} → (List ℕ → A → List ℕ) → List ℕ → Parsed A → List ℕ
-storedBytes f s (value a p) = f s a
-storedBytes f s (refused e) = []
-
--- something was read, and from a place of the output on there is room for its bytes
-pub record Stores {A : Type 0} (f : List ℕ → A → List ℕ) (s : List ℕ) (x : Parsed A) (out : List ℕ) (to : ℕ) : Type 0 where
-  pub what : A
-  pub ends : ℕ
-  pub read : x ≡ value what ends
-  pub fits : to + length (f s what) ≤ length out
+storedBytes f s x = bytesOf (f s) (outcome x)
 
 -- the place after what was read
 abbrev pub placeAfter : {A : Type 0} → Parsed A → ℕ

@@ -95,10 +95,6 @@ ArrayWithin s c (A.Array m d) = Takes s c m d
 ArrayWithin s c A.End = Unit {0}
 ArrayWithin s c A.Malformed = Unit {0}
 
--- the bytes of units that lie in s
-abbrev pub unitsInRecord : List ℕ → List Span → List ℕ
-unitsInRecord s us = encodeUnits 2 (map (held s) us)
-
 -- the count of units in an array of a type
 abbrev pub countBytes : List ℕ → ℕ → List Span → List ℕ
 countBytes s t us = if holdsOne t then [] else toBe 2 (length (map (held s) us))

@@ -2,11 +2,10 @@
 use Prim.Native.Nat.{_+_, _-_, _≤_}
 use mathlib.Core.Path.{sym, _∙_}
 use lib.ListN.{length}
-use lib.Seq.{sets}
 use Rattle.split.proofs.Items.{Turn, found-unit, found-none}
 use Rattle.access_unit.specs.Answers.{tolsOf}
 use Rattle.access_unit.specs.inner.Gathered.{keptLeft}
-use Rattle.access_unit_annex_b.specs.inner.Stream.{foundStream, firstUnits, restUnits}
+use Rattle.access_unit_annex_b.specs.inner.Stream.{firstUnits, restUnits}
 use Rattle.access_unit.proofs.KeptUnits.{over-kept, over-dropped, over-nothing}
 use Rattle.access_unit_annex_b.proofs.Storing.{FirstLeft, first-start, first-end, first-room, first-more, first-on, first-some}
 use borrow.Author.Needs.{needs}
@@ -17,8 +16,8 @@ use Rattle.access_unit_annex_b.proofs.stream.put_kept.Tie as tie
 abbrev Inv-loop : tie.InvT-loop
 Inv-loop item size target from n out₀ to at₀ end₀ left₀ out at end left =
     (at ≤ length item)
-    × FirstLeft item (length out₀) (to + length (foundStream item (firstUnits n (keptLeft size (tolsOf target) item from))))
-    (sets out₀ to (foundStream item (firstUnits n (keptLeft size (tolsOf target) item from)))) (restUnits n (keptLeft size (tolsOf target) item from)) (keptLeft size (tolsOf target) item at) left out end
+    × FirstLeft item out₀ to (firstUnits n (keptLeft size (tolsOf target) item from)) (restUnits n (keptLeft size (tolsOf target) item from))
+    (keptLeft size (tolsOf target) item at) left out end
 
 abbrev μ-loop : tie.MeasureT-loop
 μ-loop item size target from n out₀ to at₀ end₀ left₀ out at end left = length item - at

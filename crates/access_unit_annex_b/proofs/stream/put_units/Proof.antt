@@ -1,27 +1,26 @@
 -- `stream::put_units` stores the units of a list after a cursor. The loop's invariant: what is stored and what is left make the whole.
-use Prim.Native.Nat.{_+_, _-_}
+use Prim.Native.Nat.{_-_}
 use lib.ListN.{length}
-use lib.Seq.{sets}
 use Rattle.unit_list.specs.inner.Walk.{Fits}
 use Rattle.unit_list.specs.inner.Find.{unitsLeft}
-use Rattle.access_unit_annex_b.specs.inner.Stream.{foundStream}
 use Rattle.unit_list.proofs.Turns.{ListTurn, list-found, list-none}
-use Rattle.access_unit_annex_b.proofs.Storing.{Remaining, remaining-start, remaining-room, remaining-more, remaining-end}
+use Rattle.access_unit_annex_b.proofs.Storing.{Remaining, remaining-room, remaining-more, remaining-end}
 use borrow.Author.Needs.{needs}
 use native.Mathlib.Omega.{arith}
 use Rattle.access_unit_annex_b.proofs.stream.put_units.Statement.{statement}
 use Rattle.access_unit_annex_b.proofs.stream.put_units.Tie as tie
+use Rattle.parse.proofs.Stores.{putting-start}
 
 abbrev Inv-loop : tie.InvT-loop
 Inv-loop list out₀ to here₀ end₀ out here end =
     Fits list here
-    × Remaining list (length out₀) (to + length (foundStream list (unitsLeft list here₀))) (sets out₀ to (foundStream list (unitsLeft list here₀))) (unitsLeft list here) out end
+    × Remaining list out₀ to (unitsLeft list here₀) (unitsLeft list here) out end
 
 abbrev μ-loop : tie.MeasureT-loop
 μ-loop list out₀ to here₀ end₀ out here end = length list - here .at
 
 loop-holds : tie.Need-loop-holds Inv-loop μ-loop
-loop-holds c = let p = c .before .before .pre in (p .0, remaining-start _ _ _ _ (p .1))
+loop-holds c = let p = c .before .before .pre in (p .0, putting-start _ _ _ _ (p .1))
 
 step-requires : tie.Need-step-requires Inv-loop μ-loop
 step-requires c κs = c .loop .inv .0
@@ -30,7 +29,7 @@ enum-known-a : tie.Need-enum-known-a Inv-loop μ-loop
 enum-known-a c = search needs
 
 same-length : tie.Need-same-length Inv-loop μ-loop
-same-length c = c .before .before .loop .inv .1 .storing .same
+same-length c = c .before .before .loop .inv .1 .same
 
 returns : tie.Need-returns Inv-loop μ-loop
 returns c =

@@ -7,7 +7,7 @@ use lib.ListN.{length}
 use Rattle.unit_list.specs.inner.Walk.{Fits}
 use Rattle.unit_list.specs.inner.Find.{unitsLeft}
 use Rattle.unit_list.proofs.Turns.{ListTurn, list-found, list-stops}
-use Rattle.compact.proofs.Copying.{Copying, copying-start, copying-never, copying-end, copying-room, copying-again}
+use Rattle.unit_list.proofs.StoredUnits.{Copying, copying-start, copying-never, copying-end, copying-room, copying-again}
 use Rattle.compact_write.proofs.list_units.put_units.Statement.{statement}
 use Rattle.compact_write.proofs.list_units.put_units.Tie as tie
 

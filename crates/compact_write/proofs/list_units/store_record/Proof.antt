@@ -1,11 +1,12 @@
 -- `list_units::store_record` leaves the first byte and the units from the front on.
 use borrow.Author.Needs.{needs}
 use Rattle.unit_list.specs.inner.Find.{unitsLeft}
-use Rattle.compact.specs.inner.Units.{foundUnitBytes}
-use Rattle.compact.proofs.Copying.{copies-on}
+use Rattle.parse.proofs.Stores.{puts-on}
 use Rattle.compact_write.proofs.ListUnits.{record-stored}
 use Rattle.compact_write.proofs.list_units.store_record.Statement.{statement}
 use Rattle.compact_write.proofs.list_units.store_record.Tie as tie
+use Rattle.parse.specs.inner.Stores.{bytesOf}
+use Rattle.unit_list.specs.inner.Written.{unitBytes}
 
 -- Where the function starts, seen from a later place.
 abbrev start : (c : tie.After-put) → tie.Start
@@ -21,7 +22,7 @@ put-units-requires : tie.Need-put-units-requires
 put-units-requires c κs =
     let pu = c .before .before .before in
     let b = start pu in
-    (b .pre .4, copies-on _ _ _ (b .args .out .now) _ _ (b .pre .5) (pu .put .kept .0))
+    (b .pre .4, puts-on _ _ (b .args .out .now) _ _ (b .pre .5) (pu .put .kept .0))
 
 same-length : tie.Need-same-length
 same-length c = search needs
@@ -31,7 +32,7 @@ returns c =
     let pu = c .before .before .before .before .before .before in
     let a = start pu .args in
     let p = pu .put in
-    record-stored (a .out .now) (p .last .0) _ (foundUnitBytes 1 (a .list .now) (unitsLeft (a .list .now) (a .c))) _ _ (pu .before .before .first-byte .ensures) (p .ensures) (c .before .before .put-units .ensures)
+    record-stored (a .out .now) (p .last .0) _ (bytesOf (unitBytes 1 (a .list .now)) (unitsLeft (a .list .now) (a .c))) _ _ (pu .before .before .first-byte .ensures) (p .ensures) (c .before .before .put-units .ensures)
 
 pub store-record-spec : {M : Type 1} → statement M
 store-record-spec = tie.close (tie.spec first-byte-requires put-requires put-units-requires same-length returns)

@@ -1,11 +1,12 @@
 -- An array's units, stored first, and what comes before them make its bytes.
 use Prim.Native.Nat.{ℕ}
-use mathlib.Core.Path.{_≡_}
+use mathlib.Core.Path.{_≡_, ap}
 use native.Mathlib.Omega.{arith}
 use borrow.Author.Needs.{needs}
 use Rattle.record_arrays_read.proofs.RecordArrays.{HeadAt, head-short, head-at, array-refused, stores-units, head-room, stored-array}
 use Rattle.record_arrays_read.proofs.list.put_array.Statement.{statement}
 use Rattle.record_arrays_read.proofs.list.put_array.Tie as tie
+use Rattle.parse.specs.Parse.{outcome}
 
 -- Earlier places of the function, each seen from a later one.
 abbrev start : (c : tie.After-known-told) → tie.Start
@@ -27,8 +28,8 @@ returns : tie.Need-returns
 returns c =
     let a = c .before .before .before .before .before in
     let h = c .before .before .array-head in
-    let e = array-refused (a .args .«record» .now) (a .args .at) 1 (head-short (a .args .«record» .now) (a .args .at) (h .result) (h .ensures) (c .enum-told .given .1)) in
-    let f = a .pre .1 .read in
+    let e = ap outcome (array-refused (a .args .«record» .now) (a .args .at) 1 (head-short (a .args .«record» .now) (a .args .at) (h .result) (h .ensures) (c .enum-told .given .1))) in
+    let f = a .pre .1 .found in
     absurd (let z : _≡_ {A = ℕ} 0 1 = cc in omega arith)
 
 -- what comes before the units

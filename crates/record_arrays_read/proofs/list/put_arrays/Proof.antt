@@ -39,7 +39,7 @@ loop-again c =
     storing-stored recordArray arrayInList arraysInList arrays-none arrays-more _ _ _ _ (l .left) (l .at) (l .out) (l .next) (l .inv) (c .before .before .before .before .loop-test .taken) _ (p .result) (p .ensures)
 
 same-length : tie.Need-same-length Inv-loop μ-loop
-same-length c = c .before .loop .inv .same
+same-length c = c .before .loop .inv .putting .same
 
 returns : tie.Need-returns Inv-loop μ-loop
 returns c =

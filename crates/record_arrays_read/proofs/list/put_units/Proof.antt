@@ -97,7 +97,7 @@ loop-again c =
     (t .inside, storing-next (chunk 2) unitInList unitsInList units-none units-more _ _ _ _ (l .left) (l .at) (l .out) (l .next) (l .inv .1) (kt .before .before .before .before .loop-test .taken) _ _ (t .read) _ (c .before .before .before .before .put-unit .ensures) _ (omega arith))
 
 same-length-2 : tie.Need-same-length-2 Inv-loop μ-loop
-same-length-2 c = c .before .loop .inv .1 .same
+same-length-2 c = c .before .loop .inv .1 .putting .same
 
 returns-2 : tie.Need-returns-2 Inv-loop μ-loop
 returns-2 c =

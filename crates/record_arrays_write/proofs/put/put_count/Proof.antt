@@ -6,9 +6,10 @@ use lib.ListN.{length}
 use Rattle.boxes.proofs.Numbers.{length-toBe}
 use Rattle.unit_list.specs.inner.Walk.{arrayUnitsFrom}
 use Rattle.record_arrays_write.specs.inner.Measures.{measureOf, countBytes}
-use Rattle.record_arrays_write.proofs.Stores.{put-room, count-none, count-two, count-never}
+use Rattle.record_arrays_write.proofs.Stores.{count-none, count-two, count-never}
 use Rattle.record_arrays_write.proofs.put.put_count.Statement.{statement}
 use Rattle.record_arrays_write.proofs.put.put_count.Tie as tie
+use Rattle.parse.proofs.Stores.{put-room}
 
 holds-one-requires : tie.Need-holds-one-requires
 holds-one-requires c κs = search needs

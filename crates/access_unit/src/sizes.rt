@@ -148,7 +148,7 @@ fn measure_item(item: &[u8], length_size: u8, target: Target, listed: UnitSum) -
     requires { ⌜ (length (now item) ≤ 2 ^ 30) × (listed .count + listed .lengths ≤ 2 ^ 30) ⌝ }
     ensures { λ r. ⌜ sizesAnswerOf r ≡ sizesWith «length_size» (tolsOf target) (now (item .entry)) listed ⌝ }
 {
-    if items::outside(length_size) {
+    if place::outside(length_size) {
         return SizesAnswer::Refused(Refusal::PrefixSize);
     }
     let summed = item_sum(item, place::wide(length_size), target);

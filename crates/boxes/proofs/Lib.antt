@@ -3,3 +3,4 @@ pub mod Sets
 pub mod Fields
 pub mod Walk
 pub mod Places
+pub mod PrefixSizes

@@ -6,7 +6,7 @@ ghost use mathlib.Core.List.{[]};
 ghost use Prim.Native.Nat.{_+_, _≤_, _<_, _^_};
 ghost use lib.ListN.{length, getD, set};
 ghost use lib.Seq.{sets};
-ghost use Rattle.boxes.specs.Bytes.{be, toBe};
+ghost use Rattle.boxes.specs.Bytes.{be, toBe, outside};
 ghost use Rattle.boxes.specs.Parts.{PartOf};
 ghost use Rattle.boxes.specs.Places.{placeOf, PlaceFits};
 ghost use Rattle.boxes.specs.inner.Places.{lying, spanInFirst};
@@ -16,6 +16,13 @@ pub fn wide(x: u8) -> usize
     ensures { λ r. ⌜ (r ≡ x) × (r < 256) ⌝ }
 {
     x as usize
+}
+
+// Whether a prefix size is outside 1 to 4.
+pub fn outside(length_size: u8) -> bool
+    ensures { λ r. ⌜ r ≡ outside «length_size» ⌝ }
+{
+    length_size == 0 || 4 < length_size
 }
 
 // The byte at a place, 0 past the end.

@@ -19,8 +19,8 @@ use Rattle.unit_list.specs.Answers.{listUnits}
 use Rattle.unit_list.proofs.Arrays.{be-one, sound-none, sound-more}
 use Rattle.unit_list.proofs.Encode.{UnitsRead, units-encode}
 use Rattle.unit_list.proofs.Accepted.{held-long}
-use Rattle.compact.specs.Compact.{compactRecord, CompactParsed, oneArray, parsedWith, parseCompact, allAtMost, compactBytes, serializeCompact}
-use Rattle.compact.specs.inner.Units.{recordUnits, configOf, compactFirstByte}
+use Rattle.compact.specs.Compact.{compactRecord, CompactParsed, oneArray, parsedWith, parseCompact, allAtMost, compactBytes, serializeCompact, configOf, compactFirstByte}
+use Rattle.compact.specs.inner.Units.{recordUnits}
 use Rattle.compact.specs.declared.CompactVvcConfig.{CompactVvcConfig}
 use Rattle.unit_list.proofs.StoredUnits.{room-more}
 use Rattle.compact.proofs.OneArray.{list-long}

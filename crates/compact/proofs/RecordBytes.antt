@@ -8,8 +8,7 @@ use lib.ListN.{length}
 use borrow.Author.Tests.{le-leb, ne-eqb, le-ltb}
 use Rattle.parse.specs.Outcome.{accept}
 use Rattle.unit_list.specs.UnitList.{encodeUnits}
-use Rattle.compact.specs.Compact.{allAtMost, compactBytes}
-use Rattle.compact.specs.inner.Units.{compactFirstByte}
+use Rattle.compact.specs.Compact.{allAtMost, compactBytes, compactFirstByte}
 use Rattle.compact.specs.declared.CompactVvcConfig.{CompactVvcConfig}
 
 -- all tests passed

@@ -13,8 +13,8 @@ use Rattle.boxes.specs.declared.Span.{Span}
 use Rattle.boxes.proofs.Fields.{uint-there, uint-short}
 use Rattle.parse.proofs.Lent.{lent-too-long}
 use Rattle.unit_list.proofs.Arrays.{be-one}
-use Rattle.compact.specs.Compact.{atEnd, compactRecord, oneArray, parsedWith, parseCompact}
-use Rattle.compact.specs.inner.Units.{recordUnits, configOf}
+use Rattle.compact.specs.Compact.{atEnd, compactRecord, oneArray, parsedWith, parseCompact, configOf}
+use Rattle.compact.specs.inner.Units.{recordUnits}
 use Rattle.compact.specs.declared.CompactVvcConfig.{CompactVvcConfig}
 use Rattle.compact.proofs.OneArray.{list-long}
 use Rattle.unit_list.specs.inner.Written.{unitBytes}

@@ -18,13 +18,17 @@ use Rattle.compact.specs.declared.CompactVvcConfig.{CompactVvcConfig}
 unfoldable pub atEnd : Parser (Unit {0})
 atEnd s p = if ltb p (length s) then refused 7 else value tt p
 
+-- the fields of a compact record's first byte
+abbrev pub configOf : ℕ → CompactVvcConfig
+configOf b = record { «multi_layer_flag» = eqb (b / 128) 1; «length_size» = b / 32 % 4 + 1 }
+
 -- the record, with its units where they lie
 unfoldable pub compactRecord : Parser (CompactVvcConfig × List Span)
 compactRecord = do
   b ← uint 1  -- multi_layer_flag 1, lengthSizeMinusOne 2, num_nal_units_minus2 5
   units ← times (b % 32 + 2) (chunk 1)  -- nal_unit_length, nal_unit
   atEnd
-  give (record { «multi_layer_flag» = eqb (b / 128) 1; «length_size» = b / 32 % 4 + 1 }, units)
+  give (configOf b, units)
 
 -- what reading returns
 pub record CompactParsed : Type 0 where
@@ -49,13 +53,17 @@ unfoldable pub allAtMost : ℕ → List (List ℕ) → Bool
 allAtMost n [] = true
 allAtMost n (u ∷ us) = leb (length u) n && allAtMost n us
 
+-- the first byte of the compact record of n units
+abbrev pub compactFirstByte : CompactVvcConfig → ℕ → ℕ
+compactFirstByte c n = bit (c .«multi_layer_flag») * 128 + (c .«length_size» - 1) * 32 + (n - 2)
+
 -- the record of units: 4 size not 1 to 4, 8 count not 2 to 33, 9 unit above 255 bytes
 unfoldable pub compactBytes : CompactVvcConfig → List (List ℕ) → Outcome (List ℕ)
 compactBytes c us =
     if outside (c .«length_size») then refuse 4
     else if not (leb 2 (length us) && leb (length us) 33) then refuse 8
     else if not (allAtMost 255 us) then refuse 9
-    else accept ((bit (c .«multi_layer_flag») * 128 + (c .«length_size» - 1) * 32 + (length us - 2)) ∷ encodeUnits 1 us)
+    else accept (compactFirstByte c (length us) ∷ encodeUnits 1 us)
 
 -- `CompactVvcConfig::serialize`, "taking a list's units in order": 23, 21, 4, 8, 9; with the output 20
 unfoldable pub serializeCompact : CompactVvcConfig → List ℕ → Outcome (List ℕ)

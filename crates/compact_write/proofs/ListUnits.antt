@@ -25,9 +25,7 @@ use Rattle.unit_list.specs.declared.ListStep.{ListStep}
 use Rattle.unit_list.specs.declared.ListStep.the-variants as L
 use Rattle.unit_list.proofs.Accepted.{held-long}
 use Rattle.unit_list.proofs.Turns.{ListTurn, list-found, list-end, list-malformed, start-units, start-refused}
-use Rattle.split.proofs.Items.{size-inside}
-use Rattle.compact.specs.Compact.{allAtMost, compactBytes, serializeCompact}
-use Rattle.compact.specs.inner.Units.{compactFirstByte}
+use Rattle.compact.specs.Compact.{allAtMost, compactBytes, serializeCompact, compactFirstByte}
 use Rattle.compact_write.specs.inner.Sums.{addingUnit, addingAll, summed, noUnits, recordLength, compactRecordOf}
 use Rattle.compact.specs.declared.CompactVvcConfig.{CompactVvcConfig}
 use Rattle.compact_write.specs.declared.list_units.RecordSum.{RecordSum}
@@ -36,6 +34,7 @@ use Rattle.boxes.specs.Bytes.{outside}
 use Rattle.parse.specs.inner.Walk.{more}
 use Rattle.unit_list.specs.inner.Written.{unitBytes}
 use Rattle.parse.specs.inner.Stores.{bytesOf, Puts}
+use Rattle.boxes.proofs.PrefixSizes.{size-inside}
 
 -- one unit more, and the others after it
 module _ (s : List ℕ) (a : Span) (inside : a .start + a .len ≤ length s) (v : RecordSum) where

@@ -18,9 +18,9 @@ ghost use Rattle.parse.specs.Answers.{countOf, writtenOf};
 ghost use Rattle.unit_list.specs.inner.Walk.{Fits};
 ghost use Rattle.unit_list.specs.inner.Find.{unitsLeft};
 ghost use Rattle.compact_write.specs.inner.Sums.{addingUnit, summed, noUnits, sumOf, SumFits, recordLength, compactRecordOf};
-ghost use Rattle.compact.specs.inner.Units.{compactFirstByte};
 ghost use Rattle.parse.specs.inner.Stores.{bytesOf, Puts};
 ghost use Rattle.unit_list.specs.inner.Written.{unitBytes};
+ghost use Rattle.compact.specs.Compact.{compactFirstByte};
 
 // The units seen so far: how many, the bytes that they take after lengths of one byte, and whether all fit such a length.
 pub struct RecordSum {
@@ -124,7 +124,7 @@ fn record_len(config: CompactVvcConfig, sum: RecordSum) -> Counted
     requires { ⌜ sum .room ≤ 2 ^ 32 ⌝ }
     ensures { λ r. ⌜ countOf r ≡ recordLength config sum ⌝ }
 {
-    if items::outside(config.length_size) {
+    if place::outside(config.length_size) {
         return Counted::Refused(Refusal::PrefixSize);
     }
     if sum.count < 2 || 33 < sum.count {

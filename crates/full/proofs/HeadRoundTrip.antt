@@ -21,6 +21,7 @@ unfoldable pub use Rattle.full.specs.RoundTrip.{withPtl}
 use Rattle.full.specs.declared.VvcConfig.{VvcConfig}
 use Rattle.record_arrays.proofs.ArraysRoundTrip.{byte-there, number-there}
 use Rattle.parse.proofs.General.{both-true}
+use Rattle.boxes.proofs.PrefixSizes.{size-fits}
 
 -- a PTL that is read back as another
 abbrev pub ReadsAs : VvcPtlRecord → ℕ → VvcPtlRecord → Type 0
@@ -159,7 +160,7 @@ module _ (h : VvcConfig) (q : VvcPtlRecord) (w : Writable h q) (s pre post : Lis
 
   parts : (1 ≤ h .«length_size») × (h .«length_size» ≤ 4) × ((if h .«ptl_present_flag» then ptlPartFits h else true) ≡ true)
   unfolding headFits
-  parts = let a = both-true _ _ (w .fits) in let b = both-true _ _ (a .1) in (leb-true _ _ (a .0), leb-true _ _ (b .0), b .1)
+  parts = let a = both-true _ _ (w .fits) in let b = size-fits _ (a .0) in (b .0, b .1, a .1)
 
   bit-le : (c : Bool) → bit c ≤ 1
   bit-le true = omega arith

@@ -3,13 +3,13 @@ use Prim.Native.Nat.{ℕ, suc, _+_, _*_, _^_, _≤_}
 use native.Mathlib.Omega.{arith}
 use native.Mathlib.Decide.{decLe}
 use mathlib.Core.Path.{_≡_, refl, _∙_}
-use mathlib.Core.Bool.{Bool, true, false}
+use mathlib.Core.Bool.{Bool, true, false, not}
 use mathlib.Core.List.{List, [], _∷_, _++_}
 use lib.Dec.{leb}
 use lib.ListN.{length, length-append}
 use borrow.Author.Tests.{leb-true}
 use Rattle.parse.specs.Logic.{if_then_else_}
-use Rattle.boxes.specs.Bytes.{toBe, toChunk}
+use Rattle.boxes.specs.Bytes.{toBe, toChunk, outside}
 use Rattle.boxes.proofs.Numbers.{length-toBe}
 use Rattle.unit_list.specs.UnitList.{Array, unitsOf, encodeUnits, encodeArray, encodeArrays, encode}
 use Rattle.unit_list.proofs.Encode.{length-toChunk}
@@ -28,9 +28,7 @@ use Rattle.parse.proofs.General.{both-true}
 head-short : (h : VvcConfig) → Typed h → headFits h ≡ true → length (headBytes h) ≤ 1104
 unfolding headBytes headFits
 head-short h t e =
-    let a = both-true (leb 1 (h .«length_size»)) _ e in
-    let b = both-true (leb (h .«length_size») 4) _ (a .1) in
-    go (h .«ptl_present_flag») (b .1)
+    go (h .«ptl_present_flag») (both-true (not (outside (h .«length_size»))) _ e .1)
   where
     go : (c : Bool) → (if c then ptlPartFits h else true) ≡ true → suc (length (if c then ptlPart h else [])) ≤ 1104
     go false f = omega arith

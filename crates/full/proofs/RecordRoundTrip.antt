@@ -2,9 +2,9 @@
 use Prim.Native.Nat.{ℕ, _+_, _^_, _≤_}
 use native.Mathlib.Omega.{arith}
 use mathlib.Core.Path.{_≡_, refl, sym, ap, _∙_, subst}
-use mathlib.Core.Bool.{Bool, true, false}
+use mathlib.Core.Bool.{Bool, true, false, not}
 use mathlib.Core.List.{List, [], _∷_, _++_, append-nil, append-assoc}
-use lib.Dec.{leb, eqb}
+use lib.Dec.{eqb}
 use lib.ListN.{length, length-append}
 use borrow.Author.Tests.{leb-true, le-leb, eqb-false}
 use Rattle.parse.specs.Logic.{if_then_else_}
@@ -26,6 +26,7 @@ use Rattle.full.specs.declared.VvcConfig.{VvcConfig}
 use Rattle.record_arrays.proofs.ArraysRoundTrip.{placedArrays, arrays-read, arrays-held, byte-there}
 use Rattle.full.proofs.HeadRoundTrip.{ReadsAs, small, Writable, head-read}
 use Rattle.parse.proofs.General.{both-true}
+use Rattle.boxes.specs.Bytes.{outside}
 
 module _ (h : VvcConfig) (q : VvcPtlRecord) (xs : List (Array (List ℕ))) (w : Writable h q) (sound : Sound xs) (fits : recordFits h xs ≡ true) where
   abbrev s : List ℕ
@@ -76,9 +77,8 @@ module _ (h : VvcConfig) (t : Typed h) (xs : List (Array (List ℕ))) (sound : S
   ptl-part : headFits h ≡ true → h .«ptl_present_flag» ≡ true → ptlPartFits h ≡ true
   unfolding headFits
   ptl-part e f =
-      let a = both-true (leb 1 (h .«length_size»)) _ e in
-      let b = both-true (leb (h .«length_size») 4) _ (a .1) in
-      subst (λ (c : Bool). (if c then ptlPartFits h else true) ≡ true) f (b .1)
+      let a = both-true (not (outside (h .«length_size»))) _ e in
+      subst (λ (c : Bool). (if c then ptlPartFits h else true) ≡ true) f (a .1)
 
   reads : headFits h ≡ true → h .«ptl_present_flag» ≡ true → ReadsAs (h .«native_ptl») (h .«num_sublayers») (asWritten (h .«native_ptl») (h .«num_sublayers»))
   reads e f =

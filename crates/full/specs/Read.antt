@@ -15,6 +15,7 @@ use Rattle.record_arrays.specs.Read.{recordArray}
 use Rattle.ptl.specs.Ptl.{zeroPtl}
 use Rattle.ptl_record.specs.Read.{vvcPtlRecord}
 use Rattle.full.specs.declared.VvcConfig.{VvcConfig}
+use Rattle.ptl.specs.declared.VvcPtlRecord.{VvcPtlRecord}
 
 -- a head without the PTL flag: "the head fields under it are 0"
 abbrev pub plainHead : ℕ → VvcConfig
@@ -36,6 +37,22 @@ plainHead size = record {
 abbrev pub zeroHead : VvcConfig
 zeroHead = plainHead 0
 
+-- the fields under the PTL flag, from the numbers that hold them
+abbrev pub headFields : ℕ → ℕ → ℕ → VvcPtlRecord → ℕ → ℕ → ℕ → VvcConfig
+headFields size w d ptl width height rate = record {
+  «length_size» = size;
+  «ptl_present_flag» = true;
+  «ols_idx» = w / 128;
+  «num_sublayers» = w / 16 % 8;
+  «constant_frame_rate» = w / 4 % 4;
+  «chroma_format_idc» = w % 4;
+  «bit_depth_minus8» = d / 32;
+  «native_ptl» = ptl;
+  «max_picture_width» = width;
+  «max_picture_height» = height;
+  «avg_frame_rate» = rate;
+}
+
 -- what ptl_present_flag announces
 unfoldable pub headWithPtl : ℕ → Parser VvcConfig
 headWithPtl size = do
@@ -45,19 +62,7 @@ headWithPtl size = do
   width ← uint 2  -- max_picture_width
   height ← uint 2  -- max_picture_height
   rate ← uint 2  -- avg_frame_rate
-  give (record {
-    «length_size» = size;
-    «ptl_present_flag» = true;
-    «ols_idx» = w / 128;
-    «num_sublayers» = w / 16 % 8;
-    «constant_frame_rate» = w / 4 % 4;
-    «chroma_format_idc» = w % 4;
-    «bit_depth_minus8» = d / 32;
-    «native_ptl» = ptl;
-    «max_picture_width» = width;
-    «max_picture_height» = height;
-    «avg_frame_rate» = rate;
-  })
+  give (headFields size w d ptl width height rate)
 
 unfoldable pub vvcHead : Parser VvcConfig
 vvcHead = do

@@ -1,12 +1,12 @@
 -- The full record written (ISO/IEC 14496-15 11.2.4.2). Reserved bits are those of the standard.
 use Prim.Native.Nat.{ℕ, _+_, _-_, _*_}
-use mathlib.Core.Bool.{Bool, true, _&&_}
+use mathlib.Core.Bool.{Bool, true, _&&_, not}
 use mathlib.Core.List.{List, [], _∷_, _++_}
 use lib.Dec.{leb, eqb}
 use lib.ListN.{length}
 use Rattle.parse.specs.Logic.{if_then_else_, bit}
 use Rattle.parse.specs.Outcome.{Outcome, accept, refuse, andThen}
-use Rattle.boxes.specs.Bytes.{toBe}
+use Rattle.boxes.specs.Bytes.{toBe, outside}
 use Rattle.unit_list.specs.UnitList.{Array, decode, heldArrays}
 use Rattle.record_arrays.specs.Write.{arraysBytes, arraysFit}
 use Rattle.ptl_record.specs.Write.{ptlBytes, ptlFits}
@@ -40,8 +40,7 @@ ptlPartFits h =
 
 -- without the PTL flag no field under it is written, so none is looked at
 unfoldable pub headFits : VvcConfig → Bool
-headFits h =
-    leb 1 (h .«length_size») && (leb (h .«length_size») 4 && (if h .«ptl_present_flag» then ptlPartFits h else true))
+headFits h = not (outside (h .«length_size»)) && (if h .«ptl_present_flag» then ptlPartFits h else true)
 
 -- every field fits its place: else 22
 unfoldable pub recordFits : VvcConfig → List (Array (List ℕ)) → Bool

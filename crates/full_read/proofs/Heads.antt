@@ -18,9 +18,9 @@ use Rattle.ptl_record.specs.declared.PtlRecordAnswer.{PtlRecordAnswer}
 use Rattle.ptl_record.specs.declared.PtlRecordAnswer.the-variants as P
 use Rattle.ptl_record.specs.declared.PtlRecordRead.{PtlRecordRead}
 use Rattle.ptl_record.proofs.Reading.{Reach, reach-bind, reach-value, reach-uint, reach-byte}
-use Rattle.full.specs.Read.{plainHead, headWithPtl, vvcHead, zeroHead}
+use Rattle.full.specs.Read.{plainHead, headWithPtl, vvcHead, zeroHead, headFields}
 use Rattle.full.specs.declared.VvcConfig.{VvcConfig}
-use Rattle.full_read.specs.inner.Heads.{headAnswerOf, headReadOf, headFields, sizesAfter}
+use Rattle.full_read.specs.inner.Heads.{headAnswerOf, headReadOf, sizesAfter}
 use Rattle.full_read.specs.declared.head.HeadAnswer.{HeadAnswer}
 use Rattle.full_read.specs.declared.head.HeadAnswer.the-variants as H
 use Rattle.full_read.specs.declared.head.HeadRead.{HeadRead}

@@ -10,8 +10,8 @@ ghost use lib.ListN.{length};
 ghost use Rattle.parse.specs.Parse.{refused as refusedBy};
 ghost use Rattle.error.specs.Refusals.{numberOf};
 ghost use Rattle.boxes.specs.Bytes.{be};
-ghost use Rattle.full.specs.Read.{vvcHead, headWithPtl, zeroHead};
-ghost use Rattle.full_read.specs.inner.Heads.{headReadOf, headFields, sizesAfter};
+ghost use Rattle.full.specs.Read.{vvcHead, headWithPtl, zeroHead, headFields};
+ghost use Rattle.full_read.specs.inner.Heads.{headReadOf, sizesAfter};
 ghost use Rattle.parse.specs.inner.Answers.{orZeros};
 
 // A head and the place after it, or a refusal with a head of zeros.

@@ -6,15 +6,15 @@ use mathlib.Core.List.{List, [], _∷_, _++_, append-assoc}
 use native.Mathlib.Omega.{arith}
 use lib.ListN.{length, set, length-append}
 use lib.Seq.{sets}
-use borrow.Author.Tests.{leb-true, le-leb}
 use Rattle.parse.specs.Logic.{if_then_else_, bit}
-use Rattle.boxes.specs.Bytes.{toBe}
+use Rattle.boxes.specs.Bytes.{toBe, outside}
 use Rattle.boxes.proofs.Numbers.{length-toBe}
 use Rattle.ptl_record.specs.Write.{ptlBytes}
 use Rattle.ptl_record.proofs.Writing.{sets-then}
 use Rattle.full.specs.Write.{ptlPart, headBytes, ptlPartFits, headFits}
 use Rattle.full.specs.declared.VvcConfig.{VvcConfig}
 use Rattle.parse.proofs.General.{both-true}
+use Rattle.boxes.proofs.PrefixSizes.{size-fits}
 
 -- three numbers of two bytes, stored one after the other
 pub picture-stored : (d : List ℕ) (at x y z : ℕ) → sets (sets (sets d at (toBe 2 x)) (at + 2) (toBe 2 y)) (at + 4) (toBe 2 z) ≡ sets d at ((toBe 2 x ++ toBe 2 y) ++ toBe 2 z)
@@ -71,18 +71,13 @@ module _ (h : VvcConfig) where
   unfolding headFits
   head-fits e =
       let a = both-true _ _ e in
-      let b = both-true _ _ (a .1) in
-      record {
-        one = leb-true _ _ (a .0);
-        four = leb-true _ _ (b .0);
-        part = λ f. subst (λ (t : Bool). (if t then ptlPartFits h else true) ≡ true) f (b .1);
-      }
+      let b = size-fits _ (a .0) in
+      record { one = b .0; four = b .1; part = λ f. subst (λ (t : Bool). (if t then ptlPartFits h else true) ≡ true) f (a .1) }
 
   -- with the flag set it is what stands under it that has to fit
-  pub head-flagged : 1 ≤ h .«length_size» → h .«length_size» ≤ 4 → h .«ptl_present_flag» ≡ true → headFits h ≡ ptlPartFits h
+  pub head-flagged : outside (h .«length_size») ≡ false → h .«ptl_present_flag» ≡ true → headFits h ≡ ptlPartFits h
   unfolding headFits
-  head-flagged one four e =
-      rw (le-leb 1 (h .«length_size») one, le-leb (h .«length_size») 4 four) (ap (λ (t : Bool). if t then ptlPartFits h else true) e)
+  head-flagged inside e = rw inside (ap (λ (t : Bool). if t then ptlPartFits h else true) e)
 
   -- the first byte
   abbrev pub first : ℕ

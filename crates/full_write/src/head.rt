@@ -36,10 +36,7 @@ fn ptl_part_fits(h: VvcConfig) -> bool
 pub fn head_fits(h: VvcConfig) -> bool
     ensures { λ r. ⌜ r ≡ headFits h ⌝ }
 {
-    if h.length_size < 1 {
-        return false;
-    }
-    if 4 < h.length_size {
+    if place::outside(h.length_size) {
         return false;
     }
     if h.ptl_present_flag {

@@ -30,7 +30,7 @@ fn still_len(length_size: u8, stored: &[u8]) -> Counted
     requires { ⌜ length (now stored) ≤ 2 ^ 30 ⌝ }
     ensures { λ r. ⌜ countOf r ≡ countFound (prefixed «length_size» (stillUnit (now (stored .entry)))) ⌝ }
 {
-    if walk::outside(length_size) {
+    if place::outside(length_size) {
         return Counted::Refused(Refusal::PrefixSize);
     }
     let size = place::wide(length_size);

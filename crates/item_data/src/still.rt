@@ -51,7 +51,7 @@ pub fn find_still(length_size: u8, item: &[u8]) -> Still
     requires { ⌜ length (now item) ≤ 2 ^ 30 ⌝ }
     ensures { λ r. ⌜ (payloadOf (now (item .entry)) r ≡ onlyStill (now (item .entry)) (itemUnits «length_size» (now (item .entry)))) × PayloadFits (now (item .entry)) r ⌝ }
 {
-    if walk::outside(length_size) {
+    if place::outside(length_size) {
         return Still::Other;
     }
     let size = place::wide(length_size);

@@ -14,8 +14,7 @@ use Rattle.boxes.specs.Bytes.{uint, chunk, toChunk, outside}
 use Rattle.unit_list.specs.UnitList.{encodeUnits}
 use Rattle.unit_list.proofs.Arrays.{be-one}
 use Rattle.unit_list.proofs.Encode.{length-toChunk}
-use Rattle.compact.specs.Compact.{atEnd, compactRecord, CompactParsed, allAtMost, compactBytes}
-use Rattle.compact.specs.inner.Units.{compactFirstByte}
+use Rattle.compact.specs.Compact.{atEnd, compactRecord, CompactParsed, allAtMost, compactBytes, compactFirstByte}
 use Rattle.compact.specs.declared.CompactVvcConfig.{CompactVvcConfig}
 use Rattle.compact.proofs.Facts.{CompactFacts}
 use Rattle.access_unit.specs.inner.Gathered.{lengths}

@@ -7,7 +7,7 @@ use mathlib.Core.Option.{Option}
 use mathlib.Core.List.{List, [], _∷_, _++_, map}
 use lib.ListN.{length, getD, length-append, length-map, List·getD-append, List·getD-map}
 use lib.Seq.{getD-at}
-use borrow.Author.Tests.{le-leb, lt-leb, ne-eqb, le-ltb}
+use borrow.Author.Tests.{le-leb, lt-leb, ne-eqb}
 use Rattle.parse.specs.Outcome.{accept}
 use Rattle.boxes.specs.Bytes.{toChunk, outside}
 use Rattle.boxes.specs.Parts.{held, nowhere}
@@ -38,6 +38,7 @@ use Rattle.access_unit.proofs.OneUnit.{one-assembled}
 use Rattle.path.specs.Still.{Clean}
 use Rattle.path.proofs.Lengths.{head-long, arrays-long}
 use Rattle.path.proofs.Units.{still-splits, all-split}
+use Rattle.boxes.proofs.PrefixSizes.{not-outside}
 
 annexB-long : (gs : List (List ℕ)) (u : List ℕ) → Every (λ x. length x ≤ 255) gs → length (annexB startCode (gs ++ (u ∷ []))) ≤ 259 * length gs + 4 + length u
 unfolding annexB
@@ -77,7 +78,7 @@ module _ (c : CompactVvcConfig) (pic : Picture) (ptl : VvcPtlRecord) (us : List 
   unfolding headFits ptlPartFits
   head-fits =
       let a = k .size-low in let b = k .size-high in let d = k .chroma in let e = k .depth in
-      rw (le-leb 1 (c .«length_size») a, le-leb (c .«length_size») 4 b, le-leb (pic .chroma) 3 d, le-leb (pic .depth - 8) 7 (omega arith)) (k .ptl-ok .fits)
+      rw (not-outside (c .«length_size») a b, le-leb (pic .chroma) 3 d, le-leb (pic .depth - 8) 7 (omega arith)) (k .ptl-ok .fits)
 
   record-fits : recordFits head (grouped us) ≡ true
   unfolding recordFits
@@ -129,7 +130,7 @@ module _ (c : CompactVvcConfig) (pic : Picture) (ptl : VvcPtlRecord) (us : List 
       rw (le-leb (length S) (2 ^ 30) (omega arith), k .plain, in-bounds, lt-leb (256 ^ (c .«length_size»)) (length (0 ∷ 65 ∷ S)) f)
     where
       in-bounds : outside (c .«length_size») ≡ false
-      in-bounds = let a = k .size-low in rw (ne-eqb (c .«length_size») 0 (λ e. omega arith), le-ltb 4 (c .«length_size») (k .size-high))
+      in-bounds = not-outside (c .«length_size») (k .size-low) (k .size-high)
 
   item-long : length item ≤ 2 ^ 30
   item-long = let s = k .short in let b = k .size-high in omega (arith, length-toChunk (c .«length_size») (0 ∷ 65 ∷ S))

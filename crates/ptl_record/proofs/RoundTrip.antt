@@ -13,8 +13,8 @@ use Rattle.bit_reader.specs.Bits.{isSet}
 use Rattle.ptl.specs.Ptl.{padded, presentFlags, withoutFlags}
 use Rattle.ptl.specs.declared.VvcPtlRecord.{VvcPtlRecord}
 use Rattle.ptl_record.specs.Read.{vvcPtlRecord}
-use Rattle.ptl_record.specs.Write.{constraintInfo, withFlags, hasLevel, flagByte, levelBytes, levelPart, subProfileBytes, ptlBytes, ptlFits}
-use Rattle.ptl_record.specs.inner.Places.{words, levelsLen, levelsAt, flagsAt, levelsStart, countPlace, ptlEnd, ptlFields, frontBytes}
+use Rattle.ptl_record.specs.Write.{constraintInfo, withFlags, hasLevel, flagByte, levelBytes, levelPart, subProfileBytes, ptlBytes, ptlFits, frontBytes}
+use Rattle.ptl_record.specs.inner.Places.{words, levelsLen, levelsAt, flagsAt, levelsStart, countPlace, ptlEnd, ptlFields}
 use Rattle.ptl_record.specs.AsWritten.{upTo, levelOf, asWritten}
 use Rattle.ptl_record.proofs.Reading.{reads-after}
 use Rattle.ptl_record.proofs.Writing.{Fitting, fitting, flagged, with-first, info-long, length-withFlags, length-front, length-ptl}

@@ -12,8 +12,8 @@ use borrow.Author.Tests.{leb-true, eq-eqb, ne-eqb}
 use Rattle.parse.specs.Logic.{if_then_else_, bit}
 use Rattle.boxes.proofs.Numbers.{length-toBe}
 use Rattle.ptl.specs.declared.VvcPtlRecord.{VvcPtlRecord}
-use Rattle.ptl_record.specs.Write.{constraintInfo, withFlags, hasLevel, flagByte, levelBytes, levelPart, subProfileBytes, ptlBytes, ptlFits}
-use Rattle.ptl_record.specs.inner.Places.{oneLevel, frontBytes}
+use Rattle.ptl_record.specs.Write.{constraintInfo, withFlags, hasLevel, flagByte, levelBytes, levelPart, subProfileBytes, ptlBytes, ptlFits, frontBytes}
+use Rattle.ptl_record.specs.inner.Places.{oneLevel}
 use Rattle.parse.proofs.General.{both-true, sets-append}
 
 -- one run after another, its place given

@@ -12,11 +12,14 @@ use Rattle.ptl.specs.declared.VvcPtlRecord.{VvcPtlRecord}
 abbrev pub constraintInfo : VvcPtlRecord → List ℕ
 constraintInfo p = if eqb (p .«num_bytes_constraint_info») 0 then 0 ∷ [] else take (p .«num_bytes_constraint_info») (p .«general_constraint_info»)
 
+-- a constraint byte with the two flags in place of its top two bits
+abbrev pub withFlagBits : VvcPtlRecord → ℕ → ℕ
+withFlagBits p b = bit (p .«ptl_frame_only_constraint_flag») * 128 + bit (p .«ptl_multilayer_enabled_flag») * 64 + b % 64
+
 -- "the top two bits of the first replaced by frame-only and multilayer"
 unfoldable pub withFlags : VvcPtlRecord → List ℕ → List ℕ
 withFlags p [] = []
-withFlags p (b ∷ r) =
-    (bit (p .«ptl_frame_only_constraint_flag») * 128 + bit (p .«ptl_multilayer_enabled_flag») * 64 + b % 64) ∷ r
+withFlags p (b ∷ r) = withFlagBits p b ∷ r
 
 -- whether a level is there for sublayer i: "levels that the head lacks count as absent"
 abbrev pub hasLevel : VvcPtlRecord → ℕ → Bool
@@ -40,13 +43,18 @@ unfoldable pub subProfileBytes : List ℕ → List ℕ
 subProfileBytes [] = []
 subProfileBytes (v ∷ vs) = toBe 4 v ++ subProfileBytes vs
 
--- VvcPTLRecord( num_sublayers )
-unfoldable pub ptlBytes : VvcPtlRecord → ℕ → List ℕ
-ptlBytes p sublayers =
+-- the bytes before the levels
+abbrev pub frontBytes : VvcPtlRecord → List ℕ
+frontBytes p =
     (length (constraintInfo p) ∷ [])  -- 00, num_bytes_constraint_info 6
     ++ ((p .«general_profile_idc» * 2 + bit (p .«general_tier_flag»)) ∷ [])  -- general_profile_idc 7, general_tier_flag 1
     ++ (p .«general_level_idc» ∷ [])
     ++ withFlags p (constraintInfo p)
+
+-- VvcPTLRecord( num_sublayers )
+unfoldable pub ptlBytes : VvcPtlRecord → ℕ → List ℕ
+ptlBytes p sublayers =
+    frontBytes p
     ++ levelPart p sublayers
     ++ (p .«num_sub_profiles» ∷ [])
     ++ subProfileBytes (take (p .«num_sub_profiles») (p .«general_sub_profile_idc»))

@@ -10,8 +10,8 @@ use lib.Seq.{sets, take-suc, length-take-le, take-set-lt}
 use borrow.Author.Tests.{eq-eqb, ne-eqb}
 use Rattle.boxes.specs.Bytes.{toBe}
 use Rattle.ptl.specs.declared.VvcPtlRecord.{VvcPtlRecord}
-use Rattle.ptl_record.specs.Write.{constraintInfo, withFlags, hasLevel, flagByte, levelBytes, levelPart, subProfileBytes, ptlBytes}
-use Rattle.ptl_record.specs.inner.Places.{oneLevel, frontBytes}
+use Rattle.ptl_record.specs.Write.{constraintInfo, withFlags, hasLevel, flagByte, levelBytes, levelPart, subProfileBytes, ptlBytes, frontBytes}
+use Rattle.ptl_record.specs.inner.Places.{oneLevel}
 use Rattle.ptl_record.proofs.Writing.{sets-then, flagged, with-first, length-subs, levels-split}
 use Rattle.ptl_record.proofs.Standing.{length-one}
 use Rattle.ptl_record_write.specs.inner.Places.{firstConstraintByte}

@@ -2,14 +2,13 @@
 use Prim.Native.Nat.{ℕ, _+_, _^_, _≤_, _<_}
 use mathlib.Core.Path.{_≡_, refl, sym, ap, _∙_}
 use mathlib.Core.Logic.{_⊎_, ⊎-elim, inl, inr}
-use mathlib.Core.Bool.{Bool, true, false, _||_}
+use mathlib.Core.Bool.{true, false}
 use mathlib.Core.Option.{Option, none, some}
 use mathlib.Core.List.{List, [], _∷_}
 use native.Mathlib.Omega.{arith}
 use native.Mathlib.Decide.{decLe}
-use lib.Dec.{eqb, ltb}
 use lib.ListN.{length}
-use borrow.Author.Tests.{le-leb, lt-leb, eq-eqb, ne-eqb, lt-ltb, le-ltb, eqb-false, ltb-false}
+use borrow.Author.Tests.{le-leb, lt-leb, eq-eqb, ne-eqb, lt-ltb}
 use Rattle.parse.specs.Outcome.{Outcome, accept, refuse}
 use Rattle.error.specs.Refusals.{numberOf}
 use Rattle.error.specs.declared.Refusal.{Refusal}
@@ -31,6 +30,7 @@ use Rattle.split.proofs.Spans.{Apart}
 use Rattle.split.specs.inner.Walk.{itemUnitsFrom, UnitAhead, Onward}
 use Rattle.parse.specs.inner.Walk.{more}
 use Rattle.parse.proofs.Binds.{outcome-more}
+use Rattle.boxes.proofs.PrefixSizes.{not-outside}
 
 -- ### the unit at a place
 
@@ -146,17 +146,6 @@ module _ (size : ℕ) (s : List ℕ) where
 
 -- ### the answers, in the order of their tests
 
-pub size-inside : (size : ℕ) → outside size ≡ false → (1 ≤ size) × (size ≤ 4)
-size-inside size = go (eqb size 0) (ltb 4 size) refl refl
-  where
-    go : (a b : Bool) → eqb size 0 ≡ a → ltb 4 size ≡ b → a || b ≡ false → (1 ≤ size) × (size ≤ 4)
-    go true b e f h = let z : _≡_ {A = ℕ} 0 1 = cc in absurd (omega arith)
-    go false true e f h = let z : _≡_ {A = ℕ} 0 1 = cc in absurd (omega arith)
-    go false false e f h = let n = eqb-false size 0 e in (omega arith, ltb-false 4 size f)
-
-inside-not : (size : ℕ) → 0 < size → size ≤ 4 → outside size ≡ false
-inside-not size h k = rw (ne-eqb size 0 (λ e. omega arith), le-ltb 4 size k)
-
 module _ (size : ℕ) (s : List ℕ) where
   pub items-outside : outside size ≡ true → itemUnits size s ≡ refuse 4
   unfolding itemUnits
@@ -168,7 +157,7 @@ module _ (size : ℕ) (s : List ℕ) where
 
   pub items-left : 0 < size → size ≤ 4 → itemUnits size s ≡ itemUnitsFrom size s 0
   unfolding itemUnits itemUnitsFrom
-  items-left h k = rw (inside-not size h k)
+  items-left h k = rw (not-outside size h k)
 
   pub split-too-long : 2 ^ 30 < length s → splitItem size s ≡ refuse 23
   unfolding splitItem
@@ -321,7 +310,7 @@ module _ (size : ℕ) (s : List ℕ) (lent : length s ≤ 2 ^ 30) (low : 0 < siz
   cursor-start = split-lent size s lent ∙ items-left size s low four
 
   pub cursor-step : (p : ℕ) → itemUnitsFrom size s p ≡ walked size s (nextItemUnit size s p)
-  cursor-step p = sym (walk-step size s p) ∙ ap (walked size s) (sym (next-step size s p lent (inside-not size low four)))
+  cursor-step p = sym (walk-step size s p) ∙ ap (walked size s) (sym (next-step size s p lent (not-outside size low four)))
 
 -- ### where the units of an accepted item lie: one after the other inside it
 

@@ -34,7 +34,7 @@ pub fn split_length_prefixed_count(item: &[u8], length_size: u8) -> Counted
     if LARGEST_INPUT < item.len() {
         return Counted::Refused(Refusal::InputTooLong);
     }
-    if walk::outside(length_size) {
+    if place::outside(length_size) {
         return Counted::Refused(Refusal::PrefixSize);
     }
     walk::item_count(item, place::wide(length_size))
@@ -73,7 +73,7 @@ pub fn next_item_unit(item: &[u8], length_size: u8, from: usize) -> NextUnit
     if LARGEST_INPUT < item.len() {
         return NextUnit::Refused(Refusal::InputTooLong);
     }
-    if walk::outside(length_size) {
+    if place::outside(length_size) {
         return NextUnit::Refused(Refusal::PrefixSize);
     }
     if item.len() <= from {

@@ -14,14 +14,6 @@ ghost use Rattle.boxes.specs.Walk.{countFound, found};
 ghost use Rattle.split.specs.Stream.{trim};
 ghost use Rattle.split.specs.Answers.{nextOf, itemStep};
 ghost use Rattle.split.specs.inner.Walk.{itemUnitsFrom, HasUnit};
-ghost use Rattle.boxes.specs.Bytes.{outside};
-
-// Whether a prefix size is outside 1 to 4.
-pub fn outside(length_size: u8) -> bool
-    ensures { λ r. ⌜ r ≡ outside «length_size» ⌝ }
-{
-    length_size == 0 || 4 < length_size
-}
 
 // The unit whose length stands at a place of an item, and the place after it.
 pub fn item_step(item: &[u8], size: usize, at: usize) -> NextUnit

@@ -7,8 +7,8 @@ use borrow.Author.Needs.{needs}
 use lib.Seq.{sets}
 use Rattle.boxes.specs.Parts.{held}
 use Rattle.parse.proofs.Output.{output-refused, output-short, output-fits}
-use Rattle.compact.specs.Compact.{oneArray, parseCompact}
-use Rattle.compact.specs.inner.Units.{recordUnits, configOf}
+use Rattle.compact.specs.Compact.{oneArray, parseCompact, configOf}
+use Rattle.compact.specs.inner.Units.{recordUnits}
 use Rattle.compact.proofs.OneArray.{list-long}
 use Rattle.compact.proofs.RecordRead.{parse-read}
 use Rattle.compact_read.specs.inner.Room.{RoomRead, RoomSays}

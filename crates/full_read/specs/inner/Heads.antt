@@ -1,12 +1,11 @@
 -- What the functions inside this crate say: the head read, and the arrays beside it.
-use Prim.Native.Nat.{ℕ, _/_, _%_}
-use mathlib.Core.Bool.{true}
+use Prim.Native.Nat.{ℕ}
 use Rattle.parse.specs.Outcome.{Outcome, accept, refuse}
 use Rattle.parse.specs.Parse.{Parsed, value, refused, Parser, _>>=_, give}
 use Rattle.error.specs.Refusals.{numberOf}
 use Rattle.boxes.specs.Bytes.{uint}
 use Rattle.ptl.specs.declared.VvcPtlRecord.{VvcPtlRecord}
-use Rattle.full.specs.Read.{FullParsed, zeroHead}
+use Rattle.full.specs.Read.{FullParsed, zeroHead, headFields}
 use Rattle.full.specs.declared.VvcConfig.{VvcConfig}
 use Rattle.full_read.specs.declared.head.HeadAnswer.{HeadAnswer}
 use Rattle.full_read.specs.declared.head.HeadAnswer.the-variants as H
@@ -28,22 +27,6 @@ headAnswerOf (H.Refused e) h = refused (numberOf e)
 
 abbrev pub headReadOf : HeadRead → Parsed VvcConfig × VvcConfig
 headReadOf r = (headAnswerOf (r .answer) (r .head), r .head)
-
--- the fields under the PTL flag, from the numbers that hold them
-abbrev pub headFields : ℕ → ℕ → ℕ → VvcPtlRecord → ℕ → ℕ → ℕ → VvcConfig
-headFields size w d ptl width height rate = record {
-  «length_size» = size;
-  «ptl_present_flag» = true;
-  «ols_idx» = w / 128;
-  «num_sublayers» = w / 16 % 8;
-  «constant_frame_rate» = w / 4 % 4;
-  «chroma_format_idc» = w % 4;
-  «bit_depth_minus8» = d / 32;
-  «native_ptl» = ptl;
-  «max_picture_width» = width;
-  «max_picture_height» = height;
-  «avg_frame_rate» = rate;
-}
 
 -- the rest of a head after its PTL
 unfoldable pub sizesAfter : ℕ → ℕ → ℕ → VvcPtlRecord → Parser VvcConfig

@@ -3,13 +3,12 @@ use Prim.Native.Nat.{ℕ, zero, suc, _+_, _*_, _/_, _%_, _-_}
 use mathlib.Core.Bool.{Bool}
 use mathlib.Core.List.{List, [], _∷_, _++_}
 use lib.Dec.{ltb}
-use lib.ListN.{length, getD, take, drop}
-use Rattle.parse.specs.Logic.{if_then_else_, bit}
+use lib.ListN.{getD, take, drop}
+use Rattle.parse.specs.Logic.{if_then_else_}
 use Rattle.boxes.specs.Bytes.{be}
 use Rattle.bit_reader.specs.Bits.{isSet}
 use Rattle.ptl.specs.Ptl.{padded, withoutFlags}
 use Rattle.ptl.specs.declared.VvcPtlRecord.{VvcPtlRecord}
-use Rattle.ptl_record.specs.Write.{constraintInfo, withFlags}
 
 -- the n numbers of four bytes from p on
 unfoldable pub words : ℕ → List ℕ → ℕ → List ℕ
@@ -65,11 +64,3 @@ ptlFields s at n m present idcs p = record {
 -- the byte of a level, where it is there
 abbrev pub oneLevel : Bool → ℕ → List ℕ
 oneLevel present level = if present then level ∷ [] else []
-
--- the bytes in front of the levels: the constraint length, profile and tier, level and the constraint bytes
-abbrev pub frontBytes : VvcPtlRecord → List ℕ
-frontBytes p =
-    (length (constraintInfo p) ∷ [])
-    ++ ((p .«general_profile_idc» * 2 + bit (p .«general_tier_flag»)) ∷ [])
-    ++ (p .«general_level_idc» ∷ [])
-    ++ withFlags p (constraintInfo p)

@@ -1,11 +1,9 @@
 -- What the first constraint byte is made of.
-use Prim.Native.Nat.{ℕ, _+_, _*_, _%_}
+use Prim.Native.Nat.{ℕ}
 use lib.ListN.{getD}
 use Rattle.ptl.specs.declared.VvcPtlRecord.{VvcPtlRecord}
-use Rattle.ptl_record.specs.Write.{constraintInfo}
-use Rattle.parse.specs.Logic.{bit}
+use Rattle.ptl_record.specs.Write.{constraintInfo, withFlagBits}
 
 -- the first constraint byte as written
 abbrev pub firstConstraintByte : VvcPtlRecord → ℕ
-firstConstraintByte p =
-    bit (p .«ptl_frame_only_constraint_flag») * 128 + bit (p .«ptl_multilayer_enabled_flag») * 64 + getD (constraintInfo p) 0 0 % 64
+firstConstraintByte p = withFlagBits p (getD (constraintInfo p) 0 0)

@@ -2,7 +2,6 @@
 use Prim.Native.Nat.{_+_, _≤_, _^_}
 use mathlib.Core.Path.{_≡_, sym, ap, _∙_}
 use Rattle.parse.specs.Outcome.{accept, andThen}
-use Rattle.split.proofs.Items.{size-inside}
 use Rattle.access_unit.specs.Answers.{tolsOf}
 use Rattle.access_unit.specs.inner.Gathered.{keptLeft, itemSum, summedOf, bothSums, sizesWith}
 use Rattle.access_unit.specs.declared.sizes.UnitSum.{UnitSum}
@@ -13,6 +12,7 @@ use borrow.Author.Needs.{needs}
 use native.Mathlib.Omega.{arith}
 use Rattle.access_unit.proofs.sizes.measure_item.Statement.{statement}
 use Rattle.access_unit.proofs.sizes.measure_item.Tie as tie
+use Rattle.boxes.proofs.PrefixSizes.{size-inside}
 
 -- Earlier places of the function, each seen from a later one.
 abbrev start : (c : tie.After-item-sum) → tie.Start

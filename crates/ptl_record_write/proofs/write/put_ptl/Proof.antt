@@ -1,8 +1,7 @@
 -- The parts of the record, stored one after the other.
 use Rattle.ptl_record.proofs.Writing.{fitting, length-ptl, part-few}
 use Rattle.ptl_record_write.proofs.Stores.{ptl-stored}
-use Rattle.ptl_record.specs.Write.{levelPart, ptlBytes}
-use Rattle.ptl_record.specs.inner.Places.{frontBytes}
+use Rattle.ptl_record.specs.Write.{levelPart, ptlBytes, frontBytes}
 use Prim.Native.Nat.{_+_, _*_, _≤_}
 use mathlib.Core.Path.{_≡_, ap, _∙_}
 use lib.Seq.{length-sets}

@@ -1,7 +1,7 @@
--- `walk::outside` tells a prefix size outside 1 to 4: 0 first, then above 4.
+-- `place::outside` tells a prefix size outside 1 to 4: 0 first, then above 4.
 use borrow.Author.Tests.{eq-eqb, ne-eqb}
-use Rattle.split.proofs.walk.outside.Statement.{statement}
-use Rattle.split.proofs.walk.outside.Tie as tie
+use Rattle.boxes.proofs.place.outside.Statement.{statement}
+use Rattle.boxes.proofs.place.outside.Tie as tie
 
 returns : tie.Need-returns
 returns c = rw (eq-eqb _ 0 (c .if1 .taken))

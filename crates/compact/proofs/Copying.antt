@@ -1,4 +1,4 @@
--- Laws of a walk that stores the units it finds, one after the other: what is stored and what is left make the whole.
+-- Laws of a walk that stores the units it finds, one after the other: what is stored and what is left are the whole.
 use Prim.Native.Nat.{ℕ, _+_, _≤_}
 use mathlib.Core.Path.{_≡_, refl, sym, ap, _∙_}
 use mathlib.Core.List.{List, [], _∷_}
@@ -16,7 +16,7 @@ use Rattle.unit_list.proofs.Accepted.{held-long}
 use Rattle.compact.specs.inner.Units.{unitBytes, foundUnitBytes, Copies}
 use Rattle.boxes.specs.inner.Walk.{more}
 
--- a unit inside s after its length, alone and in front of others
+-- a unit of s after its length, alone and followed by others
 module _ (w : ℕ) (s : List ℕ) (a : Span) (inside : a .start + a .len ≤ length s) where
   pub unit-room : length (toChunk w (held s a)) ≡ w + a .len
   unit-room = let l = held-long s a inside in length-toChunk w (held s a) ∙ rw l
@@ -28,12 +28,12 @@ module _ (w : ℕ) (s : List ℕ) (a : Span) (inside : a .start + a .len ≤ len
 pub copies-room : (w : ℕ) (s : List ℕ) (o : Outcome (List Span)) (out : List ℕ) (to : ℕ) → Copies w s o out to → to + length (foundUnitBytes w s o) ≤ length out
 copies-room w s o out to h = let l = ap (λ (x : Outcome (List Span)). length (foundUnitBytes w s x)) (h .found) in omega (arith, h .fits)
 
--- the same in other output of that length
+-- the same for another output of the same length
 pub copies-on : (w : ℕ) (s : List ℕ) (o : Outcome (List Span)) (out d : List ℕ) (to : ℕ) → Copies w s o out to → length d ≡ length out → Copies w s o d to
 copies-on w s o out d to h e = record { units = h .units; found = h .found; fits = omega (arith, h .fits) }
 
 module _ (w : ℕ) (s out₀ : List ℕ) (to₀ : ℕ) (o₀ : Outcome (List Span)) where
-  -- the walk has come to where o is left, to be stored from place `to` of the output on
+  -- the walk has come to o, which is to be stored from place `to` of the output on
   pub record Copying (o : Outcome (List Span)) (out : List ℕ) (to : ℕ) : Type 0 where
     pub copies : Copies w s o out to
     pub same : length out ≡ length out₀
@@ -51,7 +51,7 @@ module _ (w : ℕ) (s out₀ : List ℕ) (to₀ : ℕ) (o₀ : Outcome (List Spa
     copying-end e = ap (λ (x : Outcome (List Span)). sets out to (foundUnitBytes w s x)) (sym e) ∙ i .whole
 
     module _ (a : Span) (inside : a .start + a .len ≤ length s) where
-      -- what the units to be stored are, once the first is known
+      -- there is room for the first unit and the rest
       first : (us : List Span) → o ≡ accept (a ∷ us) → to + (w + a .len + length (unitBytes w s us)) ≤ length out
       first us e =
           let f = i .copies .found in

@@ -1,4 +1,4 @@
--- What the answers of this crate say.
+-- The outcome that an answer of reading a compact record means (SCOPE 3.2).
 use Rattle.parse.specs.Outcome.{Outcome, accept, refuse}
 use Rattle.error.specs.Refusals.{numberOf}
 use Rattle.compact.specs.Compact.{CompactParsed}

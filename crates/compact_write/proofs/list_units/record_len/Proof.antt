@@ -1,4 +1,4 @@
--- `list_units::record_len` gives the length of the record of units that are measured, or the refusal that comes first.
+-- `list_units::record_len` returns the length of the record, or the first refusal.
 use Prim.Native.Nat.{_≤_}
 use mathlib.Core.Path.{sym, _∙_}
 use mathlib.Core.Logic.{⊎-elim, inl, inr}
@@ -9,7 +9,7 @@ use Rattle.compact_write.proofs.ListUnits.{length-outside, length-count
 use Rattle.compact_write.proofs.list_units.record_len.Statement.{statement}
 use Rattle.compact_write.proofs.list_units.record_len.Tie as tie
 
--- the count was tested
+-- the count is 2 to 33
 counted : (c : tie.Else3) → (2 ≤ c .before .before .before .before .before .before .args .sum .count) × (c .before .before .before .before .before .before .args .sum .count ≤ 33)
 counted c = (omega (arith, c .before .before .if2 .left), ltb-false 33 (c .before .before .before .before .before .before .args .sum .count) (c .if3 .left))
 

@@ -1,4 +1,4 @@
--- What the definition of a head gives, case by case: the first byte, what the PTL flag announces, what follows the PTL.
+-- The definition of a head by cases: the first byte, the fields under the PTL flag, the fields after the PTL.
 use Prim.Native.Nat.{ℕ, _+_, _/_, _%_, _≤_, _<_}
 use mathlib.Core.Path.{_≡_, refl, sym, ap, _∙_}
 use mathlib.Core.List.{List}
@@ -26,7 +26,7 @@ use Rattle.full_read.specs.declared.head.HeadAnswer.the-variants as H
 use Rattle.full_read.specs.declared.head.HeadRead.{HeadRead}
 use Rattle.ptl.specs.inner.Answers.{orZeroPtl}
 
--- what follows the PTL: three numbers of two bytes
+-- after the PTL: three numbers of two bytes
 module _ (s : List ℕ) where
   reach-number-to : (p q : ℕ) → p + 2 ≡ q → Reach (length s) (uint 2 s p) (be s p 2) q
   reach-number-to p q e = rw e at (reach-uint s 2 p)
@@ -44,7 +44,7 @@ or-zero : (x : Parsed VvcPtlRecord) → orZeroPtl x .0 ≡ x
 or-zero (value p q) = refl
 or-zero (refused e) = refl
 
--- what the PTL flag announces, after the first byte
+-- the fields under the PTL flag, after the first byte
 module _ (size : ℕ) (s : List ℕ) where
   no-depth : 3 ≤ length s → length s < 4 → headWithPtl size s 1 ≡ refused 1
   unfolding headWithPtl
@@ -66,7 +66,7 @@ module _ (size : ℕ) (s : List ℕ) where
     unfolding headWithPtl sizesAfter
     after-number = rw (uint-there 2 s 1 (omega arith), uint-there 1 s 3 there)
 
-    -- the PTL was read, or refused
+    -- the PTL is read or refused
     module _ (w : ℕ) (is : w ≡ be s 1 2) (r : PtlRecordRead) (f : ptlRecordOf r ≡ orZeroPtl (vvcPtlRecord (w / 16 % 8) s 4)) where
       ptl-said : vvcPtlRecord (be s 1 2 / 16 % 8) s 4 ≡ ptlRecordRead (r .answer) (r .ptl)
       ptl-said = rw (← is) (sym (ap (λ (y : Parsed VvcPtlRecord × VvcPtlRecord). y .0) f ∙ or-zero (vvcPtlRecord (w / 16 % 8) s 4)))
@@ -83,7 +83,7 @@ module _ (size : ℕ) (s : List ℕ) where
       pub ptl-refused : (e : Refusal) → r .answer ≡ P.Refused e → headWithPtl size s 1 ≡ refused (numberOf e)
       ptl-refused e h = known (P.Refused e) h
 
--- what the answer for the head says once it is known which it is
+-- what the answer for the head says when it is known
 or-zero-head : (x : Parsed VvcConfig) → orZeroHead x .0 ≡ x
 or-zero-head (value p q) = refl
 or-zero-head (refused e) = refl

@@ -1,5 +1,5 @@
--- Laws of a parser repeated n times whose values are measured and stored one after the other: what is done and what is left make the
--- whole. One set of laws for the units of an array and for the arrays of a record.
+-- Laws of a parser repeated n times whose values are measured and stored one after the other: what is done and what is left are the
+-- whole. The same laws serve the units of an array and the arrays of a record.
 use Prim.Native.Nat.{ℕ, zero, suc, _+_, _-_, _*_, _≤_, _<_}
 use mathlib.Core.Path.{_≡_, refl, sym, ap, _∙_, subst}
 use mathlib.Core.List.{List, [], _∷_, _++_}
@@ -32,7 +32,7 @@ module _ {A : Type 0} (f : List ℕ → A → List ℕ) (s : List ℕ) where
   room-refused (value a r) e w = absurd (let z : _≡_ {A = ℕ} 0 1 = cc in omega arith)
   room-refused (refused j) e w = let z : j ≡ e = cc in ap refused z
 
--- and the answer that has it, once it is known which it is
+-- the answer of a measurement when it is known
 pub record RoomAt (s : List ℕ) (p : ℕ) (x : Parsed ℕ) (n q : ℕ) : Type 0 where
   pub read : value n q ≡ x
   pub inside : q ≤ length s
@@ -47,10 +47,10 @@ module _ (s : List ℕ) (p : ℕ) (x : Parsed ℕ) (r : ListRoom) (f : (listRoom
       let g = subst (λ (r : ListRoom). (listRoomOf r ≡ x) × RoomFits s p r) e f in
       record { read = g .0; inside = g .1 .0; few = g .1 .1 }
 
--- P's values, the bytes of one and those of many
+-- values of P: the bytes of one, and of many
 module _ {A : Type 0} (P : Parser A) (f : List ℕ → A → List ℕ) (F : List ℕ → List A → List ℕ)
     (none : (s : List ℕ) → F s [] ≡ []) (more : (s : List ℕ) (a : A) (xs : List A) → F s (a ∷ xs) ≡ f s a ++ F s xs) (s : List ℕ) where
-  -- the bytes of one more
+  -- the length with one more
   room-more : (a : A) (xs : List A) → length (F s (a ∷ xs)) ≡ length (f s a) + length (F s xs)
   room-more a xs = ap length (more s a xs) ∙ length-append (f s a) (F s xs)
 
@@ -83,7 +83,7 @@ module _ {A : Type 0} (P : Parser A) (f : List ℕ → A → List ℕ) (F : List
       room-next k m e = room-bind k m e (times (n - 1) P s q) ∙ ap (roomTaken F s k) (sym times-more)
 
   -- ### stored
-  -- n are left to be read from place p on and stored from place `to` on; x₀ was to be stored from place `start` of out₀ on
+  -- n values are left, to be read from place p on and stored from place `to` on; x₀ was to be stored from place `start` of out₀ on
   pub record Storing (out₀ : List ℕ) (start : ℕ) (x₀ : Parsed (List A)) (n p : ℕ) (out : List ℕ) (to : ℕ) : Type 0 where
     pub stores : Stores F s (times n P s p) out to
     pub same : length out ≡ length out₀
@@ -109,7 +109,7 @@ module _ {A : Type 0} (P : Parser A) (f : List ℕ → A → List ℕ) (F : List
         }
 
     module _ (some : 0 < n) where
-      -- the next one is there
+      -- the next value is there
       pub storing-not-short : (e : ℕ) → P s p ≡ refused e → ⊥
       storing-not-short e w =
           let a = times-refused n p some e w in
@@ -117,7 +117,7 @@ module _ {A : Type 0} (P : Parser A) (f : List ℕ → A → List ℕ) (F : List
           let z : _≡_ {A = ℕ} 0 1 = cc in omega arith
 
       module _ (a : A) (q : ℕ) (w : P s p ≡ value a q) where
-        -- what is left after one more
+        -- the rest after one more
         rest-of : (x : Parsed (List A)) → bind x (λ rest r. value (a ∷ rest) r) ≡ value (i .stores .what) (i .stores .ends)
             → (d : List ℕ) → d ≡ sets out to (f s a) → (t : ℕ) → t ≡ to + length (f s a)
             → Stores F s x d t × (sets d t (storedBytes F s x) ≡ sets out to (storedBytes F s (bind x (λ rest r. value (a ∷ rest) r))))
@@ -159,11 +159,11 @@ module _ {A : Type 0} (P : Parser A) (f : List ℕ → A → List ℕ) (F : List
       one-of (value a q) w = record { what = a; ends = q; read = w; fits = storing-room a q w }
       one-of (refused e) w = absurd (storing-not-short e w)
 
-      -- and has room
+      -- the output has room for it
       pub storing-one : Stores f s (P s p) out to
       storing-one = one-of (P s p) refl
 
-      -- and once its bytes are stored, what is left
+      -- the rest when its bytes are stored
       pub storing-stored : (d : List ℕ) (r : Stored) → StoredAt f s (P s p) out to d r → Storing out₀ start x₀ (n - 1) (r .from) d (r .to)
       storing-stored d r v =
           let o = storing-one in

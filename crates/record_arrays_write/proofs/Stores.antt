@@ -1,4 +1,4 @@
--- Laws of storing what is found, one thing after the other: what is stored and what is left make the whole.
+-- Laws of storing what is found, one after the other: what is stored and what is left are the whole.
 use Prim.Native.Nat.{ℕ, _+_, _-_, _*_, _≤_, _<_}
 use mathlib.Core.Path.{_≡_, refl, sym, ap, _∙_}
 use mathlib.Core.Bool.{true, false}
@@ -33,7 +33,7 @@ use Rattle.record_arrays_write.specs.declared.measure.Measure.{Measure}
 use Rattle.record_arrays_write.proofs.Measures.{ahead, units-next, entered, arrayWith}
 use Rattle.boxes.specs.inner.Walk.{more}
 
--- what is to be put, once it is known what was found
+-- what is to be stored when it is known what was found
 pub put-room : {A : Type 0} (f : A → List ℕ) (o : Outcome A) (out : List ℕ) (to : ℕ) → Puts f o out to → to + length (bytesOf f o) ≤ length out
 put-room f o out to h = rw (h .found) (h .room)
 
@@ -41,7 +41,7 @@ pub puts-found : {A : Type 0} (f : A → List ℕ) (o : Outcome A) (out : List �
 puts-found f o out to a e h = record { it = a; found = e; room = h }
 
 module _ {A : Type 0} (f : List A → List ℕ) (out₀ : List ℕ) (to₀ : ℕ) (o₀ : Outcome (List A)) where
-  -- the walk has come to where o is left, to be stored from place `to` of the output on
+  -- the walk has come to o, which is to be stored from place `to` of the output on
   pub record Putting (o : Outcome (List A)) (out : List ℕ) (to : ℕ) : Type 0 where
     pub puts : Puts f o out to
     pub same : length out ≡ length out₀
@@ -178,7 +178,7 @@ module _ (s : List ℕ) (t : ℕ) (o : Outcome (List Span)) where
       go (accept us) e h = let z : _≡_ {A = ℕ} 0 1 = cc in omega arith
       go (refuse k) e h = let z : _≡_ {A = ℕ} 0 1 = cc in omega arith
 
--- what the three stores of an array need and leave
+-- what the three writes of an array need and leave
 module _ (s : List ℕ) (complete t : ℕ) (o : Outcome (List Span)) (out : List ℕ) (to : ℕ) (h : Puts (arrayInRecord s complete t) o out to) where
   module _ (b : ℕ) (is : b ≡ complete * 128 + t) (d₁ : List ℕ) (e₁ : d₁ ≡ set out to b) where
     one-long : length d₁ ≡ length out

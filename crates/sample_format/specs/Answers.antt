@@ -1,4 +1,4 @@
--- What the answer of this crate says.
+-- The outcome that the answer of `sample_format` means (SCOPE 4.3).
 use Rattle.parse.specs.Outcome.{Outcome, accept, refuse}
 use Rattle.error.specs.Refusals.{numberOf}
 use Rattle.sample_format.specs.Format.{Format}

@@ -22,7 +22,7 @@ use Rattle.access_unit.proofs.Sums.{leading-le}
 use Rattle.access_unit.proofs.Gathering.{From, gathered, Known}
 use Rattle.access_unit.proofs.Order.{stream-parts, stream-size}
 
--- there is room for it
+-- the output has room for it
 pub puts-stream : (size : ℕ) (target : Option ℕ) (list item : List ℕ) (v : Sizes) (out : List ℕ) → Known size target list item v
     → 4 * (v .listed + v .kept) + v .lengths ≤ length out → PutsStream size target list item v out
 puts-stream size target list item v out n h =

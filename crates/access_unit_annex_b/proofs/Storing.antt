@@ -1,4 +1,4 @@
--- Laws of storing the stream unit by unit: what is stored and what is left make the whole.
+-- Laws of storing the stream unit by unit: what is stored and what is left are the whole.
 use Prim.Native.Nat.{ℕ, zero, suc, _+_, _-_, _≤_, _<_}
 use mathlib.Core.Path.{_≡_, refl, sym, ap, _∙_}
 use mathlib.Core.List.{List, [], _∷_, _++_, map, append-assoc}
@@ -27,7 +27,7 @@ pub unit-stored : (d e f u : List ℕ) (p : ℕ) → e ≡ sets d p (toBe 4 1) �
 unfolding toBe
 unit-stored d e f u p x y = y ∙ ap (λ (l : List ℕ). sets l (p + 4) u) x ∙ sets-append d p startCode u
 
--- ### storing the units at spans of s, of which us are left: E is the place after all, B what the output then holds
+-- ### storing the units at spans of s, of which us are left: E is the place after all, B the output at the end
 
 pub record Storing (s : List ℕ) (n E : ℕ) (B : List ℕ) (us : List Span) (out : List ℕ) (end : ℕ) : Type 0 where
   pub same : length out ≡ n
@@ -75,7 +75,7 @@ module _ (s : List ℕ) (n E : ℕ) (B : List ℕ) where
 
 -- ### the units left in a walk that stores all of them
 
--- the one found in front of those that are left
+-- the unit that was found, followed by those that are left
 pub record Front (a : Span) (o : Outcome (List Span)) (us : List Span) : Type 0 where
   pub tail : List Span
   pub left : o ≡ accept tail
@@ -113,7 +113,7 @@ module _ (s : List ℕ) (n E : ℕ) (B : List ℕ) (o : Outcome (List Span)) (ou
     remaining-more after ends f g =
         record { rest = ahead .tail; found = ahead .left; storing = storing-more s n E B a (ahead .tail) out end split inside after ends f g }
 
--- ### the units left in a walk that stores the first of them: so many are left, and what then comes is known
+-- ### a walk that stores the first units only: how many are left, and what comes after them
 
 pub record FirstLeft (s : List ℕ) (n E : ℕ) (B : List ℕ) (then : Outcome (List Span)) (o : Outcome (List Span)) (left : ℕ) (out : List ℕ) (end : ℕ) : Type 0 where
   pub rest : List Span

@@ -74,7 +74,7 @@ unfolding firsts
 firsts-le [] = omega arith
 firsts-le (t ∷ ts) = omega (arith, without-le t (firsts ts), firsts-le ts)
 
--- a type that occurs, and a bound for how many units it has
+-- type t occurs, and is at most 31
 abbrev pub Has-units : List (List ℕ) → ℕ → Type 0
 Has-units us t = (1 ≤ length (havingType t us)) × (t ≤ largestUnitType)
 

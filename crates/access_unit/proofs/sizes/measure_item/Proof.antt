@@ -1,4 +1,4 @@
--- `sizes::measure_item` measures an access unit whose list is measured, or gives the refusal that comes first.
+-- `sizes::measure_item` measures an access unit whose list is measured, or returns the first refusal.
 use Prim.Native.Nat.{_+_, _≤_, _^_}
 use mathlib.Core.Path.{_≡_, sym, ap, _∙_}
 use Rattle.parse.specs.Outcome.{accept, andThen}
@@ -14,7 +14,7 @@ use native.Mathlib.Omega.{arith}
 use Rattle.access_unit.proofs.sizes.measure_item.Statement.{statement}
 use Rattle.access_unit.proofs.sizes.measure_item.Tie as tie
 
--- the prefix size
+-- the prefix size is 1 to 4
 sized : (c : tie.Else1) → (1 ≤ c .before .before .before .args .length-size) × (c .before .before .before .args .length-size ≤ 4)
 sized c = size-inside _ (sym (c .before .outside .ensures) ∙ c .if1 .left)
 
@@ -34,7 +34,7 @@ item-sum-requires c κs =
     let z = sized (c .before) in
     rw (c .wide .ensures .0) (record { some = z .0; four = z .1; within = omega arith; lent = c .before .before .before .before .pre .0 })
 
--- what the item's sum says
+-- what the sum over the item says
 sums : (d : tie.After-item-sum)
     → summedOf (d .item-sum .result) ≡ andThen (keptLeft (d .before .before .before .before .before .args .length-size) (tolsOf (d .before .before .before .before .before .args .target)) (d .before .before .before .before .before .args .item .now) 0) (λ ks. accept (itemSum (d .before .before .before .before .before .args .item .now) ks))
 sums d = rw (d .before .wide .ensures .0) at (d .item-sum .ensures)

@@ -1,4 +1,4 @@
--- `source::source_at` says where unit k of the access unit lies, by its number among the kept units or the list's.
+-- `source::source_at` returns where unit k of the access unit lies, by its number among the kept units or the list's.
 use Prim.Native.Nat.{ℕ}
 use mathlib.Core.Path.{refl, sym, ap, _∙_, subst}
 use Rattle.boxes.specs.Places.{inFirst, placeFound}
@@ -18,7 +18,7 @@ known-at : (c : tie.After-known-told)
     → Known (c .before .before .before .before .before .before .args .length-size) (tolsOf (c .before .before .before .before .before .before .args .target)) (c .before .before .before .before .before .before .args .list .now) (c .before .before .before .before .before .before .args .item .now) (c .before .measured .given .0 .0)
 known-at c = known _ _ _ _ _ (ap sizesAnswerOf (sym (c .before .measured .given .1)) ∙ c .before .before .before .measure .ensures)
 
--- the kept unit that stands as number k
+-- the kept unit that is unit k
 kept-at : (c : tie.After-wide)
     → KeptAt (c .before .before .before .before .before .before .before .before .before .before .before .args .length-size) (tolsOf (c .before .before .before .before .before .before .before .before .before .before .before .args .target)) (c .before .before .before .before .before .before .before .before .before .before .before .args .list .now) (c .before .before .before .before .before .before .before .before .before .before .before .args .item .now) (c .before .before .before .before .before .before .before .before .before .before .before .args .k) (c .before .before .before .before .before .before .measured .given .0 .0) (known-at (c .before .before .before .before .before)) (c .wide .result) (c .wide .ensures .0) (c .before .before .n .given .0 .0)
 kept-at c = kept-number _ _ _ _ _ _ (known-at (c .before .before .before .before .before)) _ (c .wide .ensures .0) _ (subst (Numbered _ _) (c .before .before .n .given .1) (c .before .before .before .before .number-of .ensures))

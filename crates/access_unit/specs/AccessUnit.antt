@@ -89,6 +89,7 @@ abbrev pub heldIn : List ℕ → List ℕ → Source → List ℕ
 heldIn list item (ofList a) = held list a
 heldIn list item (ofItem a) = held item a
 
+-- the start code before each unit of the stream
 abbrev pub startCode : List ℕ
 startCode = 0 ∷ 0 ∷ 0 ∷ 1 ∷ []
 

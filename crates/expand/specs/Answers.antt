@@ -10,6 +10,7 @@ use Rattle.expand.specs.declared.ExpandAnswer.{ExpandAnswer}
 use Rattle.expand.specs.declared.ExpandAnswer.the-variants as E
 use Rattle.expand.specs.declared.Expanded.{Expanded}
 
+-- an expansion with its head, or a refusal by its number
 abbrev pub expandAnswerOf : ExpandAnswer → VvcConfig → Outcome FullHead
 expandAnswerOf (E.List len) h = accept (record { head = h; listLength = len })
 expandAnswerOf (E.Refused e) h = refuse (numberOf e)

@@ -61,6 +61,7 @@ pub record FullHead : Type 0 where
   pub head : VvcConfig
   pub listLength : ℕ
 
+-- a head and a list as what expansion returns and writes
 abbrev pub withList : VvcConfig → List ℕ → FullHead × List ℕ
 withList h list = (record { head = h; listLength = length list }, list)
 

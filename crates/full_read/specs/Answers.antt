@@ -9,6 +9,7 @@ use Rattle.full_read.specs.declared.FullAnswer.{FullAnswer}
 use Rattle.full_read.specs.declared.FullAnswer.the-variants as A
 use Rattle.full_read.specs.declared.FullRead.{FullRead}
 
+-- a read record with its head, or a refusal by its number
 abbrev pub fullAnswerOf : FullAnswer → VvcConfig → Outcome FullParsed
 fullAnswerOf (A.Read consumed len) h = accept (record { head = h; consumed = consumed; listLength = len })
 fullAnswerOf (A.Refused e) h = refuse (numberOf e)

@@ -28,6 +28,7 @@ abbrev unitsRead : List ℕ → Parsed (CompactVvcConfig × List Span) → List 
 unitsRead C (value r p) = map (held C) (r .1)
 unitsRead C (refused e) = []
 
+-- the units of C; none if C does not read
 abbrev pub unitsIn : List ℕ → List (List ℕ)
 unitsIn C = unitsRead C (compactRecord C 0)
 

@@ -16,6 +16,7 @@ arrayBytes a =
     ++ (if holdsOne (a .unitType) then [] else toBe 2 (length (a .units)))
     ++ encodeUnits 2 (a .units)
 
+-- the bytes of arrays, one after the other
 unfoldable pub arraysBytes : List (Array (List ℕ)) → List ℕ
 arraysBytes [] = []
 arraysBytes (a ∷ xs) = arrayBytes a ++ arraysBytes xs
@@ -30,6 +31,7 @@ unfoldable pub arrayFits : Array (List ℕ) → Bool
 arrayFits a =
     leb (length (a .units)) 65535 && (unitsFit (a .units) && (if holdsOne (a .unitType) then eqb (length (a .units)) 1 else true))
 
+-- every array fits its fields
 unfoldable pub arraysFit : List (Array (List ℕ)) → Bool
 arraysFit [] = true
 arraysFit (a ∷ xs) = arrayFits a && arraysFit xs

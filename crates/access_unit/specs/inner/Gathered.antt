@@ -72,7 +72,7 @@ pub record Gathered : Type 0 where
 abbrev pub someGathered : Gathered → Outcome Gathered
 someGathered g = if eqb (length (g .units) + length (g .kept)) 0 then refuse 19 else accept g
 
--- Refusals: 23, 21, 4, then in byte order 1 and 5, 19
+-- the units of an access unit, gathered. Refusals: 23, 21, 4, then in byte order 1 and 5, 19
 unfoldable pub gather : ℕ → Option ℕ → List ℕ → List ℕ → Outcome Gathered
 gather size target list item = lentInput item do
   units ← listUnits list

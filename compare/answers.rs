@@ -1,4 +1,4 @@
-//! The expected answer line of a case: the original's answer, and document 01's (`reading`) where the original has none.
+//! The expected answer line of a case: that of the original, or of the rules of docs/SCOPE.md (`reading`) where the original has none.
 
 use crate::case::{hex_onto, Case};
 use crate::reading::{self, Place, Refusal};
@@ -8,8 +8,8 @@ use original::hvcc::{split_annex_b, split_length_prefixed};
 use original::vvcc::{self, CompactVvcConfig, SpsHead, VvcConfig, VvcNalArray, VvcPtlRecord};
 use std::fmt::Write;
 
-/// What a case is expected to give: the refusal's number (0 for none), what stands behind it, the output's final bytes, and how
-/// long the result is where one was made.
+/// What is expected of a case: the refusal's number (0 for none), the text after it, the output's final bytes, and the length of the result if there
+/// is one.
 pub struct Answer {
     pub refusal: Refusal,
     pub fields: String,
@@ -17,7 +17,7 @@ pub struct Answer {
     pub result: Option<usize>,
 }
 
-/// The number that document 01 gives to an error of the original.
+/// The number of an error of the original (docs/SCOPE.md 6.2).
 fn number(e: &HeifError) -> Refusal {
     let HeifError::InvalidData(m) = e else {
         let HeifError::Unsupported(m) = e else {
@@ -53,7 +53,7 @@ fn number(e: &HeifError) -> Refusal {
         ("carries no NAL units", 19),
         ("item carries no", 19),
     ];
-    // 'VVC parameter set truncated' and 'truncated FIELD: need ..' are told apart by the words in front.
+    // 'VVC parameter set truncated' and 'truncated FIELD: need ..' are told apart by the words before.
     let found = if m.starts_with("VVC parameter set truncated") {
         Some(&("", 11))
     } else {
@@ -71,7 +71,7 @@ fn put_bytes(s: &mut String, b: &[u8]) {
     hex_onto(s, b);
 }
 
-/// A PTL as text; none is all zeros.
+/// A PTL as text; none is shown as zeros.
 fn put_ptl(s: &mut String, p: Option<&VvcPtlRecord>) {
     let none = VvcPtlRecord::default();
     let p = p.unwrap_or(&none);
@@ -98,7 +98,7 @@ fn put_ptl(s: &mut String, p: Option<&VvcPtlRecord>) {
     put_bytes(s, &subs);
 }
 
-/// A full record's head as text; none is all zeros.
+/// The head of a full record as text; none is shown as zeros.
 fn put_head(s: &mut String, h: Option<&VvcConfig>) {
     let Some(h) = h else {
         for _ in 0..7 {
@@ -123,7 +123,7 @@ fn put_head(s: &mut String, h: Option<&VvcConfig>) {
     put(s, h.avg_frame_rate.into());
 }
 
-/// An SPS head as text; none is all zeros.
+/// An SPS head as text; none is shown as zeros.
 fn put_sps(s: &mut String, h: Option<&SpsHead>) {
     let (numbers, ptl, size, window, depth) = match h {
         None => ([0; 5], None, (0, 0), None, 0),
@@ -205,7 +205,7 @@ fn with_list(c: &Case, at: usize) -> Result<(VvcConfig, [usize; 3]), Refusal> {
     Ok((head, counts))
 }
 
-/// A field of `boxes`: its number and the place behind it.
+/// A field of `boxes`: its number and the place after it.
 fn field(c: &Case) -> Result<String, Refusal> {
     let at = c.number(0, 8) as usize;
     let mut r = Reader::new(&c.first);
@@ -218,7 +218,7 @@ fn field(c: &Case) -> Result<String, Refusal> {
     Ok(format!(" {} {}", v.map_err(|e| number(&e))?, r.position()))
 }
 
-/// How many bytes a full record takes: the length of its shortest front that reads.
+/// How many bytes of a full record are consumed: the length of its shortest front that reads.
 fn consumed(s: &[u8]) -> usize {
     let (mut low, mut high) = (0, s.len());
     while low < high {
@@ -232,7 +232,7 @@ fn consumed(s: &[u8]) -> usize {
     low
 }
 
-/// The next unit of a stream from a place on, by the original's splitting of what lies from there on.
+/// The next unit of a stream from a place on, by the original's splitting of the bytes from there on.
 fn next_unit(s: &[u8], from: usize) -> String {
     let units = if from < s.len() {
         split_annex_b(&s[from..])
@@ -248,7 +248,7 @@ fn next_unit(s: &[u8], from: usize) -> String {
     }
 }
 
-/// The unit of an item at a place, by the original's splitting of as much of what lies from there on as the unit's length says.
+/// The unit of an item at a place, by the original's splitting of as many bytes from there on as the unit's length says.
 fn next_item_unit(s: &[u8], size: u8, from: usize) -> Result<String, Refusal> {
     let rest = s.get(from..).unwrap_or(&[]);
     let len = Reader::new(rest).uint(size.clamp(1, 4).into(), "length");
@@ -270,7 +270,7 @@ fn cropped(c: &Case) -> String {
     format!(" {w} {h}")
 }
 
-/// Where unit k lies: 1 or 2 for the first or the second input, start and length; 0 past the last.
+/// Where unit k lies: 1 or 2 for the first or the second input, start and length; 0 past the last unit.
 fn place(units: &[Place], k: u64) -> String {
     let given = units.get(k as usize);
     given.map_or(" 0".into(), |(which, start, len)| {
@@ -278,7 +278,7 @@ fn place(units: &[Place], k: u64) -> String {
     })
 }
 
-/// Unit k of a list, of all or of a type: where it lies. The bytes there are those that the original gives.
+/// Where unit k of a list lies, of all units or of those of a type. The bytes there are those that the original returns.
 fn list_place(h: &VvcConfig, s: &[u8], t: Option<u8>, k: u64) -> String {
     let wanted = |p: &(u8, Place)| t.map_or(true, |t| p.0 == t);
     let all: Vec<Place> = reading::list_places(s)
@@ -322,7 +322,7 @@ fn access_unit(c: &Case) -> Result<String, Refusal> {
     })
 }
 
-/// The PTL of a case's head with as many entries as its counts say.
+/// The PTL of a case's head, with as many entries as its counts say.
 fn counted_ptl(c: &Case) -> VvcPtlRecord {
     let (h, counts) = head_of(c, 0);
     let mut p = h.native_ptl.expect("a head of a case has a PTL");
@@ -424,7 +424,7 @@ fn plain(c: &Case) -> Result<String, Refusal> {
     })
 }
 
-/// The calls that write to lent memory: what stands behind the refusal's number, and the bytes.
+/// The calls that write to lent memory: the text after the refusal's number, and the bytes.
 fn writing(c: &Case) -> Result<(String, Vec<u8>), Refusal> {
     let s = &c.first[..];
     let said = |e: HeifError| number(&e);
@@ -481,7 +481,7 @@ fn writing(c: &Case) -> Result<(String, Vec<u8>), Refusal> {
     })
 }
 
-/// What stands behind a refusal's number: nothing, or a head of zeros.
+/// The text after a refusal's number: nothing, or a head of zeros.
 fn zeros(op: u8) -> String {
     let mut s = String::new();
     match op {

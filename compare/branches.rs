@@ -1,7 +1,7 @@
-//! Which way the branches of a compiled program go. `branches mark IN.ll OUT.ll NAMES` has the text of an LLVM module note each branch
-//! that it takes, `branches name NAMES TAKEN` says which a run has taken, and `branches report UNREACHED LIST FURTHER ..` holds what the first
-//! of several runs has not taken against a list with reasons. A branch is `FUNCTION NUMBER DIRECTION`: the function's branches are numbered in the order of its code, a direction is
-//! true, false or a match's case.
+//! Which way the branches of a compiled program go. `branches mark IN.ll OUT.ll NAMES` makes the text of an LLVM module note each branch that it
+//! takes, `branches name NAMES TAKEN` prints which ones a run has taken, and `branches report UNREACHED LIST FURTHER ..` compares what the first of
+//! several runs has not taken with a list of reasons. A branch is `FUNCTION NUMBER DIRECTION`: the branches of a function are numbered in the order
+//! of its code, and a direction is true, false or the case of a match.
 
 use std::collections::{BTreeMap, BTreeSet};
 use std::fs;
@@ -22,7 +22,7 @@ fn defined(line: &str) -> Option<String> {
     })
 }
 
-/// Whether a block does nothing but stop: a proved program never gets there.
+/// Whether a block does nothing but stop: a proved program never reaches it.
 fn stops(lines: &[&str], at: usize, label: &str) -> bool {
     let start = format!("{label}:");
     let block = lines[at..].iter().position(|l| l.starts_with(&start));
@@ -40,7 +40,7 @@ fn jump(line: &str) -> Option<(&str, &str, &str)> {
     Some((value, yes, no))
 }
 
-/// A switch: the type, the value and the label where no case holds.
+/// A switch: the type, the value and the label if no case matches.
 fn switch(line: &str) -> Option<(&str, &str, &str)> {
     let rest = line.trim_start().strip_prefix("switch ")?;
     let (kind, rest) = rest.split_once(' ')?;
@@ -59,10 +59,10 @@ fn cases(lines: &[&str]) -> Vec<u64> {
         .collect()
 }
 
-/// The number that stands for a switch's value where none of its cases holds.
+/// The number that represents a switch's value if none of its cases matches.
 const OTHER: u64 = 255;
 
-/// A direction of a branch: the value that takes it, and its name, none where it cannot be taken.
+/// A direction of a branch: the value that takes it, and its name; none if it cannot be taken.
 type Direction = (u64, Option<String>);
 
 /// The directions of the branch at a line, and the text of its value as a number of 64 bits.
@@ -109,7 +109,7 @@ fn mark(text: &str) -> (String, Vec<Branch>) {
     (out + "declare void @branch_taken(i32, i64)\n", branches)
 }
 
-/// The names of a module's directions, one line for each: the branch's number, the value and the name, without name where it cannot be taken.
+/// The names of a module's directions, one line for each: the branch's number, the value and the name, without a name if it cannot be taken.
 fn names(branches: &[Branch]) -> String {
     let mut out = String::new();
     for (n, b) in branches.iter().enumerate() {
@@ -135,7 +135,7 @@ fn named(line: &str) -> (u64, u64, &str) {
     (n, v, words.next().unwrap_or(""))
 }
 
-/// Says of each direction of a module whether a run has taken it.
+/// Prints for each direction of a module whether a run has taken it.
 fn name(names: &str, taken: &str) -> String {
     let mut values: BTreeMap<u64, BTreeSet<u64>> = BTreeMap::new();
     for line in taken.lines() {
@@ -154,7 +154,7 @@ fn name(names: &str, taken: &str) -> String {
     out
 }
 
-/// The directions of a file that `name` has made: all, and those taken.
+/// The directions in a file that `name` has made: all, and those taken.
 fn directions(path: &str) -> (BTreeSet<String>, BTreeSet<String>) {
     let text = read(path);
     let words = text.lines().map(|l| l.split_once(' ').unwrap());
@@ -163,7 +163,7 @@ fn directions(path: &str) -> (BTreeSet<String>, BTreeSet<String>) {
     (all.into_iter().map(|a| a.1).collect(), taken)
 }
 
-/// The reasons of a file such as `unreached`, by direction.
+/// The reasons in a file such as `unreached`, by direction.
 fn reasons(text: &str) -> BTreeMap<&str, &str> {
     text.lines()
         .filter(|l| !l.starts_with('#') && !l.is_empty())
@@ -171,7 +171,7 @@ fn reasons(text: &str) -> BTreeMap<&str, &str> {
         .collect()
 }
 
-/// Holds what was not taken against the list of what no recorded case takes, with its reasons; false where the two differ.
+/// Compares what was not taken with the list of reasons; false if the two differ.
 fn report(unreached: &str, list: &str, further: &[String]) -> bool {
     let text = read(unreached);
     let reasons = reasons(&text);
@@ -209,7 +209,7 @@ fn report(unreached: &str, list: &str, further: &[String]) -> bool {
     faults.is_empty()
 }
 
-/// How many branches some directions belong to.
+/// How many branches these directions belong to.
 fn branches(all: &BTreeSet<String>) -> usize {
     let names: BTreeSet<(&str, &str)> = all
         .iter()

@@ -11,7 +11,7 @@ pub struct Case {
     pub second: Vec<u8>,
 }
 
-/// How many bytes stand in front of a case's numbers.
+/// How many bytes come before a case's numbers.
 const FRONT: usize = 18;
 
 /// The names of the calls by their numbers, from 1 on.
@@ -91,7 +91,7 @@ impl Case {
         FRONT + self.numbers.len() + self.first.len() + self.second.len()
     }
 
-    /// What stands in front of the inputs: the call, the fill byte, the four lengths and the numbers.
+    /// What comes before the inputs: the call, the fill byte, the four lengths and the numbers.
     pub fn front(&self) -> Vec<u8> {
         let mut bytes = vec![self.op, self.fill];
         for n in [
@@ -117,7 +117,7 @@ impl Case {
         out
     }
 
-    /// The case of a line; none where its lengths do not add up.
+    /// The case of a line; none if its lengths do not add up.
     pub fn of_line(line: &str) -> Option<Case> {
         let digits = line.get(9..)?.trim_end();
         let bytes: Vec<u8> = (0..digits.len() / 2)

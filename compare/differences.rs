@@ -1,4 +1,4 @@
-//! The intended differences, each on its smallest input: what the original does, run here, and the answer line of `replay`.
+//! The intended differences, each on its smallest input: the result of the original, run here, and the answer line of `replay`.
 
 use crate::answers::{answer, head_of, line};
 use crate::case::{hex_onto, Case};
@@ -29,7 +29,7 @@ fn head(ptl: bool, changed: &[(usize, u8)]) -> Vec<u8> {
     h
 }
 
-/// The full writer's case and what the original writes, with what its own reader makes of that.
+/// The full writer's case and what the original writes, with what its own reader makes of it.
 fn written(numbers: Vec<u8>, arrays: &[VvcNalArray]) -> (Case, String) {
     let mut c = Case::new(33, numbers, list_bytes(arrays));
     c.room = 8;
@@ -172,7 +172,7 @@ fn of_the_standards() -> Vec<(&'static str, Case, String)> {
     au.room = 30;
     let list = vec![
         ("reserved bits of a full record", bytes(32, &[], &[0, 0])),
-        ("bytes behind a full record", bytes(32, &[], &[0xf8, 0, 0x55])),
+        ("bytes after a full record", bytes(32, &[], &[0xf8, 0, 0x55])),
         ("an array type outside 12 to 17 and 23", bytes(32, &[], &[0xf8, 1, 0x80, 0, 0])),
         ("a unit of length 0 in a full record", bytes(32, &[], &[0xf8, 1, 0x8f, 0, 1, 0, 0])),
         ("a unit of length 0 and prefix size 3 in a compact record", bytes(28, &[], &[0x40, 0, 0])),

@@ -7,10 +7,10 @@ use crate::rng::Rng;
 use crate::shapes;
 use original::vvcc::VvcNalArray;
 
-/// Where cases go.
+/// Where cases are sent.
 pub type Emit<'a> = &'a mut dyn FnMut(Case);
 
-/// The length of the result of a case, where it has one.
+/// The length of the result of a case, if it has one.
 fn result_of(c: &Case) -> Option<usize> {
     answers::answer(c).result
 }
@@ -31,7 +31,7 @@ fn with_room(r: &mut Rng, mut c: Case) -> Case {
     c
 }
 
-/// The same without chance, by a running number.
+/// The same without random numbers, by a running number.
 pub fn with_room_by(i: usize, mut c: Case) -> Case {
     c.fill = (i * 7 + 1) as u8;
     let n = result_of(&c).unwrap_or(0);
@@ -51,7 +51,7 @@ pub fn size_and_k(size: u8, k: u64) -> Vec<u8> {
     [vec![size], eight(k)].concat()
 }
 
-/// Runs over every string of letters of an alphabet up to a length.
+/// Runs over every string over an alphabet up to a length.
 fn strings(alphabet: &[u8], longest: usize, f: &mut dyn FnMut(&[u8])) {
     let mut digits: Vec<usize> = Vec::new();
     loop {
@@ -76,7 +76,7 @@ fn strings(alphabet: &[u8], longest: usize, f: &mut dyn FnMut(&[u8])) {
     }
 }
 
-/// Every call that reads bytes, on every string up to `longest` bytes; parameter sets also behind their headers.
+/// Every call that reads bytes, on every string up to `longest` bytes; parameter sets also after their headers.
 pub fn short_strings(longest: usize, emit: Emit) {
     let all: Vec<u8> = (0..=255).collect();
     let plain: Vec<(u8, Vec<u8>)> = vec![
@@ -219,7 +219,7 @@ pub fn numbers(emit: Emit) {
     }
 }
 
-/// The bytes of document 01's examples.
+/// The worked bytes of docs/SCOPE.md 7.
 pub fn worked(emit: Emit) {
     let p = [0, 0x79, 0, 0x0d, 2, 0x33, 0x80, 0, 2, 0x22, 0x4c];
     let q = [0, 0x81, 0x80];
@@ -339,7 +339,7 @@ pub fn large(emit: Emit) {
     }
 }
 
-/// Every front of sound inputs: a field cut off at each place, and the whole.
+/// Every front of sound inputs: cut off at each place, and whole.
 pub fn fronts(r: &mut Rng, count: usize, emit: Emit) {
     let mut whole: Vec<(u8, Vec<u8>, Vec<u8>)> = Vec::new();
     for _ in 0..count {
@@ -380,7 +380,7 @@ fn size(r: &mut Rng) -> u8 {
     }
 }
 
-/// A full record's head as the bytes of a case, each field within its place most of the time.
+/// A full record's head as the bytes of a case; most of the time each value fits its field.
 fn head(r: &mut Rng) -> Vec<u8> {
     let wrong = if r.one_in(5) { r.below(12) } else { 99 };
     let low = |r: &mut Rng, n: usize, i: usize| -> usize {

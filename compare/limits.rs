@@ -1,4 +1,4 @@
-//! Short cases at each limit: the largest value that is taken and the next one.
+//! Short cases at each limit: the largest value that is accepted and the next one.
 
 use crate::case::Case;
 use crate::generator::{size_and_k, with_room_by, Emit};
@@ -8,12 +8,12 @@ use original::vvcc::VvcNalArray;
 /// The calls of a list: number, numbers, first and second input.
 type Calls = Vec<(u8, Vec<u8>, Vec<u8>, Vec<u8>)>;
 
-/// Document 01's P.
+/// P of docs/SCOPE.md 7.
 pub fn sps() -> Vec<u8> {
     vec![0, 0x79, 0, 0x0d, 2, 0x33, 0x80, 0, 2, 0x22, 0x4c]
 }
 
-/// Document 01's Q.
+/// Q of docs/SCOPE.md 7.
 pub fn pps() -> Vec<u8> {
     vec![0, 0x81, 0x80]
 }
@@ -66,7 +66,7 @@ fn sizes(calls: &mut Calls) {
     }
 }
 
-/// An SPS that is refused with 11, 13, 12 and 14, wherever one is read.
+/// SPS units that are refused with 11, 13, 12 and 14, wherever an SPS is read.
 fn refused_sps(calls: &mut Calls) {
     let q = pps();
     let refused: [&[u8]; 4] = [
@@ -89,14 +89,14 @@ fn refused_sps(calls: &mut Calls) {
     }
 }
 
-/// Sample format and expansion: which SPS and which VPS count, types that are absent, equal or 31, dimensions and depths.
+/// Sample format and expansion: which SPS and VPS are used, types that are absent, equal or 31, dimensions and depths.
 fn expansion(calls: &mut Calls) {
     let p = sps();
     let q = pps();
     let vps = vec![0, 0x71, 0, 0, 0x1f, 2, 0x33, 0x1f, 0];
     let layered = vec![0, 0x71, 0, 0x40, 0x1f, 2, 0x33, 0x1f, 0];
     let bare = vec![0, 0x79, 0, 0, 0x32];
-    // a second SPS and a second VPS, which say something else
+    // a second SPS and a second VPS with other values
     let other = vec![0, 0x79, 0, 0x17, 4, 0x40, 0x40, 0, 2, 0x22, 0x4c];
     let other_vps = vec![0, 0x71, 0x10, 0, 0, 0x82, 0x53, 0, 0];
     for units in [[&p, &bare], [&bare, &p], [&other, &p], [&q, &p]] {
@@ -224,7 +224,8 @@ fn windows(calls: &mut Calls) {
     }
 }
 
-/// Assembly: OPI units that meet and miss the target, in front of the list's units and behind, with and without PTL flag and target.
+/// Assembly: OPI units with the target's operating point and with another, before the list's units and after them, with and without PTL flag and
+/// target.
 fn access_units(calls: &mut Calls) {
     let p = sps();
     let opi = |v: u8| vec![4, 0, 0x61, 0x80 | [0x20, 0x10, 0x18][v as usize], 0x80];
@@ -268,7 +269,7 @@ fn access_units(calls: &mut Calls) {
     }
 }
 
-/// Streams: codes at the very front and end, units of zeros alone, zeros in front of a code and behind.
+/// Streams: start codes at the front and at the end, units of zeros alone, zeros before and after a start code.
 fn streams(calls: &mut Calls) {
     let streams: [&[u8]; 10] = [
         &[0, 0, 1],
@@ -293,7 +294,7 @@ fn streams(calls: &mut Calls) {
     }
 }
 
-/// Header parts and the unit check of units of up to three bytes; arrays' types; full records that end where an array would begin.
+/// Header fields and the unit check for units of up to three bytes; types of arrays; full records that end where an array would begin.
 fn ends(calls: &mut Calls) {
     for n in 0..=3 {
         for op in 6..=9 {
@@ -306,7 +307,7 @@ fn ends(calls: &mut Calls) {
             calls.push((op, vec![0, 4], list, vec![]));
         }
     }
-    // arrays too short, of type 31 and of 32; a full writer's array that does not fit, and another behind it
+    // arrays too short, of type 31 and of 32; an array that the full writer refuses, and another after it
     let arrays: [&[u8]; 4] = [&[0], &[1, 0], &[2, 1, 31], &[2, 1, 32]];
     for array in arrays {
         let list = [&[1, 0, 0, 0], array].concat();
@@ -321,7 +322,7 @@ fn ends(calls: &mut Calls) {
         list_bytes(&two),
         vec![],
     ));
-    // items of one unit that is a still, and that is too short or has another layer, temporal id or type, of each kind
+    // items of one unit that is a still, and that is too short or has another layer, temporal id or type
     let units: [&[u8]; 8] = [
         &[0],
         &[0, 0x41],
@@ -340,7 +341,7 @@ fn ends(calls: &mut Calls) {
     calls.push((32, vec![], vec![0xfe, 2, 0x8c, 0, 1, 5], vec![]));
 }
 
-/// All of them, the output as long as the result or somewhat longer.
+/// All of them, with an output as long as the result or longer.
 pub fn limits(emit: Emit) {
     let mut calls = Calls::new();
     let parts: [fn(&mut Calls); 10] = [

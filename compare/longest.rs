@@ -1,5 +1,5 @@
-//! Cases with an input of 2^30 bytes and of one more (refusal 23). A program in Rattle has no memory but its stack, so `replay` cannot
-//! hold them; the library `replay_calls`, whose function answers for `replay`, is called with memory of this program instead.
+//! Cases with an input of 2^30 bytes and of one more (refusal 23). A program in Rattle has no memory but its stack, so `replay` cannot hold them; the
+//! library `replay_calls`, whose function answers for `replay`, is called with memory of this program instead.
 
 use crate::answers;
 use crate::case::Case;
@@ -49,7 +49,7 @@ pub fn answer_of(c: &Case) -> String {
 /// How many bytes at the front of an input may be other than zero.
 const SET: usize = 64;
 
-/// An input of some length with given bytes in front.
+/// An input of some length with given bytes at its front.
 fn long(front: &[u8], len: usize) -> Vec<u8> {
     assert!(front.len() <= SET);
     let mut s = vec![0; len];
@@ -57,7 +57,7 @@ fn long(front: &[u8], len: usize) -> Vec<u8> {
     s
 }
 
-/// What stands in front of a long input: nothing, and what a sound one begins with.
+/// The fronts of long inputs: nothing, and the beginning of a sound one.
 fn fronts(op: u8) -> Vec<Vec<u8>> {
     let sound = match op {
         6..=9 | 19 => sps(),
@@ -122,7 +122,7 @@ fn too_long(emit: &mut dyn FnMut(Case)) {
     }
 }
 
-/// The same calls with an input of exactly 2^30 bytes, which is not too long. What it is otherwise, the original says.
+/// The same calls with an input of exactly 2^30 bytes, which is not too long. Other refusals are those of the original.
 fn largest(emit: &mut dyn FnMut(Case)) {
     for op in calls() {
         for front in fronts(op) {

@@ -1,5 +1,6 @@
-//! Holds `replay` against the original: `compare REPLAY SEED CASES [WRONG]`, where the expected answer of case number WRONG is made wrong.
-//! Answers cases from standard input as is expected of `replay`: `compare answers`. Prints the intended differences: `compare differences REPLAY`. Only the longest inputs: `compare longest`. Writes the recorded list: `compare record FOLDER SEED`.
+//! Compares `replay` with the original: `compare REPLAY SEED CASES [WRONG]`, where the expected answer of case number WRONG is made wrong.
+//! Answers cases from standard input as is expected of `replay`: `compare answers`. Prints the intended differences: `compare differences REPLAY`.
+//! Only the longest inputs: `compare longest`. Writes the recorded list: `compare record FOLDER SEED`.
 
 mod answers;
 mod case;
@@ -23,16 +24,16 @@ use std::sync::mpsc::{sync_channel, Receiver};
 /// The bytes that `replay` has for a case, and for an output.
 const LONGEST: usize = 524_288;
 
-/// The bytes of a case and its output for whose digits `replay` has room.
+/// The bytes of a case and its output together for whose digits `replay` has room.
 const TOGETHER: usize = 600_000;
 
 /// A case's line, its expected answer, its call and its refusal.
 type Expected = (String, String, u8, u32);
 
-/// How often a call gave a refusal's number, by both.
+/// How often both returned a refusal's number, for each call.
 type Table = BTreeMap<(u8, u32), u64>;
 
-/// Every case of a run: the whole lists first, then as many of any shape as are asked for.
+/// Every case of a run: the fixed lists first, then as many of any shape as are asked for.
 fn all_cases(seed: u64, count: usize, emit: generator::Emit) {
     generator::worked(emit);
     generator::numbers(emit);
@@ -57,7 +58,7 @@ fn expected(c: &Case) -> Expected {
     )
 }
 
-/// Reads the answers of `replay` and compares each with the expected one; how many there were and how many differ.
+/// Reads the answers of `replay` and compares each with the expected one; returns how many there were and how many differ.
 fn compare(answers: impl BufRead, cases: Receiver<Vec<Expected>>, table: &mut Table) -> (u64, u64) {
     let (mut n, mut differ) = (0, 0);
     let mut lines = answers;
@@ -88,7 +89,7 @@ fn compare(answers: impl BufRead, cases: Receiver<Vec<Expected>>, table: &mut Ta
         > 0
     {
         differ += 1;
-        println!("replay says more than it was asked");
+        println!("replay writes more lines than there are cases");
     }
     (n, differ)
 }
@@ -105,7 +106,7 @@ fn print(table: &Table) {
     }
 }
 
-/// The cases that no program can hold, put to the library; counts and table go on.
+/// The cases that no program can hold, sent to the library; they are added to the counts and the table.
 #[cfg(not(counted))]
 fn longest_inputs(n: &mut u64, differ: &mut u64, table: &mut Table) {
     longest::each(&mut |c, refusal, want, got| {

@@ -1,5 +1,5 @@
-//! What the original does not have, read off document 01: the unit list, the unit check, the kinds of units, the full writer's
-//! limits, where units lie, the units of an access unit one by one.
+//! What the original does not have, from the rules of docs/SCOPE.md: the unit list (2), the unit check (4.6), the kinds of units (3.3), the limits of
+//! full write (3.9), where units lie, and the units of an access unit one by one (3.12).
 
 use original::hvcc::split_length_prefixed;
 use original::vvcc::{self, VvcConfig, VvcNalArray};
@@ -10,7 +10,7 @@ pub type Refusal = u32;
 /// The largest input that a call takes (refusal 23).
 pub const LARGEST: usize = 1 << 30;
 
-/// What a call answers where an input is too long, before anything else: 23, or an empty part where a part is all that it hands back.
+/// What a call returns if an input is too long, before anything else: 23, or the empty part if a part is all that it returns.
 pub fn too_long(op: u8) -> Result<String, Refusal> {
     match op {
         15 | 17 | 24 | 26 | 38 | 46 => Ok(" =".into()),
@@ -107,8 +107,7 @@ pub fn unit_kind(t: u8) -> String {
     }
 }
 
-/// The full writer's own refusals, 3 and 22, of a head and arrays; `counts` are the head's counts of constraint bytes, levels
-/// and sub-profiles.
+/// The refusals 3 and 22 of full write for a head and arrays; `counts` are the head's counts of constraint bytes, levels and sub-profiles.
 pub fn full_writer(h: &VvcConfig, counts: [usize; 3]) -> Result<(), Refusal> {
     if h.length_size == 3 {
         return Err(3);
@@ -136,8 +135,8 @@ pub fn full_writer(h: &VvcConfig, counts: [usize; 3]) -> Result<(), Refusal> {
     Ok(())
 }
 
-/// Where the units of an access unit that is accepted lie: leading AUD and OPI units of the item, the list's, the rest of the item's; an OPI
-/// of the item is dropped where a target exists and its operating point reads and differs.
+/// Where the units of an accepted access unit lie: leading AUD and OPI units of the item, units of the list, remaining units of the item. An OPI unit
+/// of the item is dropped if there is a target and its operating point reads and differs.
 pub fn access_unit(h: &VvcConfig, list: &[u8], item: &[u8], tols: Option<u16>) -> Vec<Place> {
     let target = match tols {
         Some(t) => Some(u32::from(t)),

@@ -1,5 +1,5 @@
-//! The recorded list of the gate: some thousands of short cases with the expected answers. A case is taken where it reaches a region of
-//! the original that no earlier case reached, or is one of the first of its kind: its call, refusal and room.
+//! The recorded list of `replay`: some thousands of short cases with the expected answers. A case is taken if it reaches a region of the original
+//! that no earlier case reached, or is one of the first of its kind: its call, refusal and room.
 
 use crate::answers;
 use crate::case::Case;
@@ -51,7 +51,7 @@ struct List {
     reached: Vec<bool>,
 }
 
-/// The room of a case against its result: none, too short, exact, longer; and no result nor unit.
+/// The room of a case compared with its result: none, too short, exact, longer; and no result nor unit.
 fn room(c: &Case, a: &answers::Answer) -> usize {
     match a.result {
         None if a.fields == " 0" => 4,
@@ -69,7 +69,7 @@ impl List {
         self.cases += 1;
     }
 
-    /// Takes a case where it is new in its kind or reaches something.
+    /// Takes a case if it is new in its kind or reaches a new region.
     fn offer(&mut self, c: Case, of_a_kind: usize) {
         let a = answers::answer(&c);
         let now = counters::all();
@@ -145,7 +145,8 @@ pub fn write(folder: &str, seed: u64) -> bool {
 }
 
 impl List {
-    /// The program's own answers: lengths that do not add up, an output or a case beyond its memory, a call that there is not, digits that are none.
+    /// The program's own answers: lengths that do not add up, an output or a case too long for its memory, an unknown call, characters that are not
+    /// digits.
     fn program_lines(&mut self) {
         let long = Case {
             op: 18,
@@ -162,7 +163,7 @@ impl List {
             room: 2,
             ..Case::default()
         };
-        // three bytes whose digits are none, which count as 0
+        // three bytes whose characters are not digits, which count as 0
         let unit = Case::new(6, vec![], vec![0; 3]).line();
         let odd = unit.replace("000000\n", "/:`gA~\n");
         let beyond = format!("{:08x} {}\n", 602_048, "00".repeat(602_048));
@@ -181,7 +182,7 @@ impl List {
         }
     }
 
-    /// What only a long case reaches: a unit and a count beyond 16 bits, and a copy of more than one block.
+    /// What only a long case reaches: a unit and a count above 16 bits, and a copy of more than one block.
     fn long_cases(&mut self) {
         let head = [vec![4], vec![0; 24]].concat();
         let many = VvcNalArray::new(false, 16, vec![Vec::new(); 65536]);

@@ -154,7 +154,7 @@ pub fn sps(r: &mut Rng) -> Vec<u8> {
     if resampling {
         b.random(r, 1);
     }
-    // one of the values may have 32 zeros in front (refusal 12)
+    // one of the values may have 32 zeros before it (refusal 12)
     let bad = if r.one_in(12) { r.below(7) } else { 7 };
     let put = |b: &mut Bits, i: usize, v: u64| {
         if i == bad {
@@ -348,7 +348,7 @@ pub fn still_units(r: &mut Rng) -> Vec<Vec<u8>> {
     out
 }
 
-/// A changed copy: cut, a byte changed, put in or taken out, or bytes behind.
+/// A changed copy: cut, a byte changed, inserted or removed, or bytes added at the end.
 pub fn damaged(r: &mut Rng, mut s: Vec<u8>) -> Vec<u8> {
     if s.is_empty() {
         let n = r.below(4);
@@ -440,7 +440,7 @@ pub fn list(r: &mut Rng) -> Vec<u8> {
     maybe_damaged(r, s, 8)
 }
 
-/// A unit list as compact read gives it.
+/// A unit list as compact read returns it.
 pub fn still_list(r: &mut Rng) -> Vec<u8> {
     let u = still_units(r);
     let s = list_bytes(&[VvcNalArray::new(false, 0, u)]);

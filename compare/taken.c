@@ -1,4 +1,4 @@
-/* Notes which way the branches of a marked program go, and writes it at the end of the run to the file that TAKEN names: a line 'NUMBER VALUE' for each. */
+/* Notes which way the branches of a marked program go, and writes it at the end of the run to the file that TAKEN names: 'NUMBER VALUE' lines. */
 #include <stdint.h>
 #include <stdio.h>
 #include <stdlib.h>

@@ -1,4 +1,4 @@
-//! The library measured beside the original: every row runs both on the same bytes, in turn, and prints the medians of their times.
+//! The library measured together with the original: every row runs both on the same bytes, in turn, and prints the medians of their times.
 use original::hvcc::{split_annex_b, split_length_prefixed};
 use original::vvcc::{access_unit_annex_b, CompactVvcConfig, VvcConfig};
 use std::hint::black_box;
@@ -48,7 +48,7 @@ extern "C" {
     fn vvcc_next_item_unit(item: *const u8, len: usize, length_size: u8, from: usize) -> Unit;
 }
 
-/// The stream of a record and an item, in the memory that is given.
+/// The stream of a record and an item, in the given memory.
 fn access_unit(
     record: &[u8],
     item: &[u8],
@@ -92,7 +92,7 @@ fn still_stream(compact: &[u8], stored: &[u8], out: &mut [u8]) -> usize {
     w.len
 }
 
-/// The units of a stream or an item in a `Vec`, as the original hands them out; `next` is one step.
+/// The units of a stream or an item in a `Vec`, as the original returns them; `next` is one step.
 fn units_of<'a>(s: &'a [u8], next: impl Fn(usize) -> Unit) -> Vec<&'a [u8]> {
     let mut units = Vec::new();
     let mut at = 0;
@@ -126,7 +126,7 @@ fn original_stream(compact: &[u8], stored: &[u8]) -> Vec<u8> {
     access_unit_annex_b(&full, &c.item_data(stored).unwrap(), None).unwrap()
 }
 
-/// Numbers that look like picture data: no start code and no zero at a unit's end, and the same in every run.
+/// Numbers that look like picture data: no start code, no zero at a unit's end, and the same in every run.
 struct Bytes(u64);
 
 impl Bytes {
@@ -151,7 +151,7 @@ impl Bytes {
     }
 }
 
-/// An item of units behind prefixes of `size` bytes.
+/// An item of units after prefixes of `size` bytes.
 fn item_of(units: usize, unit_len: usize, size: usize) -> Vec<u8> {
     let mut bytes = Bytes(units as u64);
     let mut item = Vec::new();
@@ -163,7 +163,7 @@ fn item_of(units: usize, unit_len: usize, size: usize) -> Vec<u8> {
     item
 }
 
-/// A full record without PTL, of three parameter sets: VPS, SPS, PPS.
+/// A full record without PTL, with three parameter sets: VPS, SPS, PPS.
 fn record_of(size: u8) -> Vec<u8> {
     let mut bytes = Bytes(7);
     let mut r = vec![0xF8 | (size - 1) << 1, 3];
@@ -180,8 +180,8 @@ fn record_of(size: u8) -> Vec<u8> {
     r
 }
 
-/// Nanoseconds of one call, where `times` calls are made between the two readings of the clock. One call before them is not timed, so that
-/// each side finds the memory as its own last call left it.
+/// Nanoseconds of one call, where `times` calls are made between the two readings of the clock. One call before them is not timed, so that each side
+/// finds the memory as its own last call left it.
 fn clock(times: usize, mut call: impl FnMut()) -> f64 {
     call();
     let t = Instant::now();
@@ -219,7 +219,7 @@ impl Table {
         name.contains(&self.word)
     }
 
-    /// One row: the library, the original and a plain copy of `bytes` bytes, one after another in every round, the first two in turn
+    /// One row: the library, the original and a plain copy of `bytes` bytes, one after another in every round; the first two take turns in being
     /// first.
     fn row(
         &self,

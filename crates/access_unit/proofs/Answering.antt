@@ -1,4 +1,4 @@
--- The answers of the calls, from the access unit that was measured: its count, its stream and how long that is.
+-- The answers of the calls, from an access unit that was measured: its count, its stream and the stream's length.
 use Prim.Native.Nat.{ℕ, _+_, _*_}
 use mathlib.Core.Path.{_≡_, sym, ap, _∙_}
 use mathlib.Core.List.{List}
@@ -38,7 +38,7 @@ module _ (h : VvcConfig) (list item : List ℕ) (tols target : Option ℕ) (is :
   pub assemble-unknown : (n : ℕ) → gather (h .«length_size») target list item ≡ refuse n → assemble h list item tols ≡ refuse n
   assemble-unknown n e = assembled ∙ rw e
 
-  -- its bytes, and how many they are
+  -- its bytes and its length
   pub record Assembled (v : Sizes) : Type 0 where
     pub bytes : List ℕ
     pub found : gatheredBytes list item (gather (h .«length_size») target list item) ≡ bytes
@@ -54,7 +54,7 @@ module _ (h : VvcConfig) (list item : List ℕ) (tols target : Option ℕ) (is :
         long = ap (λ (w : Sizes). 4 * (w .listed + w .kept) + w .lengths) (n .sized) ∙ sym (stream-size list item (n .parts));
       }
 
-  -- how long it is
+  -- the stream's length
   pub length-known : (v : Sizes) → Known (h .«length_size») target list item v → (n : ℕ) → n ≡ 4 * (v .listed + v .kept) + v .lengths → accept n ≡ countFound (assemble h list item tols)
   length-known v k n e = let m = assemble-known v k in ap accept (e ∙ m .long) ∙ ap countFound (sym (m .given))
 

@@ -1,4 +1,4 @@
--- Laws of the units that are gathered: from the sums of list and item, in their order, and how small the sums are.
+-- Laws of the units that are gathered: from the sums over list and item, in their order, and bounds of the sums.
 use Prim.Native.Nat.{ℕ, suc, _+_, _^_, _≤_, _<_}
 use mathlib.Core.Path.{_≡_, refl, sym, ap, _∙_}
 use mathlib.Core.Bool.{Bool, true, false}
@@ -28,7 +28,7 @@ use Rattle.access_unit.specs.declared.sizes.Sizes.{Sizes}
 use Rattle.split.specs.inner.Walk.{itemUnitsFrom}
 use Rattle.boxes.specs.Bytes.{outside}
 
--- ### how small the sums are
+-- ### bounds of the sums
 
 lengths-le : (s : List ℕ) (us : List Span) → lengths (map (held s) us) ≤ H.lengths us
 unfolding lengths
@@ -73,7 +73,7 @@ item-few size target item split e =
 
 -- ### measured
 
--- the item's units, kept and summed, beside the list's
+-- the units of the item, kept and summed, with those of the list
 module _ (size : ℕ) (target : Option ℕ) (item : List ℕ) (v : UnitSum) (lent : length item ≤ 2 ^ 30) where
   pub sizes-outside : outside size ≡ true → refuse 4 ≡ sizesWith size target item v
   sizes-outside h = sym (rw (split-lent size item lent ∙ items-outside size item h))
@@ -122,7 +122,7 @@ module _ (size : ℕ) (target : Option ℕ) (list item : List ℕ) (lent : lengt
       go (accept us) e = absurd (let z : _≡_ {A = ℕ} 0 1 = cc in omega arith)
       go (refuse m) e = let z : m ≡ n = cc in ap refuse z
 
-  -- a list that was summed: its units, and what comes of the item beside them
+  -- a list that was summed: its units, and what follows for the item
   pub record Listed (v : UnitSum) : Type 0 where
     pub few : v .count + v .lengths ≤ 2 ^ 30
     pub whole : sizesWith size target item v ≡ andThen (gather size target list item) (λ g. accept (sizesOf list item g))
@@ -201,7 +201,7 @@ module _ (size : ℕ) (target : Option ℕ) (list item : List ℕ) (g : Gathered
       go h (accept us) l (refuse n) s f = absurd (let z : _≡_ {A = ℕ} 0 1 = cc in omega arith)
       go h (accept us) l (accept split) s f = gathered-from us split h l s f
 
--- an access unit that was measured: what it is made of
+-- an access unit that was measured: its units
 pub record Known (size : ℕ) (target : Option ℕ) (list item : List ℕ) (v : Sizes) : Type 0 where
   pub parts : Gathered
   pub found : gather size target list item ≡ accept parts

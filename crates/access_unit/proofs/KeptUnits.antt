@@ -1,4 +1,4 @@
--- Laws of the kept units of an item: what leads among them, and the walk over them.
+-- Laws of the kept units of an item: which of them lead, and the walk over them.
 use Prim.Native.Nat.{ℕ}
 use mathlib.Core.Path.{_≡_, refl, sym, ap, _∙_}
 use mathlib.Core.Bool.{Bool, true, false, _||_}
@@ -19,7 +19,7 @@ use Rattle.access_unit.specs.inner.Gathered.{keptLeft}
 use Rattle.split.specs.inner.Walk.{itemUnitsFrom}
 use Rattle.parse.specs.inner.Walk.{more}
 
--- a unit that is dropped is an OPI, which may lead
+-- a dropped unit is an OPI unit, so it may lead
 either : (b c d : Bool) → (if b then c else true) ≡ false → (d || b) ≡ true
 either true c true e = refl
 either true c false e = refl
@@ -30,7 +30,7 @@ unfolding keeps mayLead
 dropped-leads target u e = either (isOpi u) (agrees target (opiOlsIdx u)) (isAud (kindOf u)) e
 
 module _ (item : List ℕ) where
-  -- what leads and what follows make the whole
+  -- the leading and the remaining units are all units
   pub leads-and-follows : (xs : List Span) → leading item xs ++ following item xs ≡ xs
   unfolding leading following
   leads-and-follows [] = refl
@@ -95,7 +95,7 @@ module _ (size : ℕ) (target : Option ℕ) (item : List ℕ) where
     pub over-dropped : keeps target (held item a) ≡ false → keptLeft size target item p ≡ keptLeft size target item q
     over-dropped e = over false e
 
-  -- where nothing is left, or a refusal, so it is of the kept units
+  -- where no unit is left, or the item is refused, the same holds for the kept units
   pub over-end : (p : ℕ) → itemUnitsFrom size item p ≡ accept [] → keptLeft size target item p ≡ accept []
   unfolding keptLeft kept
   over-end p e = rw e
@@ -104,7 +104,7 @@ module _ (size : ℕ) (target : Option ℕ) (item : List ℕ) where
   unfolding keptLeft kept
   over-refused p n e = rw e
 
-  -- no unit is left, so no kept one is
+  -- no unit is left, so no kept unit is
   pub over-nothing : (p : ℕ) → total (itemUnitsFrom size item p) ≡ 0 → total (keptLeft size target item p) ≡ 0
   unfolding keptLeft kept
   over-nothing p e = go (itemUnitsFrom size item p) e

@@ -1,4 +1,4 @@
--- An item of one unit that is neither AUD nor OPI: the access unit is the list's units and that one, and so is the stream.
+-- For an item of one unit that is neither AUD nor OPI, the access unit and its stream are the units of the list and that unit.
 use Prim.Native.Nat.{ℕ}
 use mathlib.Core.Path.{_≡_, refl, ap}
 use mathlib.Core.Bool.{true, false}

@@ -1,4 +1,4 @@
--- Laws of the access unit's order: its definition by what was gathered, and its stream in three parts.
+-- Laws of the order of an access unit: its definition from what was gathered, and its stream in three parts.
 use Prim.Native.Nat.{ℕ, _+_, _*_, _^_}
 use mathlib.Core.Path.{_≡_, refl, sym, ap, _∙_}
 use mathlib.Core.Bool.{Bool, true, false}
@@ -97,7 +97,7 @@ module _ (list item : List ℕ) where
   held-item (a ∷ us) = ap (λ (l : List (List ℕ)). held item a ∷ l) (held-item us)
 
   module _ (g : Gathered) where
-    -- those that lead, the list's, those that follow
+    -- the leading units, the list's units, the remaining units
     pub stream-parts : gatheredBytes list item (accept g) ≡ bytesAt item (leading item (g .kept)) ++ (bytesAt list (g .units) ++ bytesAt item (following item (g .kept)))
     unfolding inOrder
     stream-parts =
@@ -111,7 +111,7 @@ module _ (list item : List ℕ) where
           stream-append (map (held list) (g .units)) (map (held item) (following item (g .kept))),
         )
 
-    -- the stream's length is 4 times the units plus their lengths
+    -- the stream's length is 4 times the number of units plus the sum of their lengths
     pub stream-size : length (gatheredBytes list item (accept g))
         ≡ 4 * (length (g .units) + length (g .kept)) + (lengths (map (held list) (g .units)) + lengths (map (held item) (g .kept)))
     stream-size =

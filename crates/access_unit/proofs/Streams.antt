@@ -8,7 +8,7 @@ use Rattle.split.specs.Stream.{annexB}
 use Rattle.access_unit.specs.AccessUnit.{startCode}
 use Rattle.access_unit.specs.inner.Gathered.{lengths}
 
--- the stream's length is 4 times the units plus their lengths
+-- the stream's length is 4 times the number of units plus the sum of their lengths
 pub stream-length : (us : List (List ℕ)) → length (annexB startCode us) ≡ 4 * length us + lengths us
 unfolding annexB lengths
 stream-length [] = refl

@@ -1,4 +1,4 @@
--- Laws of the sums of a walk: one unit more, and how small they are.
+-- Laws of the sums of a walk: one unit added, and bounds of the sums.
 use Prim.Native.Nat.{ℕ, suc, _+_, _^_, _≤_, _<_}
 use mathlib.Core.Path.{_≡_, refl, sym, ap, _∙_}
 use mathlib.Core.Bool.{Bool, true, false, _&&_}
@@ -22,7 +22,7 @@ use Rattle.access_unit.proofs.KeptUnits.{over-kept, over-dropped}
 use Rattle.access_unit.specs.declared.sizes.UnitSum.{UnitSum}
 use Rattle.parse.specs.inner.Walk.{more}
 
--- ### one unit more
+-- ### one unit added
 
 pub lengths-append : (us vs : List (List ℕ)) → lengths (us ++ vs) ≡ lengths us + lengths vs
 unfolding lengths
@@ -41,7 +41,7 @@ module _ (s : List ℕ) (done : List Span) (a : Span) (inside : a .start + a .le
   count-last = length-append done (a ∷ [])
 
 module _ (item : List ℕ) (a : Span) where
-  -- all before it lead
+  -- all units before it lead
   lead-all : (done : List Span) → length (leading item done) ≡ length done
       → length (leading item (done ++ (a ∷ []))) ≡ (if mayLead (held item a) then length done + 1 else length done)
   unfolding leading
@@ -59,7 +59,7 @@ module _ (item : List ℕ) (a : Span) where
       go true e false h = let w = h (omega arith) in omega arith
       go false e m h = absurd (omega arith)
 
-  -- one before it does not
+  -- a unit before it does not lead
   lead-some : (done : List Span) → length (leading item done) < length done → length (leading item (done ++ (a ∷ []))) ≡ length (leading item done)
   unfolding leading
   lead-some [] e = absurd (omega arith)
@@ -107,7 +107,7 @@ pub list-sum-more : (list : List ℕ) (done : List Span) (a : Span) → a .start
     → adding false (a .len) (listSum list done) ≡ listSum list (done ++ (a ∷ []))
 list-sum-more list done a h = rw (lengths-last list done a h, count-last list done a h)
 
--- ### a walk that sums: f gives the sum of the units passed
+-- ### a walk that sums: f returns the sum over the units passed
 
 pub record Summing (f : List Span → UnitSum) (whole left : Outcome (List Span)) (sum : UnitSum) (at : ℕ) : Type 0 where
   pub done : List Span
@@ -137,7 +137,7 @@ module _ (f : List Span → UnitSum) (whole : Outcome (List Span)) where
           few = omega (arith, i .few);
         }
 
-    -- a unit that does not count
+    -- a unit that is not counted
     pub summing-on : (rest : Outcome (List Span)) → left ≡ rest → (next : ℕ) → at ≤ next → Summing f whole rest sum next
     summing-on rest e next further =
         record { done = i .done; joined = ap (after (i .done)) (sym e) ∙ i .joined; summed = i .summed; few = omega (arith, i .few) }
@@ -149,7 +149,7 @@ module _ (f : List Span → UnitSum) (whole : Outcome (List Span)) where
     pub summing-refused : (n : ℕ) → left ≡ refuse n → refuse n ≡ andThen whole (λ us. accept (f us))
     summing-refused n e = ap (λ (o : Outcome (List Span)). andThen o (λ us. accept (f us))) (done-refused (i .done) left whole (i .joined) n e)
 
--- one unit of the item more, kept or dropped
+-- one unit of the item added, kept or dropped
 module _ (size : ℕ) (target : Option ℕ) (item : List ℕ) (whole : Outcome (List Span)) (p : ℕ) (a : Span) (next : ℕ) (t : Turn size item p a next) where
   pub summing-kept : (sum : UnitSum) → Summing (itemSum item) whole (keptLeft size target item p) sum p
       → Summing (itemSum item) whole (keptLeft size target item next) (addingKept target item a sum) next

@@ -1,4 +1,4 @@
--- Laws of the target, of the units that it drops, and of those that may lead, by cases as the code tests them.
+-- Laws of the target, of the units that are dropped, and of those that may lead, by the cases of the code.
 use Prim.Native.Nat.{ℕ, _+_, _^_, _≤_}
 use mathlib.Core.Path.{_≡_, refl, sym, ap, _∙_}
 use mathlib.Core.Bool.{Bool, true, false, _||_}

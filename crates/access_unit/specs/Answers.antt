@@ -1,4 +1,4 @@
--- What the answers of this crate say.
+-- What the calls for an access unit take and return: a target, unit k, and its part (SCOPE 3.12).
 use Prim.Native.Nat.{ℕ}
 use mathlib.Core.List.{List}
 use mathlib.Core.Option.{Option, none, some}
@@ -10,17 +10,17 @@ use Rattle.access_unit.specs.AccessUnit.{Source, ofList, ofItem}
 use Rattle.access_unit.specs.declared.Target.{Target}
 use Rattle.access_unit.specs.declared.Target.the-variants as T
 
--- the operating point that a caller asks for, if any
+-- the caller's target, or none
 abbrev pub tolsOf : Target → Option ℕ
 tolsOf (T.Ols t) = some t
 tolsOf T.Unset = none
 
--- unit k of an access unit; the list's empty part past the last and on a refusal
+-- unit k of an access unit; the empty part of the list past the last unit and on a refusal
 abbrev pub sourceAt : Outcome (List Source) → ℕ → Source
 sourceAt (accept us) k = getD us k (ofList nowhere)
 sourceAt (refuse e) k = ofList nowhere
 
--- "returned as that part of the list or of the item"
+-- r is the part of the list or of the item where the unit lies
 abbrev pub PartOfEither : RefT (List ℕ) → RefT (List ℕ) → RefT (List ℕ) → Source → Type 0
 PartOfEither r list item (ofList a) = PartOf r list a
 PartOfEither r list item (ofItem a) = PartOf r item a

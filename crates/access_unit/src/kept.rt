@@ -1,4 +1,4 @@
-// Internal: which units of an item are kept.
+// Internal: the target, and which units of an item are kept (SCOPE 3.12).
 use super::Target;
 use boxes::Span;
 use boxes::place;
@@ -19,7 +19,7 @@ ghost use Rattle.nal.specs.Kinds.{isRecordOf};
 ghost use Rattle.access_unit.specs.AccessUnit.{targetOf, agrees, isOpi, keeps, leadingKind};
 ghost use Rattle.access_unit.specs.Answers.{tolsOf};
 
-// The target: the caller's, else the head's operating point when its PTL flag is set, else none.
+// The target: the caller's; if there is none, the head's operating point where its PTL flag is set; else none.
 pub fn target_of(head: VvcConfig, tols: Target) -> Target
     ensures { λ r. ⌜ tolsOf r ≡ targetOf head (tolsOf tols) ⌝ }
 {
@@ -34,7 +34,7 @@ pub fn target_of(head: VvcConfig, tols: Target) -> Target
     }
 }
 
-// Whether an operating point is the target's, where there is a target.
+// Whether an operating point is that of the target; yes without a target.
 fn agrees_with(target: Target, idx: u32) -> bool
     ensures { λ r. ⌜ r ≡ agrees (tolsOf target) (some idx) ⌝ }
 {
@@ -44,7 +44,7 @@ fn agrees_with(target: Target, idx: u32) -> bool
     }
 }
 
-// Whether an OPI unit of the item is kept: it is dropped only if a target exists and its operating point reads and differs.
+// Whether an OPI unit of the item is kept: it is dropped if there is a target and its operating point reads and differs.
 pub fn opi_kept(unit: &[u8], target: Target) -> bool
     requires { ⌜ (isOpi (now unit) ≡ true) × (length (now unit) ≤ 2 ^ 30) ⌝ }
     ensures { λ r. ⌜ r ≡ keeps (tolsOf target) (now (unit .entry)) ⌝ }
@@ -66,7 +66,7 @@ pub fn is_opi(kind: UnitKind) -> bool
     }
 }
 
-// Whether a unit of a kind may lead in front of all others: AUD and OPI.
+// Whether a unit of the kind may lead: AUD and OPI.
 pub fn may_lead(kind: UnitKind) -> bool
     ensures { λ r. ⌜ r ≡ leadingKind kind ⌝ }
 {
@@ -78,7 +78,7 @@ pub fn may_lead(kind: UnitKind) -> bool
     }
 }
 
-// Whether the unit at a span of the item is kept: all are but OPI units of another operating point.
+// Whether the unit at span a of the item is kept: all but OPI units with an operating point other than the target's.
 pub fn kept_at(item: &[u8], a: Span, target: Target) -> bool
     requires { ⌜ (a .start + a .len ≤ length (now item)) × (length (now item) ≤ 2 ^ 30) ⌝ }
     ensures { λ r. ⌜ r ≡ keeps (tolsOf target) (held (now (item .entry)) a) ⌝ }

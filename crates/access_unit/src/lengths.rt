@@ -1,4 +1,4 @@
-// Internal: how long the stream of an access unit is, measured before any of it is written.
+// Internal: the length of the stream of an access unit, measured before any of it is written.
 use super::Target;
 use super::kept;
 use super::sizes;
@@ -13,10 +13,10 @@ ghost use Rattle.boxes.specs.Walk.{countFound};
 ghost use Rattle.access_unit.specs.AccessUnit.{startCode, assemble};
 ghost use Rattle.access_unit.specs.Answers.{tolsOf};
 
-// How many bytes a start code has: those of the number 1.
+// The length of a start code, 00 00 00 01.
 pub const START_CODE_LEN: usize = 4;
 
-// How many bytes the stream of so many units has that hold so many bytes.
+// The length of the stream of `count` units whose lengths add up to `lengths`.
 pub fn stream_len(count: usize, lengths: usize) -> usize
     requires { ⌜ (count ≤ 2 ^ 32) × (lengths ≤ 2 ^ 32) ⌝ }
     ensures { λ r. ⌜ r ≡ length startCode * count + lengths ⌝ }
@@ -24,7 +24,7 @@ pub fn stream_len(count: usize, lengths: usize) -> usize
     START_CODE_LEN * count + lengths
 }
 
-// How long the access unit is as a stream. Refusals: 23, 21, 4, then in byte order 1 and 5, 19.
+// The length of the stream of an access unit. Refusals: 23, 21, 4, then in byte order 1 and 5, 19.
 pub fn access_unit_len(head: VvcConfig, list: &[u8], item: &[u8], tols: Target) -> Counted
     ensures { λ r. ⌜ countOf r ≡ countFound (assemble head (now (list .entry)) (now (item .entry)) (tolsOf tols)) ⌝ }
 {

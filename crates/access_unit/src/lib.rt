@@ -1,4 +1,4 @@
-// The access unit of a still: its units from record and item, measured and counted.
+// The access unit of a still: its target, its units measured and counted (SCOPE 3.12).
 pub mod kept;
 pub mod lengths;
 pub mod sizes;
@@ -12,13 +12,13 @@ ghost use Rattle.boxes.specs.Walk.{countFound};
 ghost use Rattle.access_unit.specs.AccessUnit.{accessUnit};
 ghost use Rattle.access_unit.specs.Answers.{tolsOf};
 
-// The operating point that a caller asks for.
+// The operating point that assembly compares OPI units with, or none.
 pub enum Target {
     Ols(u16),
     Unset,
 }
 
-// How many units the access unit has. Refusals: 23, 21, 4, then in byte order 1 and 5, 19.
+// The number of units of the access unit. Refusals: 23, 21, 4, then in byte order 1 and 5, 19.
 pub fn access_unit_count(head: VvcConfig, list: &[u8], item: &[u8], tols: Target) -> Counted
     ensures { λ r. ⌜ countOf r ≡ countFound (accessUnit head (now (list .entry)) (now (item .entry)) (tolsOf tols)) ⌝ }
 {

@@ -1,4 +1,4 @@
-// Internal: how many units an access unit has from list and item, and how many bytes they hold.
+// Internal: how many units of the list and of the item an access unit has, and their lengths.
 use super::Target;
 use super::kept;
 use boxes::Span;
@@ -22,20 +22,20 @@ ghost use Rattle.unit_list.specs.Answers.{listUnits};
 ghost use Rattle.access_unit.specs.Answers.{tolsOf};
 ghost use Rattle.access_unit.specs.inner.Gathered.{Walks, keptLeft, addingKept, adding, summedOf, itemSum, listSum, gather, sizesOf, sizesWith, sizesAnswerOf};
 
-// Units one after another: how many, how many of them may lead in front of all others, and the bytes that they hold.
+// A sum over units: how many, how many of them lead, and the sum of their lengths.
 pub struct UnitSum {
     pub count: usize,
     pub lead: usize,
     pub lengths: usize,
 }
 
-// All units of an item or of a list, or the refusal.
+// The sum over all units of an item or of a list, or the refusal.
 pub enum Summed {
     Sum(UnitSum),
     Refused(Refusal),
 }
 
-// An access unit: the units of the list, those kept of the item, how many of these lead, and the bytes that all hold.
+// The sizes of an access unit: units of the list, kept units of the item, how many of these lead, and the sum of all lengths.
 pub struct Sizes {
     pub listed: usize,
     pub kept: usize,
@@ -43,13 +43,13 @@ pub struct Sizes {
     pub lengths: usize,
 }
 
-// An access unit that was measured, or the refusal.
+// The sizes of an access unit, or the refusal.
 pub enum SizesAnswer {
     Sized(Sizes),
     Refused(Refusal),
 }
 
-// One unit more.
+// One unit added.
 fn add(sum: UnitSum, len: usize, leads: bool) -> UnitSum
     requires { ⌜ (sum .lead ≤ sum .count) × (sum .count + sum .lengths + len < 2 ^ 32) ⌝ }
     ensures { λ r. ⌜ r ≡ adding leads len sum ⌝ }
@@ -71,7 +71,7 @@ fn add(sum: UnitSum, len: usize, leads: bool) -> UnitSum
     }
 }
 
-// One unit of the item more, if it is kept; AUD and OPI units may lead.
+// A unit of the item added, if it is kept; AUD and OPI units may lead.
 fn add_kept(item: &[u8], a: Span, target: Target, sum: UnitSum) -> UnitSum
     requires { ⌜ (a .start + a .len ≤ length (now item)) × (length (now item) ≤ 2 ^ 30) × (sum .lead ≤ sum .count) × (sum .count + sum .lengths + a .len < 2 ^ 32) ⌝ }
     ensures { λ r. ⌜ r ≡ addingKept (tolsOf target) (now (item .entry)) a sum ⌝ }
@@ -87,7 +87,7 @@ fn add_kept(item: &[u8], a: Span, target: Target, sum: UnitSum) -> UnitSum
     add(sum, a.len, kept::may_lead(kind))
 }
 
-// The kept units of an item. Refusals: in byte order 1 and 5.
+// The sum over the kept units of an item. Refusals in byte order: 1, 5.
 fn item_sum(item: &[u8], size: usize, target: Target) -> Summed
     requires { ⌜ Walks size (now item) 0 ⌝ }
     ensures { λ r. ⌜ summedOf r ≡ andThen (keptLeft size (tolsOf target) (now (item .entry)) 0) (λ ks. accept (itemSum (now (item .entry)) ks)) ⌝ }
@@ -110,7 +110,7 @@ fn item_sum(item: &[u8], size: usize, target: Target) -> Summed
     }
 }
 
-// The units of a list after a cursor. Refusal: 21.
+// The sum over the units of a list after a cursor. Refusal: 21.
 fn units_sum(list: &[u8], c: ListCursor) -> Summed
     requires { ⌜ Fits (now list) c ⌝ }
     ensures { λ r. ⌜ summedOf r ≡ andThen (unitsLeft (now (list .entry)) c) (λ us. accept (listSum (now (list .entry)) us)) ⌝ }
@@ -133,7 +133,7 @@ fn units_sum(list: &[u8], c: ListCursor) -> Summed
     }
 }
 
-// The units of a list. Refusals: 23, 21.
+// The sum over the units of a list. Refusals: 23, 21.
 fn list_sum(list: &[u8]) -> Summed
     ensures { λ r. ⌜ summedOf r ≡ andThen (listUnits (now (list .entry))) (λ us. accept (listSum (now (list .entry)) us)) ⌝ }
 {
@@ -143,7 +143,7 @@ fn list_sum(list: &[u8]) -> Summed
     }
 }
 
-// An access unit of a list's units, which are measured, and those of an item. Refusals: 4, then in byte order 1 and 5, 19.
+// The sizes of an access unit whose list has the sum `listed`. Refusals: 4, then in byte order 1 and 5, 19.
 fn measure_item(item: &[u8], length_size: u8, target: Target, listed: UnitSum) -> SizesAnswer
     requires { ⌜ (length (now item) ≤ 2 ^ 30) × (listed .count + listed .lengths ≤ 2 ^ 30) ⌝ }
     ensures { λ r. ⌜ sizesAnswerOf r ≡ sizesWith «length_size» (tolsOf target) (now (item .entry)) listed ⌝ }
@@ -170,7 +170,7 @@ fn measure_item(item: &[u8], length_size: u8, target: Target, listed: UnitSum) -
     }
 }
 
-// An access unit. Refusals: 23, 21, 4, then in byte order 1 and 5, 19.
+// The sizes of an access unit. Refusals: 23, 21, 4, then in byte order 1 and 5, 19.
 pub fn measure(list: &[u8], item: &[u8], length_size: u8, target: Target) -> SizesAnswer
     ensures { λ r. ⌜ sizesAnswerOf r ≡ andThen (gather «length_size» (tolsOf target) (now (list .entry)) (now (item .entry))) (λ g. accept (sizesOf (now (list .entry)) (now (item .entry)) g)) ⌝ }
 {

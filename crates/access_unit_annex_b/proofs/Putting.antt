@@ -23,7 +23,7 @@ use Rattle.access_unit.proofs.Order.{stream-parts, stream-size}
 use Rattle.parse.proofs.General.{sets-append}
 use Rattle.parse.specs.inner.Stores.{bytesOf, Puts}
 
--- there is room for it
+-- the output has room for it
 pub puts-stream : (size : ℕ) (target : Option ℕ) (list item : List ℕ) (v : Sizes) (out : List ℕ) → Known size target list item v
     → 4 * (v .listed + v .kept) + v .lengths ≤ length out → PutsStream size target list item v out
 puts-stream size target list item v out n h =

@@ -1,4 +1,4 @@
--- Laws of storing the stream unit by unit: what is stored and what is left make the whole.
+-- Laws of storing the stream unit by unit: what is stored and what is left are the whole.
 use Prim.Native.Nat.{ℕ, zero, suc, _+_, _-_, _≤_, _<_}
 use mathlib.Core.Path.{_≡_, refl, sym, ap, _∙_}
 use mathlib.Core.List.{List, [], _∷_, _++_, map, append-assoc}
@@ -65,7 +65,7 @@ module _ (s out₀ : List ℕ) (to₀ : ℕ) (o₀ o : Outcome (List Span)) (out
         putting-again (bytesAt s) out₀ to₀ o₀ o out to i a (startCode ++ held s a) (bytes-first s a) left e after g next
         (omega (arith, unit-long s a inside))
 
--- ### the units left in a walk that stores the first of them: so many are left, and what then comes is known
+-- ### a walk that stores the first units only: how many are left, and what comes after them
 
 -- the one found before those that are left
 record Front (a : Span) (o : Outcome (List Span)) (us : List Span) : Type 0 where

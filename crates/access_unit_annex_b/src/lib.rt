@@ -1,4 +1,4 @@
-// The access unit of a still as an Annex B stream.
+// Assemble: the access unit of a still as an Annex B stream (SCOPE 3.12).
 pub mod stream;
 
 use access_unit::Target;
@@ -15,7 +15,8 @@ ghost use Rattle.parse.specs.Answers.{writtenOf};
 ghost use Rattle.access_unit.specs.AccessUnit.{assemble};
 ghost use Rattle.access_unit.specs.Answers.{tolsOf};
 
-// The access unit as a stream, each unit after a start code. Refusals: 23, 21, 4, then in byte order 1 and 5, 19, 20.
+// Writes the access unit of a head, a list and an item as a stream, each unit after 00 00 00 01.
+// Refusals: 23, 21, 4, then in byte order 1 and 5, 19, 20.
 pub fn access_unit_annex_b(
     head: VvcConfig,
     list: &[u8],

@@ -25,13 +25,13 @@ ghost use Rattle.access_unit_annex_b.specs.inner.Stream.{PutsFirst, Firs
 ghost use Rattle.access_unit.specs.inner.Gathered.{gather, gatheredBytes, bytesAt};
 ghost use Rattle.parse.specs.inner.Stores.{bytesOf, Puts};
 
-// After the units that were stored: the place of the item to read on from, and the place of the output.
+// The places after the units that were stored: in the item and in the output.
 pub struct Places {
     pub item: usize,
     pub out: usize,
 }
 
-// Stores the bytes at a span of `src` after a start code; gives the place after them.
+// Stores 00 00 00 01 and the bytes at span a of `src`, and returns the place after them.
 fn put_unit(src: &[u8], a: Span, out: &mut [u8], at: usize) -> usize
     requires { ⌜ (a .start + a .len ≤ length (now src)) × (at + length startCode + a .len ≤ length (now out)) ⌝ }
     ensures { λ r. ⌜ (r ≡ at + length startCode + a .len) × (now (out .exit) ≡ sets (now (out .entry)) at (startCode ++ held (now (src .entry)) a)) ⌝ }
@@ -43,7 +43,7 @@ fn put_unit(src: &[u8], a: Span, out: &mut [u8], at: usize) -> usize
     start + a.len
 }
 
-// Stores the first `n` of the kept units from a place of the item on.
+// Stores the first `n` kept units from a place of the item on.
 fn put_kept(
     item: &[u8],
     size: usize,
@@ -73,7 +73,7 @@ fn put_kept(
     Places { item: at, out: end }
 }
 
-// Stores the units of a list after a cursor; gives the place after them.
+// Stores the units of a list after a cursor, and returns the place after them.
 fn put_units(list: &[u8], c: ListCursor, out: &mut [u8], to: usize) -> usize
     requires { ⌜ Fits (now list) c × Puts (bytesAt (now list)) (unitsLeft (now list) c) (now out) to ⌝ }
     ensures { λ r. ⌜ (r ≡ to + length (bytesOf (bytesAt (now (list .entry))) (unitsLeft (now (list .entry)) c))) × (now (out .exit) ≡ sets (now (out .entry)) to (bytesOf (bytesAt (now (list .entry))) (unitsLeft (now (list .entry)) c))) ⌝ }
@@ -89,7 +89,7 @@ fn put_units(list: &[u8], c: ListCursor, out: &mut [u8], to: usize) -> usize
     }
 }
 
-// Stores the stream of an access unit that was measured: the kept units of the item that lead, the list's units, the rest.
+// Stores the stream of an access unit that was measured: leading units of the item, units of the list, remaining units.
 pub fn put_stream(
     list: &[u8],
     item: &[u8],

@@ -27,7 +27,7 @@ onward-earlier item p q h N.End f = tt
 onward-earlier item p q h (N.Refused e) f = tt
 
 module _ (size : ℕ) (target : Option ℕ) (item : List ℕ) where
-  -- a step that found no unit says the same of the kept units
+  -- a step that found no unit says the same for the kept units
   pub over-none : (p : ℕ) (r : NextUnit) → OneOf (1 ∷ 2 ∷ []) (tagOf the-type r) → nextOf r ≡ itemStep size item p
       → keptStepped size target item r ≡ keptLeft size target item p
   unfolding keptLeft kept
@@ -35,7 +35,7 @@ module _ (size : ℕ) (target : Option ℕ) (item : List ℕ) where
   over-none p N.End k e = rw (found-end size item p N.End e refl)
   over-none p (N.Refused x) k e = rw (found-refusal size item p (N.Refused x) e x refl)
 
-  -- a turn of the walk: the kept unit found from place p on, in front of those after it
+  -- a turn of the walk: the kept unit found from place p on, and those after it
   pub record KeptTurn (p : ℕ) (a : Span) (next : ℕ) : Type 0 where
     pub here : UnitAhead item p a next
     pub rest : keptLeft size target item p ≡ more a (keptLeft size target item next)
@@ -44,7 +44,7 @@ module _ (size : ℕ) (target : Option ℕ) (item : List ℕ) where
     pub kept-found : (a : Span) (next : ℕ) → r ≡ N.Unit a next → KeptTurn p a next
     kept-found a next e = record { here = rw e at (said .1); rest = sym (said .0) ∙ ap (keptStepped size target item) e }
 
-  -- a step that found no unit: there is none
+  -- a step that found no unit: none is left
   pub kept-none : (p : ℕ) (r : NextUnit) → keptStepped size target item r ≡ keptLeft size target item p → OneOf (1 ∷ 2 ∷ []) (tagOf the-type r)
       → total (keptLeft size target item p) ≡ 0
   kept-none p (N.Unit a next) e k = absurd (⊎-elim (λ h. omega arith) (λ h. omega arith) k)

@@ -1,4 +1,4 @@
--- The part that is returned for unit k: of the list or of the item, as its place says.
+-- The part that is returned for unit k: of the list or of the item, by its place.
 use Prim.Native.Nat.{ℕ}
 use mathlib.Core.Path.{_≡_, refl, sym, ap, _∙_, subst}
 use mathlib.Core.List.{List, [], _∷_}
@@ -20,7 +20,7 @@ use Rattle.access_unit.specs.Answers.{sourceAt, PartOfEither}
 use Rattle.access_unit_nal.specs.Answers.{sourcePlace}
 use Rattle.boxes.specs.inner.Places.{lying, spanInFirst}
 
--- where no unit lies in the item, its place is one in the list
+-- a place that is not in the item is one in the list
 pub not-second : (s t : List ℕ) (r : UnitPlace) → OneOf (0 ∷ 2 ∷ 3 ∷ []) (tagOf the-type r) → PlaceFits s t r → PlaceFits s [] r
 not-second s t (U.First a) k h = h
 not-second s t (U.Second a) k h = absurd (⊎-elim (λ h. omega arith) (⊎-elim (λ h. omega arith) (λ h. omega arith)) k)

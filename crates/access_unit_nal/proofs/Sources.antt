@@ -1,4 +1,4 @@
--- Unit k of an access unit that was measured: among those that lead, in the list, after it, or past the last.
+-- Unit k of an access unit that was measured: a leading unit, one of the list, one after it, or past the last.
 use Prim.Native.Nat.{ℕ, zero, suc, _+_, _-_, _≤_, _<_}
 use mathlib.Core.Path.{_≡_, refl, sym, ap, _∙_}
 use mathlib.Core.List.{List, [], _∷_, _++_, map}
@@ -33,7 +33,7 @@ module _ (item : List ℕ) (g : Gathered) (k : ℕ) where
   kept-length : length (leading item (g .kept)) + length (following item (g .kept)) ≡ length (g .kept)
   kept-length = sym (length-append (leading item (g .kept)) (following item (g .kept))) ∙ ap length (leads-and-follows item (g .kept))
 
-  -- among those that lead, in the list, after it, and past the last
+  -- a leading unit, one of the list, one after it, and past the last
   pub source-leading : k < length (leading item (g .kept)) → ofItem (getD (g .kept) k nowhere) ≡ getD (inOrder item g) k (ofList nowhere)
   unfolding inOrder
   source-leading h =
@@ -85,7 +85,7 @@ module _ (item : List ℕ) (g : Gathered) (k : ℕ) where
         ∙ getD-mapped ofItem (following item (g .kept)) j (ofList nowhere) (omega arith)
         ∙ ap ofItem (sym a))
 
--- ### by what was measured
+-- ### from what was measured
 
 module _ (size : ℕ) (target : Option ℕ) (list item : List ℕ) (k : ℕ) where
   -- where unit k of the access unit lies
@@ -159,7 +159,7 @@ module _ (size : ℕ) (target : Option ℕ) (list item : List ℕ) (k : ℕ) whe
         pub at-past : v .kept ≤ k - v .listed → accept none ≡ unitPlace
         at-past h = let l = lead-kept in place-past sourcePlace (sources size target list item) k (v .listed + v .kept) (rw (n .found, ← all-of)) (omega arith)
 
-    -- the kept unit with number j is unit k
+    -- kept unit j is unit k
     pub record KeptAt (j : ℕ) : Type 0 where
       pub within : j < v .kept
       pub is : (a : Span) → a ≡ found (keptLeft s target item 0) j → accept (some (inSecond a)) ≡ unitPlace

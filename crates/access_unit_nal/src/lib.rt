@@ -1,4 +1,4 @@
-// One unit of the access unit of a still: where it lies in record or item, and that part returned.
+// Unit k of the access unit of a still: its place, and the part of the list or item where it lies (SCOPE 3.12).
 pub mod source;
 
 use access_unit::Target;
@@ -12,8 +12,8 @@ ghost use Rattle.access_unit.specs.AccessUnit.{accessUnit};
 ghost use Rattle.access_unit.specs.Answers.{tolsOf, sourceAt, PartOfEither};
 ghost use Rattle.access_unit_nal.specs.Answers.{sourcePlace};
 
-// Where unit k of the access unit lies, from 0 on: in the list, which is the first slice, or in the item, the second. Refusals: 23, 21, 4, then
-// in byte order 1 and 5, 19.
+// Where unit k of the access unit lies: in the list, which is the first slice, or in the item, the second.
+// Refusals: 23, 21, 4, then in byte order 1 and 5, 19.
 pub fn access_unit_nal_at(
     head: VvcConfig,
     list: &[u8],
@@ -27,7 +27,8 @@ pub fn access_unit_nal_at(
     source::source_at(list, item, head.length_size, target, k)
 }
 
-// Unit k of the access unit, from 0 on, a part of the list or of the item; the list's empty part past the last and on a refusal.
+// Unit k of the access unit as a part of the list or of the item; the list's empty part past the last unit and on a refusal.
+// Refusals: 23, 21, 4, then in byte order 1 and 5, 19.
 pub fn access_unit_nal<'a>(
     head: VvcConfig,
     list: &'a [u8],

@@ -1,5 +1,4 @@
-// Internal: where unit k of an access unit lies.
-// As in `split`, a label leaves a walk over units.
+// Internal: where unit k of an access unit lies. The loop over units is left by its label, as in `split`.
 use access_unit::Target;
 use access_unit::kept;
 use access_unit::sizes;
@@ -21,14 +20,14 @@ ghost use Rattle.access_unit_nal.specs.Answers.{sourcePlace};
 ghost use Rattle.access_unit_nal.specs.inner.Kept.{Numbered, keptStepped, HasKept};
 ghost use Rattle.split.specs.inner.Walk.{Onward};
 
-// A unit by its number: among the kept ones of the item, among the list's, or past the last.
+// A unit by its number: a kept unit of the item, a unit of the list, or past the last.
 pub enum UnitNumber {
     Kept(usize),
     Listed(usize),
     Past,
 }
 
-// Which unit stands as number k in an access unit that is measured: those that lead, the list's, the other kept ones.
+// Which unit is unit k of an access unit that was measured: leading units, units of the list, the other kept units.
 fn number_of(sizes: Sizes, k: usize) -> UnitNumber
     ensures { λ r. ⌜ Numbered sizes k r ⌝ }
 {
@@ -46,7 +45,7 @@ fn number_of(sizes: Sizes, k: usize) -> UnitNumber
     UnitNumber::Past
 }
 
-// The next unit from a place of an item on that is kept, past those that are dropped.
+// The next kept unit from a place of an item on.
 fn next_kept(item: &[u8], size: usize, target: Target, from: usize) -> NextUnit
     requires { ⌜ Walks size (now item) from ⌝ }
     ensures { λ r. ⌜ (keptStepped size (tolsOf target) (now (item .entry)) r ≡ keptLeft size (tolsOf target) (now (item .entry)) from) × Onward (now (item .entry)) from r ⌝ }
@@ -64,7 +63,7 @@ fn next_kept(item: &[u8], size: usize, target: Target, from: usize) -> NextUnit
     }
 }
 
-// Where kept unit k of an item lies that has more than k.
+// Where kept unit k of an item lies; the item has more than k.
 fn kept_unit(item: &[u8], size: usize, target: Target, k: usize) -> Span
     requires { ⌜ Walks size (now item) 0 × HasKept size (tolsOf target) (now item) k ⌝ }
     ensures { λ r. ⌜ (r ≡ found (keptLeft size (tolsOf target) (now (item .entry)) 0) k) × (r .start + r .len ≤ length (now (item .entry))) ⌝ }

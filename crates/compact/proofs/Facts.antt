@@ -1,4 +1,4 @@
--- What a compact record that was read says of its units; and written again it is the same record.
+-- What is known of the units of a compact record that was read; and writing it again returns the same record.
 use Prim.Native.Nat.{ℕ, zero, suc, _+_, _*_, _/_, _%_, _^_, _≤_, _<_}
 use mathlib.Core.Path.{_≡_, refl, sym, ap, _∙_, subst}
 use mathlib.Core.Bool.{true}
@@ -44,7 +44,7 @@ bytes-held s a h = bytes-take (a .len) (drop (a .start) s) (λ i. let e = getD-d
 
 -- ### units of a record
 
--- units read from place p on up to q: what they are, and that they stand there after their lengths
+-- units read from place p up to q: their bytes, and that they lie there after their lengths
 pub record UnitsFrom (s : List ℕ) (p : ℕ) (us : List Span) (q : ℕ) : Type 0 where
   pub within : q ≤ length s
   pub short : (k : ℕ) → length (getD (map (held s) us) k []) ≤ 255
@@ -58,7 +58,7 @@ module _ (s : List ℕ) (all : AllBytes s) where
   unfolding allAtMost encodeUnits
   from-none p h = record { within = h; short = λ k. omega arith; bytes = λ k i. omega arith; small = refl; room = omega arith; stand = refl }
 
-  -- one unit, in front of others
+  -- one unit, followed by others
   module _ (p : ℕ) (a : Span) (r : ℕ) (c : Chunk 1 s p a r) (us : List Span) (q : ℕ) (rest : UnitsFrom s r us q) where
     inside : a .start + a .len ≤ length s
     inside = omega (arith, c .start, c .len, c .next, c .fits)
@@ -129,7 +129,7 @@ module _ (s : List ℕ) (all : AllBytes s) where
 
 -- ### the record
 
--- what reading gave, taken apart
+-- the parts of what reading returned
 record Taken (s : List ℕ) (r : CompactParsed) (list : List ℕ) : Type 0 where
   lent : length s ≤ 2 ^ 30
   some : 1 ≤ length s
@@ -178,7 +178,7 @@ taken s r list e =
           | yes g ↦ ended h k us q f g
         ]
 
--- What a compact record C says that was read as r and list: where its units lie, what they are, and that the list holds them.
+-- What is known of a compact record C that was read as r and list: where its units lie, what they are, and that the list has them.
 pub record CompactFacts (C : List ℕ) (r : CompactParsed) (list : List ℕ) : Type 0 where
   pub spans : List Span
   pub whole : compactRecord C 0 ≡ value (r .config, spans) (length C)
@@ -197,7 +197,7 @@ pub record CompactFacts (C : List ℕ) (r : CompactParsed) (list : List ℕ) : T
   pub read : UnitsRead list (listUnits list) units
   pub written : compactBytes (r .config) units ≡ accept C
 
--- the parts of the first byte make it
+-- the fields of the first byte make that byte again
 first-again : (b : ℕ) → b < 256 → compactFirstByte (configOf b) (b % 32 + 2) ≡ b
 first-again b h =
     elim (decLe 128 b) [
@@ -205,7 +205,7 @@ first-again b h =
       | no k ↦ rw (ne-eqb (b / 128) 1 (λ e. omega arith)) (omega arith)
     ]
 
--- one array's units
+-- the units of a list of one array
 units-one : (us : List (List ℕ)) → length (oneArray us) ≤ 2 ^ 30 → UnitsRead (oneArray us) (listUnits (oneArray us)) us
 unfolding unitsOf
 units-one us h =
@@ -251,7 +251,7 @@ module _ (C : List ℕ) (all : AllBytes C) (r : CompactParsed) (list : List ℕ)
           (bytes-given (configOf (getD C 0 0)) (map (held C) (k .spans)) (omega arith) (omega arith) (omega arith) (omega arith) (f .small)
           ∙ rw (l, t, first-again (getD C 0 0) (all 0)) (ap accept (sym (drop-cons C 0 0 (k .some)))))
 
-  -- compact write after compact read gives the same bytes
+  -- compact write after compact read returns the same bytes
   pub write-read : serializeCompact (r .config) list ≡ accept C
   unfolding serializeCompact
   write-read =

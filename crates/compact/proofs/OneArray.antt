@@ -1,4 +1,4 @@
--- The list of one array: its bytes, and how long it is.
+-- The list of one array: its bytes and its length.
 use Prim.Native.Nat.{ℕ, _+_}
 use mathlib.Core.Path.{_≡_, sym, ap, _∙_}
 use mathlib.Core.List.{List, [], _∷_, _++_, append-nil, append-assoc}
@@ -9,7 +9,7 @@ use Rattle.boxes.proofs.Numbers.{length-toBe}
 use Rattle.unit_list.specs.UnitList.{encodeUnits, encodeArray, encodeArrays, encode}
 use Rattle.compact.specs.Compact.{oneArray}
 
--- what comes before its units
+-- the bytes before its units
 abbrev pub listHead : ℕ → List ℕ
 listHead room = toBe 4 (2 + room) ++ (0 ∷ 0 ∷ [])
 

@@ -11,7 +11,7 @@ use Rattle.unit_list.specs.UnitList.{encodeUnits}
 use Rattle.compact.specs.Compact.{allAtMost, compactBytes, compactFirstByte}
 use Rattle.compact.specs.declared.CompactVvcConfig.{CompactVvcConfig}
 
--- all tests passed
+-- when all tests pass
 pub bytes-given : (c : CompactVvcConfig) (us : List (List ℕ)) → 1 ≤ c .«length_size» → c .«length_size» ≤ 4 → 2 ≤ length us → length us ≤ 33 → allAtMost 255 us ≡ true
     → compactBytes c us ≡ accept (compactFirstByte c (length us) ∷ encodeUnits 1 us)
 unfolding compactBytes

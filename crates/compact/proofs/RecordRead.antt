@@ -1,4 +1,4 @@
--- Laws of reading a compact record: its answers, in the order of their tests.
+-- Laws of reading a compact record: its answers in the order of their tests.
 use Prim.Native.Nat.{ℕ, zero, suc, _+_, _%_, _^_, _≤_, _<_}
 use mathlib.Core.Path.{_≡_, refl, sym, ap, _∙_}
 use mathlib.Core.List.{List, [], _∷_, map}
@@ -19,7 +19,7 @@ use Rattle.compact.specs.declared.CompactVvcConfig.{CompactVvcConfig}
 use Rattle.compact.proofs.OneArray.{list-long}
 use Rattle.unit_list.specs.inner.Written.{unitBytes}
 
--- as many things are read as are asked for
+-- as many units are read as are asked for
 length-bind : {A : Type 0} (n : ℕ) (a : A) (y : Parsed (List A)) (us : List A) (q : ℕ)
     → ((vs : List A) (t : ℕ) → y ≡ value vs t → length vs ≡ n) → bind y (λ us t. value (a ∷ us) t) ≡ value us q → length us ≡ suc n
 length-bind n a (refused m) us q h e = absurd (let z : _≡_ {A = ℕ} 0 1 = cc in omega arith)

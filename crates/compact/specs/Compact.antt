@@ -1,4 +1,4 @@
--- The compact record (ISO/IEC 23008-12 Amd 2 L.4.3.3, CompactVvcDecoderConfigurationRecord), read and written.
+-- The compact record, read and written (SCOPE 3.2 and 4.2; CompactVvcDecoderConfigurationRecord, ISO/IEC 23008-12 Amd 2 L.4.3.3).
 use Prim.Native.Nat.{ℕ, _+_, _-_, _*_, _/_, _%_}
 use mathlib.Core.Bool.{Bool, true, not, _&&_}
 use mathlib.Core.List.{List, [], _∷_, map}
@@ -14,7 +14,7 @@ use Rattle.unit_list.specs.UnitList.{encode, encodeUnits}
 use Rattle.unit_list.specs.Answers.{listUnits}
 use Rattle.compact.specs.declared.CompactVvcConfig.{CompactVvcConfig}
 
--- "Nothing may follow": 7 where bytes are left over
+-- the record must end here: 7 if bytes are left
 unfoldable pub atEnd : Parser (Unit {0})
 atEnd s p = if ltb p (length s) then refused 7 else value tt p
 
@@ -22,7 +22,7 @@ atEnd s p = if ltb p (length s) then refused 7 else value tt p
 abbrev pub configOf : ℕ → CompactVvcConfig
 configOf b = record { «multi_layer_flag» = eqb (b / 128) 1; «length_size» = b / 32 % 4 + 1 }
 
--- the record, with its units where they lie
+-- the configuration, and the spans of the units
 unfoldable pub compactRecord : Parser (CompactVvcConfig × List Span)
 compactRecord = do
   b ← uint 1  -- multi_layer_flag 1, lengthSizeMinusOne 2, num_nal_units_minus2 5
@@ -30,25 +30,26 @@ compactRecord = do
   atEnd
   give (configOf b, units)
 
--- what reading returns
+-- what reading returns: the configuration, the unit count, and the length of the list
 pub record CompactParsed : Type 0 where
   pub config : CompactVvcConfig
   pub unitCount : ℕ
   pub listLength : ℕ
 
--- its units as "a unit list of one array, complete 0, type 0"
+-- the unit list of one array with complete 0 and type 0 (SCOPE 3.2)
 abbrev pub oneArray : List (List ℕ) → List ℕ
 oneArray us = encode (record { complete = 0; unitType = 0; units = us } ∷ [])
 
--- reading s gave r: what is returned, and the list
+-- what is returned, and the list, for r as read from s
 abbrev pub parsedWith : List ℕ → CompactVvcConfig × List Span → CompactParsed × List ℕ
 parsedWith s r =
     (record { config = r .0; unitCount = length (r .1); listLength = length (oneArray (map (held s) (r .1))) }, oneArray (map (held s) (r .1)))
 
--- `CompactVvcConfig::parse`: 23, 1, 7; with the output 20
+-- `compact_read::parse`. Refusals: 23, 1, 7; with an output 20
 unfoldable pub parseCompact : List ℕ → Outcome (CompactParsed × List ℕ)
 parseCompact s = lentInput s (andThen (outcome (compactRecord s 0)) (λ r. accept (parsedWith s r)))
 
+-- every unit has at most n bytes
 unfoldable pub allAtMost : ℕ → List (List ℕ) → Bool
 allAtMost n [] = true
 allAtMost n (u ∷ us) = leb (length u) n && allAtMost n us
@@ -57,7 +58,7 @@ allAtMost n (u ∷ us) = leb (length u) n && allAtMost n us
 abbrev pub compactFirstByte : CompactVvcConfig → ℕ → ℕ
 compactFirstByte c n = bit (c .«multi_layer_flag») * 128 + (c .«length_size» - 1) * 32 + (n - 2)
 
--- the record of units: 4 size not 1 to 4, 8 count not 2 to 33, 9 unit above 255 bytes
+-- the record of the units us (SCOPE 4.2): 4 for a prefix size outside 1 to 4, 8 for a count outside 2 to 33, 9 for a unit above 255 bytes
 unfoldable pub compactBytes : CompactVvcConfig → List (List ℕ) → Outcome (List ℕ)
 compactBytes c us =
     if outside (c .«length_size») then refuse 4
@@ -65,6 +66,6 @@ compactBytes c us =
     else if not (allAtMost 255 us) then refuse 9
     else accept (compactFirstByte c (length us) ∷ encodeUnits 1 us)
 
--- `CompactVvcConfig::serialize`, "taking a list's units in order": 23, 21, 4, 8, 9; with the output 20
+-- `compact_write::serialize`: the record of the units of a list, in order. Refusals: 23, 21, 4, 8, 9; with an output 20
 unfoldable pub serializeCompact : CompactVvcConfig → List ℕ → Outcome (List ℕ)
 serializeCompact c list = andThen (listUnits list) (λ us. compactBytes c (map (held list) us))

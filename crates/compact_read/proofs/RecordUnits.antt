@@ -1,4 +1,4 @@
--- Laws of the units of a compact record: one read, and what is left after it; measured, and stored as a list.
+-- Laws of the units of a compact record: one unit read and the rest after it; units measured, and stored as a list.
 use Prim.Native.Nat.{ℕ, zero, suc, _+_, _-_, _≤_, _<_}
 use mathlib.Core.Path.{_≡_, refl, sym, ap, _∙_}
 use mathlib.Core.List.{List, [], _∷_, _++_, map}
@@ -27,7 +27,7 @@ use Rattle.parse.proofs.Binds.{outcome-more}
 use Rattle.unit_list.specs.inner.Written.{unitBytes}
 use Rattle.parse.specs.inner.Stores.{bytesOf, Puts}
 
--- one of n units read from place p on, and what is left after it
+-- one of n units read from place p on, and the rest after it
 pub record Turn (s : List ℕ) (n p : ℕ) (a : Span) : Type 0 where
   pub start : a .start ≡ p + 1
   pub inside : a .start + a .len ≤ length s
@@ -39,7 +39,7 @@ measured-bind : (s : List ℕ) (a : Span) → a .start + a .len ≤ length s →
 measured-bind s a h k (value us q) = ap (λ (n : ℕ). value n q) (let l = room-more 4 s a h us in omega arith)
 measured-bind s a h k (refused e) = refl
 
--- n units from place p on, of which there is one at least
+-- n units from place p on, where n is at least 1
 module _ (s : List ℕ) (n p : ℕ) (some : 0 < n) (r : ChunkRead) (said : chunkStepped r ≡ chunk 1 (take (length s) s) p) where
   counted : n ≡ suc (n - 1)
   counted = omega arith
@@ -72,7 +72,7 @@ module _ (s : List ℕ) (n p : ℕ) (some : 0 < n) (r : ChunkRead) (said : chunk
           left = ap outcome times-more ∙ outcome-more a (times (n - 1) (chunk 1) s (a .start + a .len));
         }
 
--- none left
+-- no units left
 pub times-done : (s : List ℕ) (n p : ℕ) → n ≤ 0 → times n (chunk 1) s p ≡ value [] p
 times-done s zero p h = times-nil (chunk 1) s p
 times-done s (suc n) p h = absurd (omega arith)
@@ -94,7 +94,7 @@ measured-units s (value us q) room after e =
     record { units = us; read = ap (value us) (sym z); long = omega arith }
 measured-units s (refused n) room after e = absurd (let z : _≡_ {A = ℕ} 0 1 = cc in omega arith)
 
--- there is room for the list
+-- the output has room for the list
 module _ (s : List ℕ) (x : Parsed (List Span)) (room after : ℕ) (m : UnitsMeasured s x room after) where
   pub measured-copies : (out : List ℕ) → 7 + room ≤ length out → Puts (unitBytes 4 s) (outcome x) out 7
   measured-copies out h = record { it = m .units; found = ap outcome (m .read); room = omega (arith, m .long) }
@@ -109,7 +109,7 @@ pub measured-refused : (s : List ℕ) (x : Parsed (List Span)) (n : ℕ) → ref
 measured-refused s (value us q) n e = absurd (let z : _≡_ {A = ℕ} 0 1 = cc in omega arith)
 measured-refused s (refused m) n e = let z : m ≡ n = cc in ap refused z
 
--- the list stored piece by piece
+-- the list stored part by part
 pub list-stored : (s : List ℕ) (o : Outcome (List Span)) (out d e f : List ℕ) (room to : ℕ) → Puts (unitBytes 4 s) o out to
     → room ≡ length (bytesOf (unitBytes 4 s) o) → d ≡ set out 0 1 → e ≡ sets d 1 (toBe 4 (2 + room) ++ (0 ∷ 0 ∷ [])) → f ≡ sets e 7 (bytesOf (unitBytes 4 s) o)
     → f ≡ sets out 0 (foundList s o)

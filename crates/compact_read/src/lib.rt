@@ -1,4 +1,4 @@
-// Reading a compact record into its fields and a unit list.
+// Compact read: a compact record read into its configuration and a unit list (SCOPE 3.2).
 pub mod record_units;
 
 use boxes::place;
@@ -10,7 +10,8 @@ ghost use Rattle.parse.specs.Outcome.{lentOutput};
 ghost use Rattle.compact.specs.Compact.{parseCompact};
 ghost use Rattle.compact.specs.Answers.{compactOf};
 
-// Reads a record, the original's `CompactVvcConfig::parse`; its units go to the output as a unit list of one array. Refusals: 23, 1, 7, 20.
+// Reads a compact record (the original's `CompactVvcConfig::parse`); its units go to the output as a unit list of one array.
+// Refusals: 23, 1, 7, 20.
 pub fn parse(record: &[u8], out: &mut [u8]) -> CompactRead
     ensures { λ r. ⌜ (compactOf r, now (out .exit)) ≡ lentOutput (parseCompact (now («record» .entry))) (now (out .entry)) ⌝ }
 {

@@ -17,19 +17,19 @@ ghost use Rattle.parse.specs.inner.Stores.{bytesOf, Puts};
 ghost use Rattle.unit_list.specs.inner.Written.{unitBytes};
 ghost use Rattle.compact.specs.Compact.{configOf};
 
-// How many bytes the units take in a list, and the place after them in the record; or that they are not all there.
+// The bytes that units take in a list, and the place after them in the record; or that the record is too short.
 pub enum UnitsRoom {
     Room(usize, usize),
     Short,
 }
 
-// How many units a record has and how many bytes they take in a list; or the refusal.
+// The unit count of a record and the bytes that its units take in a list; or the refusal.
 pub enum RecordRoom {
     Room(usize, usize),
     Refused(Refusal),
 }
 
-// The fields of the first byte.
+// The configuration in the first byte of a record.
 pub fn config_of(first: u8) -> CompactVvcConfig
     ensures { λ r. ⌜ r ≡ configOf first ⌝ }
 {
@@ -41,7 +41,7 @@ pub fn config_of(first: u8) -> CompactVvcConfig
     }
 }
 
-// Measures `count` units.
+// Measures `count` units, from place 1 of the record on.
 fn units_room(record: &[u8], count: usize) -> UnitsRoom
     requires { ⌜ (1 ≤ length (now «record»)) × (length (now «record») ≤ 2 ^ 30) ⌝ }
     ensures { λ r. ⌜ (unitsRoomOf r ≡ measured (now («record» .entry)) 0 (recordUnits (now («record» .entry)) count)) × RoomSmall r ⌝ }
@@ -81,7 +81,7 @@ pub fn record_room(record: &[u8]) -> RecordRoom
     RecordRoom::Room(count, room)
 }
 
-// Stores `count` units from a place on, each after a length of four bytes.
+// Stores `count` units of the record from place `to` on, each after a length of four bytes.
 fn put_units(record: &[u8], count: usize, out: &mut [u8], to: usize)
     requires { ⌜ (1 ≤ length (now «record»)) × (length (now «record») ≤ 2 ^ 30) × Puts (unitBytes 4 (now «record»)) (outcome (recordUnits (now «record») count)) (now out) to ⌝ }
     ensures { λ _. ⌜ now (out .exit) ≡ sets (now (out .entry)) to (bytesOf (unitBytes 4 (now («record» .entry))) (outcome (recordUnits (now («record» .entry)) count))) ⌝ }
@@ -100,7 +100,7 @@ fn put_units(record: &[u8], count: usize, out: &mut [u8], to: usize)
     }
 }
 
-// Stores the list of `count` units, which take `room` bytes: its version, the head of its one array, the units.
+// Stores the list of `count` units, which take `room` bytes: version, the head of the one array, the units.
 pub fn put_list(record: &[u8], count: usize, room: usize, out: &mut [u8])
     requires { ⌜ (1 ≤ length (now «record»)) × (length (now «record») ≤ 2 ^ 30) × Puts (unitBytes 4 (now «record»)) (outcome (recordUnits (now «record») count)) (now out) 7 × (room ≡ length (bytesOf (unitBytes 4 (now «record»)) (outcome (recordUnits (now «record») count)))) ⌝ }
     ensures { λ _. ⌜ now (out .exit) ≡ sets (now (out .entry)) 0 (foundList (now («record» .entry)) (outcome (recordUnits (now («record» .entry)) count))) ⌝ }

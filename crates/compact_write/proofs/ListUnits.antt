@@ -1,4 +1,4 @@
--- Laws of the units of a list that is walked to be written as a compact record: all measured, and the record's refusals.
+-- Laws of the units of a list that is written as a compact record: units measured, and the refusals of the record.
 use Prim.Native.Nat.{ℕ, _+_, _-_, _^_, _≤_, _<_}
 use mathlib.Core.Path.{_≡_, refl, sym, ap, _∙_}
 use mathlib.Core.Bool.{Bool, true, false, not, _&&_, and-true, and-assoc}
@@ -36,7 +36,7 @@ use Rattle.unit_list.specs.inner.Written.{unitBytes}
 use Rattle.parse.specs.inner.Stores.{bytesOf, Puts}
 use Rattle.boxes.proofs.PrefixSizes.{size-inside}
 
--- one unit more, and the others after it
+-- one unit added, then the others
 module _ (s : List ℕ) (a : Span) (inside : a .start + a .len ≤ length s) (v : RecordSum) where
   adding-more : (us : List Span) → addingAll s (addingUnit (a .len) v) us ≡ addingAll s v (a ∷ us)
   unfolding allAtMost
@@ -50,7 +50,7 @@ module _ (s : List ℕ) (a : Span) (inside : a .start + a .len ≤ length s) (v 
   summed-more (accept us) = ap accept (adding-more us)
   summed-more (refuse n) = refl
 
--- noUnits left
+-- no units left
 pub adding-none : (s : List ℕ) (v : RecordSum) → addingAll s v [] ≡ v
 unfolding allAtMost encodeUnits
 adding-none s v =
@@ -58,7 +58,7 @@ adding-none s v =
     let k : v .room + 0 ≡ v .room = omega arith in
     rw (n, k, and-true (v .fits))
 
--- the walk from c has come to `here` and measured v
+-- the walk from c has come to `here` and its sum is v
 pub record Summing (s : List ℕ) (c here : ListCursor) (v : RecordSum) : Type 0 where
   pub fits : Fits s here
   pub few : v .count + v .room ≤ here .at
@@ -96,7 +96,7 @@ module _ (s : List ℕ) (c : ListCursor) where
             whole = summed-more s a (turn .inside) v (unitsLeft s next) ∙ ap (summed s v) (sym (turn .rest)) ∙ i .whole;
           }
 
--- what is known of a list once it is measured
+-- what is known of a list that was measured
 pub record Sum (s : List ℕ) (o : Outcome (List Span)) (v : RecordSum) : Type 0 where
   pub units : List Span
   pub found : o ≡ accept units
@@ -120,13 +120,13 @@ pub sum-refused : (s : List ℕ) (o : Outcome (List Span)) (n : ℕ) → refuse 
 sum-refused s (accept us) n e = absurd (let z : _≡_ {A = ℕ} 0 1 = cc in omega arith)
 sum-refused s (refuse m) n e = let z : m ≡ n = cc in ap refuse z
 
--- the record stored: its first byte, then its units
+-- the first byte and then the units are the record
 pub record-stored : (out d e us : List ℕ) (b k : ℕ) → b ≡ k → d ≡ set out 0 b → e ≡ sets d 1 us → e ≡ sets out 0 (k ∷ us)
 record-stored out d e us b k h f g = g ∙ rw (f, h)
 
--- ### the record of a list that is measured
+-- ### the record of a list that was measured
 
--- its length by the code's tests
+-- its length, by the tests of the code
 module _ (c : CompactVvcConfig) (v : RecordSum) where
   pub length-outside : outside (c .«length_size») ≡ true → refuse 4 ≡ recordLength c v
   length-outside h = rw h
@@ -143,7 +143,7 @@ module _ (c : CompactVvcConfig) (v : RecordSum) where
       pub length-given : v .fits ≡ true → accept (1 + v .room) ≡ recordLength c v
       length-given h = rw (inside, le-leb 2 (v .count) two, le-leb (v .count) 33 most, h)
 
--- a record that has a length: what was tested
+-- the tests that a record with a length has passed
 pub record Long (c : CompactVvcConfig) (v : RecordSum) (n : ℕ) : Type 0 where
   pub one : 1 ≤ c .«length_size»
   pub four : c .«length_size» ≤ 4
@@ -168,7 +168,7 @@ module _ (c : CompactVvcConfig) (s : List ℕ) (o : Outcome (List Span)) (v : Re
   units-long : length (map (held s) (m .units)) ≡ v .count
   units-long = length-map (m .units) (held s) ∙ sym (m .count)
 
-  -- it is refused where its length is, and has that length
+  -- the record is refused when its length is, and has that length
   recorded : compactRecordOf c s o ≡ andThen (recordLength c v) (λ n. accept (compactFirstByte c (v .count) ∷ bytesOf (unitBytes 1 s) o))
   unfolding compactBytes
   recorded =

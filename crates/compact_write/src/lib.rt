@@ -1,4 +1,4 @@
-// Writing a compact record from its fields and a unit list.
+// Compact write: a compact record from a configuration and a unit list (SCOPE 4.2).
 pub mod list_units;
 
 use compact::CompactVvcConfig;
@@ -10,7 +10,8 @@ ghost use Rattle.parse.specs.Outcome.{lentOutput, counted};
 ghost use Rattle.parse.specs.Answers.{writtenOf};
 ghost use Rattle.compact.specs.Compact.{serializeCompact};
 
-// Writes the record of a list's units, in order, the original's `CompactVvcConfig::serialize`. Refusals: 23, 21, 4, 8, 9, 20.
+// Writes the record of a configuration and the units of a list, in order (the original's `CompactVvcConfig::serialize`).
+// Refusals: 23, 21, 4, 8, 9, 20.
 pub fn serialize(config: CompactVvcConfig, list: &[u8], out: &mut [u8]) -> Written
     ensures { λ r. ⌜ (writtenOf r, now (out .exit)) ≡ lentOutput (counted (serializeCompact config (now (list .entry)))) (now (out .entry)) ⌝ }
 {

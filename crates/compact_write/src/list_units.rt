@@ -22,20 +22,20 @@ ghost use Rattle.parse.specs.inner.Stores.{bytesOf, Puts};
 ghost use Rattle.unit_list.specs.inner.Written.{unitBytes};
 ghost use Rattle.compact.specs.Compact.{compactFirstByte};
 
-// The units seen so far: how many, the bytes that they take after lengths of one byte, and whether all fit such a length.
+// The units so far: their count, the bytes that they take after lengths of one byte, and whether each length fits one byte.
 pub struct RecordSum {
     pub count: usize,
     pub room: usize,
     pub fits: bool,
 }
 
-// All units of a list, or that it is malformed.
+// The sum over all units of a list, or that the list is malformed.
 pub enum ListSum {
     Sum(RecordSum),
     Malformed,
 }
 
-// One unit more.
+// One unit of `len` bytes added.
 fn add(sum: RecordSum, len: usize) -> RecordSum
     requires { ⌜ sum .count + sum .room + len < 2 ^ 32 ⌝ }
     ensures { λ r. ⌜ r ≡ addingUnit len sum ⌝ }
@@ -80,7 +80,7 @@ fn units_sum(list: &[u8], c: ListCursor) -> ListSum
     }
 }
 
-// Stores the units after a cursor from a place on, each after a length of one byte.
+// Stores the units after a cursor from place `to` on, each after a length of one byte.
 fn put_units(list: &[u8], c: ListCursor, out: &mut [u8], to: usize)
     requires { ⌜ Fits (now list) c × Puts (unitBytes 1 (now list)) (unitsLeft (now list) c) (now out) to ⌝ }
     ensures { λ _. ⌜ now (out .exit) ≡ sets (now (out .entry)) to (bytesOf (unitBytes 1 (now (list .entry))) (unitsLeft (now (list .entry)) c)) ⌝ }
@@ -97,7 +97,7 @@ fn put_units(list: &[u8], c: ListCursor, out: &mut [u8], to: usize)
     }
 }
 
-// The first byte of a record: the flag, the prefix size minus 1, the unit count minus 2.
+// The first byte of a record: flag 1, prefix size minus 1 in 2 bits, unit count minus 2 in 5.
 fn first_byte(config: CompactVvcConfig, count: usize) -> u8
     requires { ⌜ (1 ≤ config .«length_size») × (config .«length_size» ≤ 4) × (2 ≤ count) × (count ≤ 33) ⌝ }
     ensures { λ r. ⌜ r ≡ compactFirstByte config count ⌝ }
@@ -109,7 +109,7 @@ fn first_byte(config: CompactVvcConfig, count: usize) -> u8
     low
 }
 
-// Stores the record of `count` units after a cursor: the first byte, the units.
+// Stores the record of the `count` units after a cursor: the first byte, then the units.
 fn store_record(config: CompactVvcConfig, count: usize, list: &[u8], c: ListCursor, out: &mut [u8])
     requires { ⌜ (1 ≤ config .«length_size») × (config .«length_size» ≤ 4) × (2 ≤ count) × (count ≤ 33) × Fits (now list) c × Puts (unitBytes 1 (now list)) (unitsLeft (now list) c) (now out) 1 ⌝ }
     ensures { λ _. ⌜ now (out .exit) ≡ sets (now (out .entry)) 0 (compactFirstByte config count ∷ bytesOf (unitBytes 1 (now (list .entry))) (unitsLeft (now (list .entry)) c)) ⌝ }
@@ -119,7 +119,7 @@ fn store_record(config: CompactVvcConfig, count: usize, list: &[u8], c: ListCurs
     put_units(list, c, out, 1);
 }
 
-// How long the record of units that are measured is. Refusals: 4, 8, 9.
+// The length of the record of units that were measured. Refusals: 4, 8, 9.
 fn record_len(config: CompactVvcConfig, sum: RecordSum) -> Counted
     requires { ⌜ sum .room ≤ 2 ^ 32 ⌝ }
     ensures { λ r. ⌜ countOf r ≡ recordLength config sum ⌝ }
@@ -136,7 +136,7 @@ fn record_len(config: CompactVvcConfig, sum: RecordSum) -> Counted
     Counted::Count(1 + sum.room)
 }
 
-// The record of the units after a cursor. Refusals: 21, 4, 8, 9, 20.
+// Writes the record of the units after a cursor. Refusals: 21, 4, 8, 9, 20.
 pub fn put_compact(config: CompactVvcConfig, list: &[u8], c: ListCursor, out: &mut [u8]) -> Written
     requires { ⌜ Fits (now list) c ⌝ }
     ensures { λ r. ⌜ (writtenOf r, now (out .exit)) ≡ lentOutput (counted (compactRecordOf config (now (list .entry)) (unitsLeft (now (list .entry)) c))) (now (out .entry)) ⌝ }

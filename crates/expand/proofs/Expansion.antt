@@ -1,4 +1,4 @@
--- Laws of an expansion into lent output: what is returned on a refusal, where the list is too long (20), and where it fits.
+-- Laws of an expansion with an output: a refusal, a list that is too long (20), and one that fits.
 use Prim.Native.Nat.{ℕ, _≤_, _<_}
 use mathlib.Core.Path.{_≡_, ap}
 use mathlib.Core.List.{List, map}
@@ -21,7 +21,7 @@ use Rattle.grouping.specs.inner.Units.{heldUnits}
 use Rattle.expand.specs.inner.ParameterSets.{withUnits}
 use Rattle.parse.proofs.General.{sets-front}
 
--- what a call returns: the answer with the head, and what the output then holds
+-- what a call returns: the answer with the head, and the output after the call
 abbrev pub Given : Type 0
 Given = (Outcome FullHead × VvcConfig) × List ℕ
 

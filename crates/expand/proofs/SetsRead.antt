@@ -1,4 +1,4 @@
--- Laws of the parameter sets: what a set that was found and read says of the PTL, and how the refusals follow each other.
+-- Laws of the parameter sets: the PTL of a set that was found and read, and the order of the refusals.
 use Prim.Native.Nat.{ℕ}
 use mathlib.Core.Path.{_≡_, refl, sym, ap, _∙_}
 use mathlib.Core.Bool.{Bool, true, false}
@@ -39,7 +39,7 @@ module _ {A : Type 0} (z : A) (r : ParamsAnswer) (a : A) (o : Outcome A) (f : (p
   pub read-refusal : (e : Refusal) → r ≡ P.Refused e → o ≡ refuse (numberOf e)
   read-refusal n e = read-said ∙ ap (λ (x : ParamsAnswer). paramsReadOf x a) e
 
-  -- whether it was read, without the value
+  -- whether it was read, without its value
   pub read-whether : _≡_ {A = Outcome (Unit {0})} (paramsReadOf r tt) (andThen o (λ _. accept tt))
   read-whether = go r ∙ ap (λ (x : Outcome A). andThen x (λ _. accept tt)) (sym read-said)
     where

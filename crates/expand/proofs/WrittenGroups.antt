@@ -1,4 +1,4 @@
--- The arrays of grouped units can be written in a full record, where the units are few and short and the types without a count have one unit at most.
+-- The arrays of grouped units can be written in a full record if the units are few and short and types 12 and 13 have at most one unit.
 use Prim.Native.Nat.{ℕ, _≤_}
 use native.Mathlib.Omega.{arith}
 use mathlib.Core.Path.{_≡_, refl}
@@ -14,7 +14,7 @@ use Rattle.record_arrays.specs.Write.{unitsFit, arrayFits, arraysFit}
 use Rattle.grouping.specs.Grouping.{havingType, firsts, group, grouped}
 use Rattle.grouping.proofs.GroupedFits.{Every, EachOf, every-having, having-le, Has-units, types-have}
 
--- The arrays of units that are few and short, with at most one unit of each type without a count, can be written.
+-- few and short units, with at most one unit of each type without a count: their arrays can be written
 pub record Groupable (us : List (List ℕ)) : Type 0 where
   pub count : length us ≤ 255
   pub short : Every (λ u. length u ≤ 255) us

@@ -1,4 +1,4 @@
--- What the answers of this crate say.
+-- The outcomes that the answers of expansion mean (SCOPE 3.8 and 6.1).
 use Prim.Native.Nat.{ℕ}
 use mathlib.Core.List.{List}
 use Rattle.parse.specs.Outcome.{Outcome, accept, refuse, handsBack, lentOutput}
@@ -10,14 +10,15 @@ use Rattle.expand.specs.declared.ExpandAnswer.{ExpandAnswer}
 use Rattle.expand.specs.declared.ExpandAnswer.the-variants as E
 use Rattle.expand.specs.declared.Expanded.{Expanded}
 
+-- an expansion with its head, or a refusal by its number
 abbrev pub expandAnswerOf : ExpandAnswer → VvcConfig → Outcome FullHead
 expandAnswerOf (E.List len) h = accept (record { head = h; listLength = len })
 expandAnswerOf (E.Refused e) h = refuse (numberOf e)
 
--- the answer, and what stands in the struct's head, on a refusal too
+-- the answer, and the head beside it, which is also there on a refusal
 abbrev pub expandedOf : Expanded → Outcome FullHead × VvcConfig
 expandedOf r = (expandAnswerOf (r .answer) (r .head), r .head)
 
--- an expansion into lent output: the answer, the head beside it and what the output then holds
+-- an expansion with an output: the answer, the head, and the output after the call
 abbrev pub expandedGiven : Outcome (FullHead × List ℕ) → List ℕ → (Outcome FullHead × VvcConfig) × List ℕ
 expandedGiven o out = (handsBack (λ r. r .head) zeroHead (lentOutput o out .0), lentOutput o out .1)

@@ -1,4 +1,4 @@
--- The full record that a compact record stands for (ISO/IEC 23008-12 Amd 2 L.4.3.3.4).
+-- Expansion of a compact record to a full one (SCOPE 3.8; ISO/IEC 23008-12 Amd 2 L.4.3.3.4).
 use Prim.Native.Nat.{ℕ, _-_, min}
 use mathlib.Core.Bool.{Bool, true, false}
 use mathlib.Core.List.{List, map}
@@ -17,7 +17,7 @@ use Rattle.grouping.specs.Grouping.{havingType, firstElement, grouped}
 use Rattle.compact.specs.declared.CompactVvcConfig.{CompactVvcConfig}
 use Rattle.full.specs.declared.VvcConfig.{VvcConfig}
 
--- "with the flag set, 16 no VPS, then its refusals"
+-- step 1: with the flag set, 16 if there is no VPS, then the refusals of the first
 unfoldable pub multiLayerVps : Bool → List (List ℕ) → Outcome (Unit {0})
 multiLayerVps false us = accept tt
 multiLayerVps true us = do
@@ -25,7 +25,7 @@ multiLayerVps true us = do
   vpsFirstPtl vps
   accept tt
 
--- "PTL of the firstElement SPS or else the firstElement VPS": 18 neither PTL nor VPS; the VPS's refusals
+-- step 3: the PTL of the SPS; if it has none, that of the first VPS: 18 if there is no VPS, then its refusals
 unfoldable pub ptlOfSets : SpsHead → List (List ℕ) → Outcome VvcPtlRecord
 ptlOfSets sps us =
     if sps .«ptl_present_flag» then accept (sps .ptl)
@@ -33,15 +33,14 @@ ptlOfSets sps us =
       vps ← orRefuse 18 (firstElement (havingType 14 us))
       vpsFirstPtl vps
 
--- what the caller knows of the picture
+-- the picture, as the caller knows it
 pub record Picture : Type 0 where
   pub chroma : ℕ
   pub depth : ℕ
   pub width : ℕ
   pub height : ℕ
 
--- "Head: size kept, PTL flag 1, operating point 0, sublayers 1, constant rate 1, chroma as given, depth minus 8 (0 below 8),
--- dimensions cut at 65,535, average rate 0"
+-- the head, field by field as in SCOPE 3.8; a depth below 8 is written as 0, a side above 65,535 as 65,535
 abbrev pub expandedHead : CompactVvcConfig → Picture → VvcPtlRecord → VvcConfig
 expandedHead c pic ptl = record {
   «length_size» = c .«length_size»;
@@ -57,15 +56,16 @@ expandedHead c pic ptl = record {
   «avg_frame_rate» = 0;
 }
 
--- what expansion returns
+-- what expansion returns: the head and the length of the list
 pub record FullHead : Type 0 where
   pub head : VvcConfig
   pub listLength : ℕ
 
+-- a head and a list as what expansion returns and writes
 abbrev pub withList : VvcConfig → List ℕ → FullHead × List ℕ
 withList h list = (record { head = h; listLength = length list }, list)
 
--- the head and list of units: the refusals of expansion after 23 and 21
+-- the head and list of units: steps 1 to 4, with the refusals after 23 and 21
 unfoldable pub expandUnits : CompactVvcConfig → Picture → List (List ℕ) → Outcome (FullHead × List ℕ)
 expandUnits c pic us = do
   multiLayerVps (c .«multi_layer_flag») us
@@ -74,7 +74,7 @@ expandUnits c pic us = do
   ptl ← ptlOfSets sps us
   accept (withList (expandedHead c pic ptl) (encode (grouped us)))
 
--- `CompactVvcConfig::to_full`: 23, 21, then those; with the output 20
+-- `to_full`. Refusals: 23, 21, then those of `expandUnits`; with an output 20
 unfoldable pub toFull : CompactVvcConfig → Picture → List ℕ → Outcome (FullHead × List ℕ)
 toFull c pic list = do
   us ← listUnits list

@@ -1,4 +1,4 @@
-// Internal: the head of an expanded record.
+// Internal: the head of an expanded record (SCOPE 3.8).
 use compact::CompactVvcConfig;
 use full::VvcConfig;
 use ptl::VvcPtlRecord;
@@ -6,7 +6,7 @@ ghost use mathlib.Core.Path.{_≡_};
 ghost use Prim.Native.Nat.{_-_, min};
 ghost use Rattle.expand.specs.Expand.{expandedHead};
 
-// A width or height, cut at 65,535.
+// A width or height, at most 65,535.
 fn cut(side: u32) -> u16
     ensures { λ r. ⌜ r ≡ min side 65535 ⌝ }
 {
@@ -16,7 +16,7 @@ fn cut(side: u32) -> u16
     side as u16
 }
 
-// A depth minus 8, 0 below 8.
+// A bit depth minus 8; 0 for a depth below 8.
 fn depth_minus8(bit_depth: u8) -> u8
     ensures { λ r. ⌜ r ≡ «bit_depth» - 8 ⌝ }
 {
@@ -26,7 +26,7 @@ fn depth_minus8(bit_depth: u8) -> u8
     bit_depth - 8
 }
 
-// The head that a compact record with this PTL expands to, for a picture as the caller knows it.
+// The head that a compact record with this PTL expands to, for the caller's picture.
 pub fn expanded_head(
     config: CompactVvcConfig,
     chroma_format_idc: u8,

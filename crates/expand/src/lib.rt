@@ -1,4 +1,4 @@
-// Expansion of a compact record into the head and unit list of a full one.
+// Expand: the head and unit list of the full record that a compact record expands to (SCOPE 3.8).
 pub mod head;
 pub mod parameter_sets;
 
@@ -18,7 +18,7 @@ ghost use Rattle.expand.specs.Answers.{expandedOf, expandedGiven};
 ghost use Rattle.grouping.specs.inner.Units.{Readable, unitsAt};
 ghost use Rattle.expand.specs.inner.ParameterSets.{withUnits};
 
-// What a compact record expands to: so many bytes of the output are the unit list.
+// The length of the unit list in the output, or the refusal.
 pub enum ExpandAnswer {
     List(usize),
     Refused(Refusal),
@@ -42,7 +42,7 @@ fn refused(e: Refusal) -> Expanded
     }
 }
 
-// A head with the list of the units after a cursor, which goes to the output. Refusal: 20.
+// The head, with the list of the units after a cursor written to the output. Refusal: 20.
 fn put_expanded(full_head: VvcConfig, list: &[u8], c: ListCursor, out: &mut [u8]) -> Expanded
     requires { ⌜ Readable (now list) c ⌝ }
     ensures { λ r. ⌜ (expandedOf r, now (out .exit)) ≡ expandedGiven (withUnits «full_head» (unitsAt (now (list .entry)) c)) (now (out .entry)) ⌝ }
@@ -59,7 +59,7 @@ fn put_expanded(full_head: VvcConfig, list: &[u8], c: ListCursor, out: &mut [u8]
     }
 }
 
-// What the units after a cursor expand to. Refusals: with the flag set 16 and the VPS's; 17, the SPS's, 18, the VPS's, 20.
+// Expands the units after a cursor. Refusals: with the flag set 16 and the VPS's; 17, the SPS's, 18, the VPS's, 20.
 fn expand_units(
     config: CompactVvcConfig,
     list: &[u8],
@@ -93,7 +93,7 @@ fn expand_units(
     }
 }
 
-// The full record that a compact record and its units stand for; the units go to the output grouped by type, as a unit list.
+// Expands a compact record with the units of a list (the original's `CompactVvcConfig::to_full`); the units go to the output grouped by type.
 // Refusals: 23, 21; with the flag set 16 and the VPS's; 17, the SPS's, 18, the VPS's, 20.
 pub fn to_full(
     config: CompactVvcConfig,

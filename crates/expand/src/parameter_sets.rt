@@ -1,4 +1,4 @@
-// Internal: the PTL that the parameter sets of a list give.
+// Internal: the PTL of the parameter sets of a list.
 use boxes::place;
 use error::Refusal;
 use grouping::units;
@@ -18,7 +18,7 @@ ghost use Rattle.expand.specs.Expand.{multiLayerVps, ptlOfSets};
 ghost use Rattle.grouping.specs.inner.Units.{Readable, unitsAt};
 ghost use Rattle.expand.specs.inner.ParameterSets.{ptlOrZeros, firstVpsPtl, firstSpsPtl, setsPtl};
 
-// The first PTL of the first VPS after a cursor. Refusals: `missing` where there is no VPS, and the VPS's.
+// The PTL of the first VPS after a cursor. Refusals: `missing` if there is no VPS, and the VPS's.
 fn vps_ptl(list: &[u8], c: ListCursor, missing: Refusal) -> PtlRead
     requires { ⌜ Readable (now list) c ⌝ }
     ensures { λ r. ⌜ vpsPtlOf r ≡ ptlOrZeros (firstVpsPtl (numberOf missing) (unitsAt (now (list .entry)) c)) ⌝ }
@@ -31,7 +31,7 @@ fn vps_ptl(list: &[u8], c: ListCursor, missing: Refusal) -> PtlRead
     vps::vps_first_ptl(unit)
 }
 
-// With the flag set the first VPS has to read. Refusals: 16, the VPS's.
+// With the flag set, reads the first VPS. Refusals: 16, the VPS's.
 fn multi_layer_vps(multi_layer_flag: bool, list: &[u8], c: ListCursor) -> ParamsAnswer
     requires { ⌜ Readable (now list) c ⌝ }
     ensures { λ r. ⌜ paramsReadOf r tt ≡ multiLayerVps «multi_layer_flag» (unitsAt (now (list .entry)) c) ⌝ }
@@ -43,7 +43,7 @@ fn multi_layer_vps(multi_layer_flag: bool, list: &[u8], c: ListCursor) -> Params
     read.answer
 }
 
-// The PTL of an SPS, or else of the first VPS. Refusals: 18, the VPS's.
+// The PTL of an SPS; if it has none, that of the first VPS. Refusals: 18, the VPS's.
 fn ptl_of_sets(sps: SpsHead, list: &[u8], c: ListCursor) -> PtlRead
     requires { ⌜ Readable (now list) c ⌝ }
     ensures { λ r. ⌜ vpsPtlOf r ≡ ptlOrZeros (ptlOfSets sps (unitsAt (now (list .entry)) c)) ⌝ }
@@ -56,7 +56,7 @@ fn ptl_of_sets(sps: SpsHead, list: &[u8], c: ListCursor) -> PtlRead
     PtlRead { answer, ptl }
 }
 
-// The PTL of the first SPS, or else of the first VPS. Refusals: 17, the SPS's, 18, the VPS's.
+// The PTL of the first SPS; if it has none, that of the first VPS. Refusals: 17, the SPS's, 18, the VPS's.
 fn sps_ptl(list: &[u8], c: ListCursor) -> PtlRead
     requires { ⌜ Readable (now list) c ⌝ }
     ensures { λ r. ⌜ vpsPtlOf r ≡ ptlOrZeros (firstSpsPtl (unitsAt (now (list .entry)) c)) ⌝ }
@@ -75,7 +75,7 @@ fn sps_ptl(list: &[u8], c: ListCursor) -> PtlRead
     }
 }
 
-// The PTL that the parameter sets after a cursor give. Refusals: with the flag set 16 and the VPS's; 17, the SPS's, 18, the VPS's.
+// The PTL of the parameter sets after a cursor. Refusals: with the flag set 16 and the VPS's; 17, the SPS's, 18, the VPS's.
 pub fn sets_ptl(multi_layer_flag: bool, list: &[u8], c: ListCursor) -> PtlRead
     requires { ⌜ Readable (now list) c ⌝ }
     ensures { λ r. ⌜ vpsPtlOf r ≡ ptlOrZeros (setsPtl «multi_layer_flag» (unitsAt (now (list .entry)) c)) ⌝ }

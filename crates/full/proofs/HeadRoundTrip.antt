@@ -1,4 +1,4 @@
--- The head of a full record read after writing.
+-- The head of a full record read after it was written.
 use Prim.Native.Nat.{ℕ, _+_, _-_, _*_, _/_, _%_, _^_, _≤_, _<_}
 use native.Mathlib.Omega.{arith}
 use mathlib.Core.Path.{_≡_, refl, sym, ap, _∙_, subst}
@@ -23,12 +23,12 @@ use Rattle.record_arrays.proofs.ArraysRoundTrip.{byte-there, number-there}
 use Rattle.parse.proofs.General.{both-true}
 use Rattle.boxes.proofs.PrefixSizes.{size-fits}
 
--- a PTL that is read back as another
+-- PTL p, written with n sublayers, is read as q
 abbrev pub ReadsAs : VvcPtlRecord → ℕ → VvcPtlRecord → Type 0
 ReadsAs p sublayers q =
     (pre post : List ℕ) → vvcPtlRecord sublayers (pre ++ (ptlBytes p sublayers ++ post)) (length pre) ≡ value q (length pre + length (ptlBytes p sublayers))
 
--- what stands under the flag fits its place
+-- every value under the flag fits its field
 pub record Small (h : VvcConfig) : Type 0 where
   pub ols : h .«ols_idx» ≤ 511
   pub sublayers : h .«num_sublayers» ≤ 7
@@ -70,7 +70,7 @@ module _ (h : VvcConfig) (q : VvcPtlRecord) (sm : Small h) (wide : Wide h) (read
   abbrev dims : List ℕ
   dims = toBe 2 (h .«max_picture_width») ++ (toBe 2 (h .«max_picture_height») ++ (toBe 2 (h .«avg_frame_rate») ++ post))
 
-  -- the parts of s, each after those before it
+  -- s is its parts, one after the other
   whole : s ≡ pre ++ (toBe 2 (word h) ++ ((h .«bit_depth_minus8» * 32 + 31) ∷ (ptlOf ++ dims)))
   unfolding ptlPart
   whole = e ∙ ap (λ (x : List ℕ). pre ++ x) (simp append-assoc)
@@ -147,7 +147,7 @@ module _ (h : VvcConfig) (q : VvcPtlRecord) (sm : Small h) (wide : Wide h) (read
         end,
       )))
 
--- what a head must be like to be read back, with the flag and without
+-- a head that is read again, with the flag and without
 pub record Writable (h : VvcConfig) (q : VvcPtlRecord) : Type 0 where
   pub fits : headFits h ≡ true
   pub size : h .«length_size» ≡ 3 → ⊥

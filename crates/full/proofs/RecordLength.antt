@@ -1,4 +1,4 @@
--- How long a record is that was written from a list: a lent input may be so long.
+-- The length of a record written from a list is at most 2^30, so it can be an input.
 use Prim.Native.Nat.{ℕ, suc, _+_, _*_, _^_, _≤_}
 use native.Mathlib.Omega.{arith}
 use native.Mathlib.Decide.{decLe}
@@ -24,7 +24,7 @@ use Rattle.parse.proofs.General.{both-true}
 
 -- ### the head
 
--- the longest head has 63 constraint bytes, six levels and 255 sub-profiles
+-- the longest head: 63 constraint bytes, 6 levels and 255 sub-profiles
 head-short : (h : VvcConfig) → Typed h → headFits h ≡ true → length (headBytes h) ≤ 1104
 unfolding headBytes headFits
 head-short h t e =
@@ -41,7 +41,7 @@ head-short h t e =
 
 -- ### the arrays
 
--- units after 2-byte lengths, beside the same after 4-byte lengths
+-- units after lengths of 2 bytes compared with the same after lengths of 4
 units-room : (us : List (List ℕ)) → unitsFit us ≡ true
     → (length (encodeUnits 2 us) ≤ 65537 * length us) × (length (encodeUnits 4 us) ≡ length (encodeUnits 2 us) + 2 * length us)
 unfolding unitsFit encodeUnits
@@ -60,7 +60,7 @@ units-fit : (a : Array (List ℕ)) → arrayFits a ≡ true → unitsFit (a .uni
 unfolding arrayFits
 units-fit a e = let f = both-true (leb (length (a .units)) 65535) _ e in both-true (unitsFit (a .units)) _ (f .1) .0
 
--- one array in the record, and in the list
+-- an array in the record and in the list
 array-long : (a : Array (List ℕ)) → length (arrayBytes a) ≤ 3 + length (encodeUnits 2 (a .units))
 unfolding arrayBytes
 array-long a = go (holdsOne (a .unitType))
@@ -73,7 +73,7 @@ list-long : (a : Array (List ℕ)) → length (encodeArray 4 a) ≡ 6 + length (
 unfolding encodeArray
 list-long a = length-toChunk 4 (a .complete ∷ a .unitType ∷ encodeUnits 4 (a .units)) ∙ omega arith
 
--- arrays in the record: how long at most, and how much shorter than in the list
+-- arrays in the record: the greatest length, and how much shorter than in the list
 record Room (xs : List (Array (List ℕ))) : Type 0 where
   most : length (arraysBytes xs) ≤ 3 * length xs + 65537 * length (unitsOf xs)
   less : length (arraysBytes xs) + 3 * length xs + 2 * length (unitsOf xs) ≤ length (encodeArrays 4 xs)
@@ -94,7 +94,8 @@ arrays-room (a ∷ xs) e =
 
 -- ### the record
 
--- A record that was written from a list that may be lent may be lent too: from 552 units on it is no longer than the list, and with fewer it is far shorter.
+-- A record written from a list of at most 2^30 bytes has at most 2^30 bytes: from 552 units on it is no longer than the list, and with fewer it is
+-- far shorter.
 pub record-lent : (h : VvcConfig) → Typed h → (xs : List (Array (List ℕ))) → recordFits h xs ≡ true → length (encode xs) ≤ 2 ^ 30 → length (fullBytes h xs) ≤ 2 ^ 30
 unfolding recordFits fullBytes encode
 record-lent h t xs e l =

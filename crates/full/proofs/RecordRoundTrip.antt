@@ -1,4 +1,4 @@
--- A full record read after writing: the same head and list, and the bytes consumed are the bytes written.
+-- A full record read after it was written: the head and list, and as many bytes consumed as were written.
 use Prim.Native.Nat.{ℕ, _+_, _^_, _≤_}
 use native.Mathlib.Omega.{arith}
 use mathlib.Core.Path.{_≡_, refl, sym, ap, _∙_, subst}
@@ -85,7 +85,7 @@ module _ (h : VvcConfig) (t : Typed h) (xs : List (Array (List ℕ))) (sound : S
       let s = small h (ptl-part e f) in
       P.round-trip (h .«native_ptl») (record { fits = s .ptl; info-is = t .info; subs-are = t .subs; subs-small = t .subs-small }) (h .«num_sublayers») (s .sublayers)
 
-  -- for every head and arrays that the writer accepts
+  -- for every head and arrays that are accepted
   pub read-after-write : (b : List ℕ) → writeFull h xs ≡ accept b → length b ≤ 2 ^ 30
       → parseFull b ≡ accept (record { head = headRead h; consumed = length b; listLength = length (encode xs) }, encode xs)
   unfolding writeFull
@@ -101,7 +101,7 @@ module _ (h : VvcConfig) (t : Typed h) (xs : List (Array (List ℕ))) (sound : S
           subst (λ (v : List ℕ). length v ≤ 2 ^ 30 → parseFull v ≡ accept (record { head = headRead h; consumed = length v; listLength = length (encode xs) }, encode xs)) is
           (read-written h (asWritten (h .«native_ptl») (h .«num_sublayers»)) xs w sound f) l
 
--- a head with the flag whose PTL is as it is read comes back whole
+-- a head with the flag and a PTL as it is read is read unchanged
 pub head-kept : (h : VvcConfig) → h .«ptl_present_flag» ≡ true → Canonical (h .«native_ptl») (h .«num_sublayers») → headRead h ≡ h
 head-kept h f c =
     let q = kept (h .«native_ptl») (h .«num_sublayers») c in

@@ -19,7 +19,7 @@ use Rattle.full.specs.declared.VvcConfig.{VvcConfig}
 use Rattle.full.proofs.RecordLength.{record-lent}
 use Rattle.full.proofs.RecordRoundTrip.{read-after-write}
 
--- a record that was written from a list that may be lent may be lent too
+-- a record written from a list of at most 2^30 bytes has at most 2^30 bytes
 written-lent : (h : VvcConfig) → Typed h → (xs : List (Array (List ℕ))) (b : List ℕ) → writeFull h xs ≡ accept b → length (encode xs) ≤ 2 ^ 30 → length b ≤ 2 ^ 30
 unfolding writeFull
 written-lent h t xs b e l = go (eqb (h .«length_size») 3) (recordFits h xs) refl e

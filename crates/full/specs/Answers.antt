@@ -1,4 +1,4 @@
--- What a head's calls give, and what their answers say.
+-- What the calls of a head return (SCOPE 4.3), and the outcomes that their answers mean.
 use Prim.Native.Nat.{ℕ, _+_}
 use mathlib.Core.List.{List}
 use mathlib.Core.Option.{Option}
@@ -14,18 +14,19 @@ use Rattle.full.specs.declared.VvcConfig.{VvcConfig}
 use Rattle.full.specs.declared.BitDepth.{BitDepth}
 use Rattle.full.specs.declared.BitDepth.the-variants as B
 
+-- the outcome that an answer means
 abbrev pub depthOf : BitDepth → Outcome ℕ
 depthOf (B.Bits n) = accept n
 depthOf (B.Refused e) = refuse (numberOf e)
 
--- `VvcConfig::bit_depth`: "22 for depth minus 8 above 247", which a byte cannot hold with 8 more
+-- `VvcConfig::bit_depth`: 8 plus the field; 22 for a field above 247, since the sum does not fit a byte
 unfoldable pub bitDepth : VvcConfig → Outcome ℕ
 bitDepth h = if ltb 247 (h .«bit_depth_minus8») then refuse 22 else accept (h .«bit_depth_minus8» + 8)
 
--- `VvcConfig::sps`: the first unit in an array of type 15; where it lies: 23, 21
+-- `VvcConfig::sps_at`: where the first unit in an array of type 15 lies, by the array's type. Refusals: 23, 21
 abbrev pub spsPlace : List ℕ → Outcome (Option Place)
 spsPlace list = placeFound inFirst (listUnitsOfType 15 list) 0
 
--- and the part, empty where there is none and on a refusal
+-- `VvcConfig::sps`: the span of that unit, empty if there is none and on a refusal
 abbrev pub spsSpan : List ℕ → Span
 spsSpan list = found (listUnitsOfType 15 list) 0

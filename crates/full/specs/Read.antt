@@ -1,4 +1,4 @@
--- The full record read (ISO/IEC 14496-15 11.2.4.2, VvcDecoderConfigurationRecord). Reserved bits are ignored.
+-- The full record read (SCOPE 3.10; VvcDecoderConfigurationRecord, ISO/IEC 14496-15:2024 11.2.4.2). Reserved bits are ignored.
 use Prim.Native.Nat.{ℕ, _+_, _/_, _%_}
 use mathlib.Core.Bool.{true, false}
 use mathlib.Core.List.{List}
@@ -17,7 +17,7 @@ use Rattle.ptl_record.specs.Read.{vvcPtlRecord}
 use Rattle.full.specs.declared.VvcConfig.{VvcConfig}
 use Rattle.ptl.specs.declared.VvcPtlRecord.{VvcPtlRecord}
 
--- a head without the PTL flag: "the head fields under it are 0"
+-- a head without the PTL flag: the fields under the flag are 0
 abbrev pub plainHead : ℕ → VvcConfig
 plainHead size = record {
   «length_size» = size;
@@ -53,7 +53,7 @@ headFields size w d ptl width height rate = record {
   «avg_frame_rate» = rate;
 }
 
--- what ptl_present_flag announces
+-- the fields under ptl_present_flag
 unfoldable pub headWithPtl : ℕ → Parser VvcConfig
 headWithPtl size = do
   w ← uint 2  -- ols_idx 9, num_sublayers 3, constant_frame_rate 2, chroma_format_idc 2
@@ -64,12 +64,14 @@ headWithPtl size = do
   rate ← uint 2  -- avg_frame_rate
   give (headFields size w d ptl width height rate)
 
+-- the head: 3 for prefix size 3, directly after byte 0
 unfoldable pub vvcHead : Parser VvcConfig
 vvcHead = do
   b ← uint 1  -- reserved 5, LengthSizeMinusOne 2, ptl_present_flag 1
   refuseIf (eqb (b / 2 % 4) 2) 3  -- size 3
   if isSet (b % 2) then headWithPtl (b / 2 % 4 + 1) else give (plainHead (b / 2 % 4 + 1))
 
+-- the record: the head, num_of_arrays, the arrays
 unfoldable pub vvcRecord : Parser (VvcConfig × List (Array Span))
 vvcRecord = do
   head ← vvcHead
@@ -77,18 +79,18 @@ vvcRecord = do
   arrays ← times n recordArray
   give (head, arrays)
 
--- what reading returns
+-- what reading returns: the head, the number of bytes consumed, and the length of the list
 pub record FullParsed : Type 0 where
   pub head : VvcConfig
   pub consumed : ℕ
   pub listLength : ℕ
 
--- reading s gave r: what is returned, and the unit list
+-- what is returned, and the list, for what was read from s
 abbrev pub fullParsed : List ℕ → Parsed (VvcConfig × List (Array Span)) → Outcome (FullParsed × List ℕ)
 fullParsed s (refused e) = refuse e
 fullParsed s (value r p) =
     accept (record { head = r .0; consumed = p; listLength = length (encode (heldArrays s (r .1))) }, encode (heldArrays s (r .1)))
 
--- `VvcConfig::parse`: 23, 3, then in byte order 1 and 2; with the output 20
+-- `full_read::parse`. Refusals: 23, then in byte order 3, 1 and 2; with an output 20
 unfoldable pub parseFull : List ℕ → Outcome (FullParsed × List ℕ)
 parseFull s = lentInput s (fullParsed s (vvcRecord s 0))

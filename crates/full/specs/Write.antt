@@ -1,4 +1,4 @@
--- The full record written (ISO/IEC 14496-15 11.2.4.2). Reserved bits are those of the standard.
+-- The full record written (SCOPE 3.9; ISO/IEC 14496-15:2024 11.2.4.2). Reserved bits are those of the standard.
 use Prim.Native.Nat.{ℕ, _+_, _-_, _*_}
 use mathlib.Core.Bool.{Bool, true, _&&_, not}
 use mathlib.Core.List.{List, [], _∷_, _++_}
@@ -12,7 +12,7 @@ use Rattle.record_arrays.specs.Write.{arraysBytes, arraysFit}
 use Rattle.ptl_record.specs.Write.{ptlBytes, ptlFits}
 use Rattle.full.specs.declared.VvcConfig.{VvcConfig}
 
--- what stands under ptl_present_flag
+-- the fields under ptl_present_flag
 unfoldable pub ptlPart : VvcConfig → List ℕ
 ptlPart h =
     toBe 2 (h .«ols_idx» * 128 + h .«num_sublayers» * 16 + h .«constant_frame_rate» * 4 + h .«chroma_format_idc»)
@@ -22,37 +22,37 @@ ptlPart h =
     ++ toBe 2 (h .«max_picture_height»)
     ++ toBe 2 (h .«avg_frame_rate»)
 
--- 11111, LengthSizeMinusOne 2, ptl_present_flag 1, and what that announces
+-- 11111, LengthSizeMinusOne 2, ptl_present_flag 1; then the fields under the flag if it is set
 unfoldable pub headBytes : VvcConfig → List ℕ
 headBytes h =
     ((248 + (h .«length_size» - 1) * 2 + bit (h .«ptl_present_flag»)) ∷ [])
     ++ (if h .«ptl_present_flag» then ptlPart h else [])
 
--- the record
+-- the record: head, num_of_arrays, arrays
 unfoldable pub fullBytes : VvcConfig → List (Array (List ℕ)) → List ℕ
 fullBytes h xs = headBytes h ++ (length xs ∷ []) ++ arraysBytes xs
 
--- every field under ptl_present_flag fits its place
+-- every value under ptl_present_flag fits its field
 unfoldable pub ptlPartFits : VvcConfig → Bool
 ptlPartFits h =
     leb (h .«ols_idx») 511 && (leb (h .«num_sublayers») 7 && (leb (h .«constant_frame_rate») 3
     && (leb (h .«chroma_format_idc») 3 && (leb (h .«bit_depth_minus8») 7 && ptlFits (h .«native_ptl»)))))
 
--- without the PTL flag no field under it is written, so none is looked at
+-- the prefix size is 1 to 4, and with the PTL flag the values under it fit; without it they are not tested
 unfoldable pub headFits : VvcConfig → Bool
 headFits h = not (outside (h .«length_size»)) && (if h .«ptl_present_flag» then ptlPartFits h else true)
 
--- every field fits its place: else 22
+-- every value fits its field, and there are at most 255 arrays; else 22
 unfoldable pub recordFits : VvcConfig → List (Array (List ℕ)) → Bool
 recordFits h xs = headFits h && (leb (length xs) 255 && arraysFit xs)
 
--- a head and arrays written: 3, 22
+-- the record of a head and arrays. Refusals: 3, 22
 unfoldable pub writeFull : VvcConfig → List (Array (List ℕ)) → Outcome (List ℕ)
 writeFull h xs =
     if eqb (h .«length_size») 3 then refuse 3
     else if recordFits h xs then accept (fullBytes h xs)
     else refuse 22
 
--- `VvcConfig::serialize`: 23, 21, 3, 22; with the output 20
+-- `full_write::serialize`. Refusals: 23, 21, 3, 22; with an output 20
 unfoldable pub serializeFull : VvcConfig → List ℕ → Outcome (List ℕ)
 serializeFull h list = andThen (decode list) (λ xs. writeFull h (heldArrays list xs))

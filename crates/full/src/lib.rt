@@ -1,4 +1,4 @@
-// The full record: its head, and what it is as bytes.
+// The full record: its head, and the definitions of its bytes (SCOPE 3.9, 3.10 and 4.3).
 use boxes::UnitPlace;
 use error::Refusal;
 use ptl::VvcPtlRecord;
@@ -10,7 +10,7 @@ ghost use Rattle.boxes.specs.Places.{placeOf, PlaceFits};
 ghost use Rattle.full.specs.Read.{plainHead};
 ghost use Rattle.full.specs.Answers.{depthOf, bitDepth, spsSpan, spsPlace};
 
-// VvcDecoderConfigurationRecord of ISO/IEC 14496-15 11.2.4 without its arrays, which stand in a unit list beside it.
+// The head of a full record: VvcDecoderConfigurationRecord (ISO/IEC 14496-15:2024 11.2.4) without its arrays, which are in a unit list.
 // Without the PTL flag the fields under it are 0.
 pub struct VvcConfig {
     pub length_size: u8,
@@ -33,7 +33,7 @@ pub enum BitDepth {
 }
 
 impl VvcConfig {
-    // The bit depth that the head says, 8 more than its field, as far as a byte holds it. Refusal: 22.
+    // The bit depth of the head: bit_depth_minus8 plus 8. Refusal: 22.
     pub fn bit_depth(self) -> BitDepth
         ensures { λ r. ⌜ depthOf r ≡ bitDepth self ⌝ }
     {
@@ -43,14 +43,14 @@ impl VvcConfig {
         BitDepth::Bits(self.bit_depth_minus8 + 8)
     }
 
-    // Where the first SPS of a record's unit list lies, by its array's type. Refusals: 23, 21.
+    // Where the first SPS of a record's unit list lies: the first unit in an array of type 15. Refusals: 23, 21.
     pub fn sps_at(list: &[u8]) -> UnitPlace
         ensures { λ r. ⌜ (placeOf r ≡ spsPlace (now (list .entry))) × PlaceFits (now (list .entry)) [] r ⌝ }
     {
         unit_list::nal_unit_of_type_at(list, nal::NAL_SPS, 0)
     }
 
-    // The first SPS of a record's unit list, by its array's type; the empty part where there is none and on a refusal.
+    // The first SPS of a record's unit list; the empty part if there is none and on a refusal. Refusals: 23, 21.
     pub fn sps(list: &[u8]) -> &[u8]
         ensures { λ r. ⌜ PartOf r (list .entry) (spsSpan (now (list .entry))) ⌝ }
     {
@@ -58,7 +58,7 @@ impl VvcConfig {
     }
 }
 
-// Internal: a head without the PTL flag. With 0 it is the head of zeros that stands beside a refusal.
+// A head without the PTL flag: every other field is 0. With length_size 0 it is the head of a refusal.
 pub fn plain_head(length_size: u8) -> VvcConfig
     ensures { λ r. ⌜ r ≡ plainHead «length_size» ⌝ }
 {

@@ -1,4 +1,4 @@
--- What a record gives and leaves in the output: a refusal, or the head and the list that its arrays give.
+-- What reading a record returns and writes: a refusal, or the head and the list of its arrays.
 use Prim.Native.Nat.{ℕ, _^_, _≤_, _<_}
 use mathlib.Core.Path.{_≡_, refl, sym, ap, _∙_}
 use mathlib.Core.Bool.{Bool, true, false}
@@ -19,11 +19,11 @@ use Rattle.full.specs.declared.VvcConfig.{VvcConfig}
 use Rattle.full_read.specs.Answers.{fullGiven}
 use Rattle.full_read.specs.inner.Heads.{besideHead, refusedWith}
 
--- arrays that were read, with the head
+-- the arrays that were read, with the head
 abbrev with-head : VvcConfig → Parsed (List (Array Span)) → Parsed (VvcConfig × List (Array Span))
 with-head head x = bind x (λ xs q. value (head, xs) q)
 
--- what is returned and left in the output, once it is known what is read
+-- what is returned and written, when it is known what is read
 abbrev handed : Outcome (FullParsed × List ℕ) → List ℕ → (Outcome FullParsed × VvcConfig) × List ℕ
 handed o out = (handsBack (λ r. r .head) zeroHead (lentOutput o out .0), lentOutput o out .1)
 
@@ -31,7 +31,7 @@ handed o out = (handsBack (λ r. r .head) zeroHead (lentOutput o out .0), lentOu
 abbrev stored : {A : Type 0} → Bool → A → List ℕ → List ℕ → Outcome A × List ℕ
 stored b a bytes out = if b then (accept a, overlay bytes out) else (refuse 20, out)
 
--- the list of arrays in the output, with the head: the record in the output
+-- the list in the output together with the head is the record's answer
 list-handed : (s : List ℕ) (head : VvcConfig) (x : Parsed (List (Array Span))) (out : List ℕ)
     → _≡_ {A = (Outcome FullParsed × VvcConfig) × List ℕ} (besideHead head (lentOutput (listGiven s x) out .0), lentOutput (listGiven s x) out .1) (handed (fullParsed s (with-head head x)) out)
 list-handed s head (refused e) out = refl
@@ -72,7 +72,7 @@ module _ (s : List ℕ) (out : List ℕ) where
     pub given-headless : (n : ℕ) (y : Outcome FullParsed × VvcConfig) → y ≡ refusedWith n → vvcHead s 0 ≡ refused n → (y, out) ≡ fullGiven s out
     given-headless n y f w = given-refused n y f (split ∙ rw w)
 
-    -- the head is read, and its arrays are given beside it
+    -- the head is read, and the answer of the arrays joined with it
     module _ (head : VvcConfig) (q : ℕ) (w : vvcHead s 0 ≡ value head q) (o : Outcome (ℕ × ℕ)) (exit : List ℕ)
         (e : (o, exit) ≡ lentOutput (listGiven s (countedArrays s q)) out) where
       pub given-arrays : (y : Outcome FullParsed × VvcConfig) → y ≡ besideHead head o → (y, exit) ≡ fullGiven s out

@@ -1,4 +1,4 @@
--- What the definition of a head gives, case by case: the first byte, what the PTL flag announces, what follows the PTL.
+-- The definition of a head by cases: the first byte, the fields under the PTL flag, the fields after the PTL.
 use Prim.Native.Nat.{ℕ, _+_, _/_, _%_, _≤_, _<_}
 use mathlib.Core.Path.{_≡_, refl, sym, ap, _∙_}
 use mathlib.Core.List.{List}
@@ -28,7 +28,7 @@ use Rattle.parse.specs.inner.Answers.{orZeros}
 use Rattle.ptl.specs.Ptl.{zeroPtl}
 use Rattle.parse.proofs.Zeros.{zeros-beside}
 
--- what follows the PTL: three numbers of two bytes
+-- after the PTL: three numbers of two bytes
 module _ (s : List ℕ) where
   reach-number-to : (p q : ℕ) → p + 2 ≡ q → Reach (length s) (uint 2 s p) (be s p 2) q
   reach-number-to p q e = rw e at (reach-uint s 2 p)
@@ -42,7 +42,7 @@ module _ (s : List ℕ) where
       (λ _. reach-bind _ (reach-number-to (at + 4) (at + 6) (omega arith)) (omega arith)
       (λ k. reach-value _ _ k)))
 
--- what the PTL flag announces, after the first byte
+-- the fields under the PTL flag, after the first byte
 module _ (size : ℕ) (s : List ℕ) where
   no-depth : 3 ≤ length s → length s < 4 → headWithPtl size s 1 ≡ refused 1
   unfolding headWithPtl
@@ -64,7 +64,7 @@ module _ (size : ℕ) (s : List ℕ) where
     unfolding headWithPtl sizesAfter
     after-number = rw (uint-there 2 s 1 (omega arith), uint-there 1 s 3 there)
 
-    -- the PTL was read, or refused
+    -- the PTL is read or refused
     module _ (w : ℕ) (is : w ≡ be s 1 2) (r : PtlRecordRead) (f : ptlRecordOf r ≡ orZeros zeroPtl (vvcPtlRecord (w / 16 % 8) s 4)) where
       ptl-said : vvcPtlRecord (be s 1 2 / 16 % 8) s 4 ≡ ptlRecordRead (r .answer) (r .ptl)
       ptl-said = rw (← is) (sym (ap (λ (y : Parsed VvcPtlRecord × VvcPtlRecord). y .0) f ∙ zeros-beside zeroPtl (vvcPtlRecord (w / 16 % 8) s 4)))

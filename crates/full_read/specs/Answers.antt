@@ -1,4 +1,4 @@
--- What the answers of this crate say.
+-- The outcomes that the answers of full read mean (SCOPE 3.10 and 6.1).
 use Prim.Native.Nat.{ℕ}
 use mathlib.Core.List.{List}
 use Rattle.parse.specs.Outcome.{Outcome, accept, refuse, handsBack, lentOutput}
@@ -9,14 +9,15 @@ use Rattle.full_read.specs.declared.FullAnswer.{FullAnswer}
 use Rattle.full_read.specs.declared.FullAnswer.the-variants as A
 use Rattle.full_read.specs.declared.FullRead.{FullRead}
 
+-- a read record with its head, or a refusal by its number
 abbrev pub fullAnswerOf : FullAnswer → VvcConfig → Outcome FullParsed
 fullAnswerOf (A.Read consumed len) h = accept (record { head = h; consumed = consumed; listLength = len })
 fullAnswerOf (A.Refused e) h = refuse (numberOf e)
 
--- the answer, and what stands in the struct's head, on a refusal too
+-- the answer, and the head beside it, which is also there on a refusal
 abbrev pub fullOf : FullRead → Outcome FullParsed × VvcConfig
 fullOf r = (fullAnswerOf (r .answer) (r .head), r .head)
 
--- `VvcConfig::parse` into lent output: the answer, the head beside it and what the output then holds
+-- `full_read::parse` with an output: the answer, the head, and the output after the call
 abbrev pub fullGiven : List ℕ → List ℕ → (Outcome FullParsed × VvcConfig) × List ℕ
 fullGiven s out = (handsBack (λ r. r .head) zeroHead (lentOutput (parseFull s) out .0), lentOutput (parseFull s) out .1)

@@ -1,4 +1,4 @@
-// For this crate's call: the head of a full record.
+// Internal: the head of a full record.
 use boxes::place;
 use error::Refusal;
 use full::VvcConfig;
@@ -14,18 +14,19 @@ ghost use Rattle.full.specs.Read.{vvcHead, headWithPtl, zeroHead, headFields};
 ghost use Rattle.full_read.specs.inner.Heads.{headReadOf, sizesAfter};
 ghost use Rattle.parse.specs.inner.Answers.{orZeros};
 
-// A head and the place after it, or a refusal with a head of zeros.
+// The place after a head, or a refusal.
 pub enum HeadAnswer {
     Read(usize),
     Refused(Refusal),
 }
 
+// The answer with the head, which is all zeros on a refusal.
 pub struct HeadRead {
     pub answer: HeadAnswer,
     pub head: VvcConfig,
 }
 
-// A refusal, with zeros.
+// A refusal, with a head of zeros.
 fn refused(e: Refusal) -> HeadRead
     ensures { λ r. ⌜ headReadOf r ≡ orZeros zeroHead (refusedBy (numberOf e)) ⌝ }
 {
@@ -37,7 +38,7 @@ fn refused(e: Refusal) -> HeadRead
     }
 }
 
-// The fields of a head whose PTL ends at a place.
+// The fields of a head whose PTL ends at place `at`.
 fn head_fields(s: &[u8], size: u8, ptl: VvcPtlRecord, at: usize) -> VvcConfig
     requires { ⌜ (4 ≤ length (now s)) × (at + 6 ≤ length (now s)) ⌝ }
     ensures { λ r. ⌜ r ≡ headFields size (be (now (s .entry)) 1 2) (be (now (s .entry)) 3 1) ptl (be (now (s .entry)) at 2) (be (now (s .entry)) (at + 2) 2) (be (now (s .entry)) (at + 4) 2) ⌝ }
@@ -62,7 +63,7 @@ fn head_fields(s: &[u8], size: u8, ptl: VvcPtlRecord, at: usize) -> VvcConfig
     }
 }
 
-// What follows the PTL of a head, which ends at a place. Refusal: 1.
+// Reads the three fields after the PTL, which ends at place `at`. Refusal: 1.
 fn read_sizes(s: &[u8], size: u8, ptl: VvcPtlRecord, at: usize) -> HeadRead
     requires { ⌜ (length (now s) ≤ 2 ^ 30) × (4 ≤ length (now s)) ⌝ }
     ensures { λ r. ⌜ headReadOf r ≡ orZeros zeroHead (sizesAfter size (be (now (s .entry)) 1 2) (be (now (s .entry)) 3 1) ptl (now (s .entry)) at) ⌝ }
@@ -78,7 +79,7 @@ fn read_sizes(s: &[u8], size: u8, ptl: VvcPtlRecord, at: usize) -> HeadRead
     }
 }
 
-// What the PTL flag in the first byte announces. Refusals in byte order: 1, 2.
+// Reads the fields under the PTL flag. Refusals in byte order: 1, 2.
 fn read_with_ptl(s: &[u8], size: u8) -> HeadRead
     requires { ⌜ (length (now s) ≤ 2 ^ 30) × (1 ≤ length (now s)) ⌝ }
     ensures { λ r. ⌜ headReadOf r ≡ orZeros zeroHead (headWithPtl size (now (s .entry)) 1) ⌝ }
@@ -96,7 +97,7 @@ fn read_with_ptl(s: &[u8], size: u8) -> HeadRead
     }
 }
 
-// The head at the front. Refusals: 1 for no byte, 3 for size 3, then in byte order 1 and 2.
+// Reads the head at the front of a record. Refusals: 1 for an empty record, 3 for prefix size 3, then in byte order 1 and 2.
 pub fn read_head(s: &[u8]) -> HeadRead
     requires { ⌜ length (now s) ≤ 2 ^ 30 ⌝ }
     ensures { λ r. ⌜ headReadOf r ≡ orZeros zeroHead (vvcHead (now (s .entry)) 0) ⌝ }

@@ -1,4 +1,4 @@
-// Reading a full record into a head and a unit list.
+// Full read: a full record read into a head and a unit list (SCOPE 3.10).
 pub mod head;
 
 use error::LARGEST_INPUT;
@@ -12,7 +12,7 @@ ghost use Rattle.record_arrays_read.specs.inner.Arrays.{listOf};
 ghost use Rattle.full_read.specs.Answers.{fullOf, fullGiven};
 ghost use Rattle.full_read.specs.inner.Heads.{besideHead, refusedWith};
 
-// A full record that was read: bytes consumed, and how many bytes of the output its unit list takes.
+// A full record that was read: how many bytes were consumed, and the length of the list in the output.
 pub enum FullAnswer {
     Read(usize, usize),
     Refused(Refusal),
@@ -36,7 +36,7 @@ fn refused(e: Refusal) -> FullRead
     }
 }
 
-// What the arrays gave, with the head; zeros for it on a refusal.
+// The answer of the arrays, with the head; on a refusal the head is zeros.
 fn with_head(head: VvcConfig, list: ListRead) -> FullRead
     ensures { λ r. ⌜ fullOf r ≡ besideHead head (listOf list) ⌝ }
 {
@@ -49,8 +49,8 @@ fn with_head(head: VvcConfig, list: ListRead) -> FullRead
     }
 }
 
-// Reads a record, the original's `VvcConfig::parse`; its arrays go to the output as a unit list. Refusals: 23, 3, then in byte order
-// 1 and 2, 20.
+// Reads a full record (the original's `VvcConfig::parse`); its arrays go to the output as a unit list.
+// Refusals: 23, then in byte order 3, 1 and 2, then 20.
 pub fn parse(record: &[u8], out: &mut [u8]) -> FullRead
     ensures { λ r. ⌜ (fullOf r, now (out .exit)) ≡ fullGiven (now («record» .entry)) (now (out .entry)) ⌝ }
 {

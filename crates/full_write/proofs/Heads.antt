@@ -48,7 +48,7 @@ module _ (h : VvcConfig) where
   abbrev Z : List ℕ
   Z = toBe 2 (h .«avg_frame_rate»)
 
-  -- the parts under the flag, stored one after the other
+  -- the fields under the flag, stored one after the other
   pub part-stored : (d : List ℕ) (at after : ℕ) → after ≡ at + 3 + length P
       → sets (sets (set (sets d at W) (at + 2) (h .«bit_depth_minus8» * 32 + 31)) (at + 3) P) after ((X ++ Y) ++ Z) ≡ sets d at (ptlPart h)
   unfolding ptlPart
@@ -61,7 +61,7 @@ module _ (h : VvcConfig) where
       ∙ sets-then d at after ((W ++ D) ++ P) ((X ++ Y) ++ Z) (omega arith)
       ∙ ap (sets d at) (sym (append-assoc ((W ++ D) ++ P) (X ++ Y) Z) ∙ ap (λ (v : List ℕ). v ++ Z) (sym (append-assoc ((W ++ D) ++ P) X Y)))
 
-  -- what a head that fits says
+  -- what is known of a head that fits
   pub record HeadFits : Type 0 where
     pub one : 1 ≤ h .«length_size»
     pub four : h .«length_size» ≤ 4
@@ -74,7 +74,7 @@ module _ (h : VvcConfig) where
       let b = size-fits _ (a .0) in
       record { one = b .0; four = b .1; part = λ f. subst (λ (t : Bool). (if t then ptlPartFits h else true) ≡ true) f (a .1) }
 
-  -- with the flag set it is what stands under it that has to fit
+  -- with the flag set, the values under it have to fit
   pub head-flagged : outside (h .«length_size») ≡ false → h .«ptl_present_flag» ≡ true → headFits h ≡ ptlPartFits h
   unfolding headFits
   head-flagged inside e = rw inside (ap (λ (t : Bool). if t then ptlPartFits h else true) e)

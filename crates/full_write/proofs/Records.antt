@@ -30,12 +30,12 @@ use Rattle.full_write.specs.declared.RecordSize.the-variants as R
 use Rattle.parse.proofs.General.{both-true}
 use Rattle.parse.specs.inner.Stores.{Puts, bytesOf}
 
--- a list's record is that of its arrays
+-- the record of a list is that of its arrays
 pub serialize-arrays : (h : VvcConfig) (s : List ℕ) (o : Outcome (List (Array Span))) → o ≡ decode s → fullRecordOf h s o ≡ serializeFull h s
 unfolding serializeFull
 serialize-arrays h s o e = rw e
 
--- what is known of the arrays once they are measured
+-- what is known of the arrays when they are measured
 record Known (s : List ℕ) (o : Outcome (List (Array Span))) (m : Measure) : Type 0 where
   arrays : List (Array Span)
   found : o ≡ accept arrays
@@ -50,7 +50,7 @@ fits-by : (h : VvcConfig) (s : List ℕ) (o : Outcome (List (Array Span))) (m : 
 unfolding recordFits
 fits-by h s o m k = rw (k .is)
 
--- the head fits, and there are few arrays
+-- the head fits, and there are at most 255 arrays
 pub fits-parts : (a : Bool) (n : ℕ) (b : Bool) → a && (leb n 255 && b) ≡ true → (a ≡ true) × (n ≤ 255)
 fits-parts a n b e = let f = both-true a (leb n 255 && b) e in (f .0, leb-true n 255 (both-true (leb n 255) b (f .1) .0))
 
@@ -58,7 +58,7 @@ refused-of : (h : VvcConfig) (s : List ℕ) (o : Outcome (List (Array Span))) (n
 refused-of h s (accept xs) n e = absurd (let z : _≡_ {A = ℕ} 0 1 = cc in omega arith)
 refused-of h s (refuse k) n e = let z : k ≡ n = cc in ap refuse z
 
--- ### the tests, once the arrays after a cursor's end are measured
+-- ### the tests when the arrays after a cursor's end are measured
 
 module _ (h : VvcConfig) (s : List ℕ) (c : ListCursor) (fits : Fits s c) (r : RecordMeasure)
     (f : (measureOf r ≡ measuredBy (arraysMeasure s) (arraysFrom s c)) × ArraysWithin s r) where
@@ -72,7 +72,7 @@ module _ (h : VvcConfig) (s : List ℕ) (c : ListCursor) (fits : Fits s c) (r : 
     abbrev xs : List (Array (List ℕ))
     xs = heldArrays s (k .arrays)
 
-    -- the measured length is that of a list
+    -- the measured length is at most that of a list
     pub arrays-short : m .len ≤ 2 ^ 30
     arrays-short = let w = subst (ArraysWithin s) e (f .1) in omega (arith, w .0, fits .lent)
 
@@ -110,7 +110,7 @@ module _ (h : VvcConfig) (s : List ℕ) (c : ListCursor) (fits : Fits s c) (r : 
               long = omega (arith, l, length-record);
             }
 
--- ### the parts in output that has room for them all
+-- ### the parts in an output that has room for all of them
 
 module _ (h : VvcConfig) (s : List ℕ) (o : Outcome (List ℕ)) (c : ListCursor) (n len : ℕ) (w : Writable h s o c n len) where
   abbrev ys : List (Array (List ℕ))
@@ -121,7 +121,7 @@ module _ (h : VvcConfig) (s : List ℕ) (o : Outcome (List ℕ)) (c : ListCursor
   parts-long = omega (arith, w .long, length-append (headBytes h) (length ys ∷ []), length-append (headBytes h ++ (length ys ∷ [])) (arraysBytes ys))
 
   module _ (out : List ℕ) (room : len ≤ length out) where
-    -- the head has room
+    -- the output has room for the head
     pub head-room : length (headBytes h) ≤ length out
     head-room = omega (arith, parts-long)
 
@@ -140,7 +140,7 @@ module _ (h : VvcConfig) (s : List ℕ) (o : Outcome (List ℕ)) (c : ListCursor
           let y : d₂ ≡ sets out 0 (headBytes h ++ (length ys ∷ [])) = e₂ ∙ rw (e₁ .1, m) (sets-then out 0 at (headBytes h) (length ys ∷ []) (omega (arith, e₁ .0))) in
           e₃ ∙ rw (b, y) (sets-then out 0 (at + 1) (headBytes h ++ (length ys ∷ [])) (arraysBytes ys) (omega (arith, e₁ .0)))
 
--- ### the answer, once it is known which it is
+-- ### the answer when it is known
 
 module _ (h : VvcConfig) (s : List ℕ) (o : Outcome (List ℕ)) (r : RecordSize) (f : SizeOf h s o r) where
   pub size-refused : (e : Refusal) → r ≡ R.Refused e → o ≡ refuse (numberOf e)

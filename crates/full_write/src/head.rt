@@ -1,4 +1,4 @@
-// For this crate's call: the head of a full record tested, measured and stored.
+// Internal: the head of a full record tested, measured and stored.
 use boxes::place;
 use full::VvcConfig;
 ghost use mathlib.Core.Bool.{true};
@@ -10,7 +10,7 @@ ghost use lib.Seq.{sets};
 ghost use Rattle.boxes.specs.Bytes.{toBe};
 ghost use Rattle.full.specs.Write.{ptlPart, headBytes, ptlPartFits, headFits};
 
-// Whether every field under the PTL flag fits its place.
+// Whether every value under the PTL flag fits its field.
 fn ptl_part_fits(h: VvcConfig) -> bool
     ensures { λ r. ⌜ r ≡ ptlPartFits h ⌝ }
 {
@@ -32,7 +32,7 @@ fn ptl_part_fits(h: VvcConfig) -> bool
     ptl_record_write::write::ptl_fits(h.native_ptl)
 }
 
-// Whether every field that is written fits its place.
+// Whether every value that is written fits its field.
 pub fn head_fits(h: VvcConfig) -> bool
     ensures { λ r. ⌜ r ≡ headFits h ⌝ }
 {
@@ -64,7 +64,7 @@ fn word_of(ols_idx: u16, sublayers: u8, rate: u8, chroma: u8) -> usize
     high + place::wide(rate) * 4 + place::wide(chroma)
 }
 
-// Stores the picture's size and the average frame rate, two bytes each.
+// Stores max_picture_width, max_picture_height and avg_frame_rate, two bytes each.
 fn put_picture(out: &mut [u8], at: usize, width: u16, height: u16, rate: u16)
     requires { ⌜ at + 6 ≤ length (now out) ⌝ }
     ensures { λ _. ⌜ now (out .exit) ≡ sets (now (out .entry)) at (toBe 2 width ++ toBe 2 height ++ toBe 2 rate) ⌝ }
@@ -74,7 +74,7 @@ fn put_picture(out: &mut [u8], at: usize, width: u16, height: u16, rate: u16)
     place::put_number(out, at + 4, 2, rate as usize);
 }
 
-// Stores what stands under the PTL flag, and gives the place after it.
+// Stores the fields under the PTL flag, and returns the place after them.
 fn put_ptl_part(out: &mut [u8], at: usize, h: VvcConfig) -> usize
     requires { ⌜ (ptlPartFits h ≡ true) × (at + length (ptlPart h) ≤ length (now out)) ⌝ }
     ensures { λ r. ⌜ (r ≡ at + length (ptlPart h)) × (now (out .exit) ≡ sets (now (out .entry)) at (ptlPart h)) × (r ≤ at + 1103) ⌝ }
@@ -98,7 +98,7 @@ fn put_ptl_part(out: &mut [u8], at: usize, h: VvcConfig) -> usize
     after + 6
 }
 
-// Stores a head at the front of lent memory, and gives the place after it.
+// Stores a head at the front of the output, and returns the place after it.
 pub fn put_head(out: &mut [u8], h: VvcConfig) -> usize
     requires { ⌜ (headFits h ≡ true) × (length (headBytes h) ≤ length (now out)) ⌝ }
     ensures { λ r. ⌜ (r ≡ length (headBytes h)) × (now (out .exit) ≡ sets (now (out .entry)) 0 (headBytes h)) × (r ≤ 1104) ⌝ }

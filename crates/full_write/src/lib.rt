@@ -1,4 +1,4 @@
-// Writing a full record from a head and a unit list, and its length without writing it.
+// Full write: a full record from a head and a unit list, and its length without writing it (SCOPE 3.9).
 pub mod head;
 
 use boxes::place;
@@ -23,13 +23,13 @@ ghost use Rattle.unit_list.specs.inner.Walk.{arraysFrom, Fits};
 ghost use Rattle.full.specs.Write.{headFits, serializeFull};
 ghost use Rattle.full_write.specs.inner.Record.{fullRecordOf, Writable, SizeOf};
 
-// The cursor in front of a record's arrays, how many they are, and the bytes of the record; or why it is refused.
+// The cursor before a record's arrays, their number, and the length of the record; or the refusal.
 pub enum RecordSize {
     Is(ListCursor, usize, usize),
     Refused(Refusal),
 }
 
-// Whether every field of a record fits its place: those of the head, and the arrays, measured.
+// Whether every value of a record fits its field: those of the head, and the arrays as measured.
 fn record_fits(head: VvcConfig, arrays: Measure) -> bool
     ensures { λ r. ⌜ r ≡ headFits head && (leb (arrays .count) 255 && arrays .fits) ⌝ }
 {
@@ -42,7 +42,7 @@ fn record_fits(head: VvcConfig, arrays: Measure) -> bool
     arrays.fits
 }
 
-// The size of the record of a head and of the arrays after a cursor's end. Refusals: 21, 3, 22.
+// The length of the record of a head and of the arrays after a cursor's end. Refusals: 21, 3, 22.
 fn size_from(head: VvcConfig, list: &[u8], c: ListCursor) -> RecordSize
     requires { ⌜ Fits (now list) c ⌝ }
     ensures { λ r. ⌜ SizeOf head (now (list .entry)) (fullRecordOf head (now (list .entry)) (arraysFrom (now (list .entry)) c)) r ⌝ }
@@ -60,7 +60,7 @@ fn size_from(head: VvcConfig, list: &[u8], c: ListCursor) -> RecordSize
     RecordSize::Is(c, arrays.count, len)
 }
 
-// The size of the record of a head and a list. Refusals: 23, 21, 3, 22.
+// The length of the record of a head and a list, with its arrays. Refusals: 23, 21, 3, 22.
 fn record_size(head: VvcConfig, list: &[u8]) -> RecordSize
     ensures { λ r. ⌜ SizeOf head (now (list .entry)) (serializeFull head (now (list .entry))) r ⌝ }
 {
@@ -70,7 +70,7 @@ fn record_size(head: VvcConfig, list: &[u8]) -> RecordSize
     }
 }
 
-// Stores a record whose size is known. Refusal: 20.
+// Stores a record whose length is known. Refusal: 20.
 fn put_full(
     head: VvcConfig,
     list: &[u8],
@@ -91,7 +91,7 @@ fn put_full(
     Written::Bytes(len)
 }
 
-// How long the record of a head and a list is. Refusals: 23, 21, 3, 22.
+// The length of the record of a head and a list. Refusals: 23, 21, 3, 22.
 pub fn record_len(head: VvcConfig, list: &[u8]) -> Counted
     ensures { λ r. ⌜ countOf r ≡ countFound (serializeFull head (now (list .entry))) ⌝ }
 {
@@ -101,7 +101,7 @@ pub fn record_len(head: VvcConfig, list: &[u8]) -> Counted
     }
 }
 
-// `VvcConfig::serialize`: the record of a head and a list. Refusals: 23, 21, 3, 22, 20; a refusal changes no byte.
+// Writes the record of a head and a list (the original's `VvcConfig::serialize`). Refusals: 23, 21, 3, 22, 20.
 pub fn serialize(head: VvcConfig, list: &[u8], out: &mut [u8]) -> Written
     ensures { λ r. ⌜ (writtenOf r, now (out .exit)) ≡ lentOutput (counted (serializeFull head (now (list .entry)))) (now (out .entry)) ⌝ }
 {

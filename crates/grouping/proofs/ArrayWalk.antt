@@ -1,4 +1,4 @@
--- Laws of a walk that takes the array of a type at its first unit, for any walk that gives units: what is done and what is left make the whole.
+-- Laws of a walk that takes the array of a type at its first unit: what is done and what is left are the whole.
 use Prim.Native.Nat.{ℕ, _+_, _*_, _^_, _≤_}
 use mathlib.Core.Path.{_≡_, refl, sym, ap, _∙_, subst}
 use mathlib.Core.Bool.{Bool, true, false}
@@ -14,11 +14,11 @@ use Rattle.grouping.proofs.FirstAppearance.{among, Marks, marks-start, 
 use Rattle.nal.specs.inner.Kinds.{unitTypes}
 use Rattle.parse.proofs.General.{sets-append}
 
--- all arrays
+-- the bytes of all arrays
 abbrev pub allArrays : List (List ℕ) → List ℕ
 allArrays us = encodeArrays 4 (grouped us)
 
--- what is marked at k tells whether the type t of the next unit has been met
+-- the mark at k is whether the type t of the next unit has been met
 module _ (us left : List (List ℕ)) (p : ℕ) (seen : List Bool) (met : List ℕ) (m : Marks seen met) (u : List ℕ) (rest : List (List ℕ)) (q : ℕ)
     (w : Turn left p u rest q) (t k : ℕ) (h : t ≡ typeOr31 u) (small : t ≤ largestUnitType) (i : k ≡ t) where
   come-met : getD seen k false ≡ true → arraysLeft us met left ≡ arraysLeft us met rest
@@ -32,7 +32,7 @@ module _ (us left : List (List ℕ)) (p : ℕ) (seen : List Bool) (met : List �
       ∙ arrays-new us met u rest (ap (λ (x : ℕ). among x met) (sym (i ∙ h)) ∙ sym (m .each k (omega arith)) ∙ e)
       ∙ ap (λ (x : ℕ). encodeArray 4 (group us x) ++ arraysLeft us (x ∷ met) rest) (sym h)
 
--- the walk over us stands at place p, with `left` left, and has measured the arrays of the types met
+-- the walk over us is at place p with `left` to come, and has measured the arrays of the types met
 pub record Summed (us left : List (List ℕ)) (p : ℕ) (seen : List Bool) (len : ℕ) : Type 0 where
   pub met : List ℕ
   pub marks : Marks seen met
@@ -65,7 +65,7 @@ module _ (us : List (List ℕ)) where
             whole = omega (arith, i .whole);
           }
 
--- the walk over us has come to `left`; the arrays still to come are to be stored from place `to` on
+-- the walk over us has come to `left`; the arrays that are not stored yet go to place `to` on
 pub record Laid (us : List (List ℕ)) (out₀ : List ℕ) (at : ℕ) (left : List (List ℕ)) (seen : List Bool) (out : List ℕ) (to : ℕ) : Type 0 where
   pub met : List ℕ
   pub marks : Marks seen met

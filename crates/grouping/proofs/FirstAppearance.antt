@@ -1,4 +1,4 @@
--- Laws of the arrays by type: the array of a type, and the types by first appearance as a walk meets them.
+-- Laws of the arrays by type: the array of a type, and the types in the order in which a walk meets them.
 use Prim.Native.Nat.{ℕ, _+_, _<_}
 use mathlib.Core.Path.{_≡_, refl, sym, ap, _∙_}
 use mathlib.Core.Bool.{Bool, true, false, _||_}
@@ -21,7 +21,7 @@ use Rattle.parse.proofs.General.{sets-append, sets-before}
 -- ### the array of a type
 
 module _ (us : List (List ℕ)) (t : ℕ) where
-  -- its units' bytes
+  -- the bytes of its units
   abbrev pub groupBytes : List ℕ
   groupBytes = encodeUnits 4 (havingType t us)
 
@@ -29,7 +29,7 @@ module _ (us : List (List ℕ)) (t : ℕ) where
   unfolding encodeArray
   array-long = length-toChunk 4 (1 ∷ t ∷ groupBytes) ∙ omega arith
 
-  -- the units first, and then what comes before them
+  -- the units are stored first, then the array's length, complete and type before them
   pub array-stored : (d e f : List ℕ) (at n : ℕ) → e ≡ sets d (at + 6) groupBytes → f ≡ sets e at (toBe 4 n ++ (1 ∷ t ∷ [])) → n ≡ 2 + length groupBytes
       → f ≡ sets d at (encodeArray 4 (group us t))
   unfolding encodeArray toChunk
@@ -42,14 +42,14 @@ module _ (us : List (List ℕ)) (t : ℕ) where
       ∙ ap (λ (v : ℕ). sets (sets d at head) v groupBytes) k ∙ sets-append d at head groupBytes
       ∙ ap (sets d at) (append-assoc (toBe 4 n) (1 ∷ t ∷ []) groupBytes ∙ ap (λ (v : ℕ). toBe 4 v ++ (1 ∷ t ∷ groupBytes)) m)
 
--- ### types by first appearance
+-- ### types in the order of first occurrence
 
--- whether a type is among those met
+-- whether t is in met
 unfoldable pub among : ℕ → List ℕ → Bool
 among t [] = false
 among t (d ∷ ds) = eqb t d || among t ds
 
--- the types that a walk meets for the first time, those of `met` having been met before
+-- the types that a walk meets for the first time when it has met `met` before
 unfoldable pub newTypes : List ℕ → List ℕ → List ℕ
 newTypes met [] = []
 newTypes met (t ∷ ts) = if among t met then newTypes met ts else t ∷ newTypes (t ∷ met) ts
@@ -76,7 +76,7 @@ without-other s t (x ∷ xs) = go (eqb x s) (eqb x t) refl refl (without-other s
     go false true e f h = rw f h
     go false false e f h = rw (e, f) (ap (λ (l : List ℕ). x ∷ l) h)
 
--- without each of those met
+-- a list without any type in met
 unfoldable unmet : List ℕ → List ℕ → List ℕ
 unmet [] xs = xs
 unmet (d ∷ ds) xs = without d (unmet ds xs)
@@ -102,7 +102,7 @@ unmet-cons (d ∷ ds) t xs = ap (without d) (unmet-cons ds t xs) ∙ go (eqb t d
     go false true e = refl
     go false false e = rw e
 
--- one that was met is not there any more
+-- a type that was met is not in it
 unmet-met : (met : List ℕ) (t : ℕ) (xs : List ℕ) → among t met ≡ true → without t (unmet met xs) ≡ unmet met xs
 unfolding unmet among
 unmet-met [] t xs h = absurd (let z : _≡_ {A = ℕ} 0 1 = cc in omega arith)
@@ -127,7 +127,7 @@ pub new-firsts : (ts : List ℕ) → newTypes [] ts ≡ firsts ts
 unfolding unmet
 new-firsts ts = new-unmet [] ts
 
--- a mark for each type tells those met
+-- seen has a mark exactly for the types met
 pub record Marks (seen : List Bool) (met : List ℕ) : Type 0 where
   pub long : length seen ≡ unitTypes
   pub each : (k : ℕ) → k < unitTypes → getD seen k false ≡ among k met
@@ -152,7 +152,7 @@ marks-more seen met t i h =
 
 -- ### the arrays
 
--- the arrays of the types still to be met from `here` on
+-- the bytes of the arrays whose types are first met from `here` on
 abbrev pub arraysLeft : List (List ℕ) → List ℕ → List (List ℕ) → List ℕ
 arraysLeft us met left = encodeArrays 4 (map (group us) (newTypes met (map typeOr31 left)))
 

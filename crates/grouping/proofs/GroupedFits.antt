@@ -1,4 +1,4 @@
--- What grouping keeps of the units: their number and lengths, what holds of each, and that their list can be read.
+-- What grouping keeps of the units: their number, their lengths, what holds of each; and the grouped list can be read.
 use Prim.Native.Nat.{ℕ, suc, _+_, _*_, _≤_}
 use native.Mathlib.Omega.{arith}
 use native.Mathlib.Nat.{mul-suc}
@@ -17,7 +17,7 @@ use Rattle.unit_list.proofs.Encode.{length-toChunk}
 use Rattle.grouping.specs.Grouping.{havingType, without, firsts, group, grouped}
 use Rattle.grouping.proofs.Grouping.{grouped-as}
 
--- what holds of every unit
+-- P holds of every unit
 abbrev pub Every : (List ℕ → Type 0) → List (List ℕ) → Type 0
 Every P [] = Unit {0}
 Every P (u ∷ us) = P u × Every P us
@@ -26,7 +26,7 @@ every-append : (P : List ℕ → Type 0) (us vs : List (List ℕ)) → Every P u
 every-append P [] vs e f = f
 every-append P (u ∷ us) vs e f = (e .0, every-append P us vs (e .1) f)
 
--- The units of a type are among the units.
+-- The units of type t are among the units.
 module _ (t : ℕ) where
   having-if : (c : Bool) (P : List ℕ → Type 0) (u : List ℕ) (us : List (List ℕ)) → P u → Every P us → Every P (if c then u ∷ us else us)
   having-if true P u us p e = (p, e)
@@ -46,7 +46,7 @@ module _ (t : ℕ) where
   having-le [] = omega arith
   having-le (u ∷ us) = if-le (eqb (typeOr31 u) t) u (havingType t us) (length us) (having-le us)
 
--- What holds of the type of every unit holds of the types.
+-- What holds of the type of every unit holds of every type that occurs.
 abbrev pub EachOf : (ℕ → Type 0) → List ℕ → Type 0
 EachOf P [] = Unit {0}
 EachOf P (x ∷ xs) = P x × EachOf P xs
@@ -74,7 +74,7 @@ unfolding firsts
 firsts-le [] = omega arith
 firsts-le (t ∷ ts) = omega (arith, without-le t (firsts ts), firsts-le ts)
 
--- a type with units, and its bound
+-- type t occurs, and is at most 31
 abbrev pub Has-units : List (List ℕ) → ℕ → Type 0
 Has-units us t = (1 ≤ length (havingType t us)) × (t ≤ largestUnitType)
 
@@ -95,7 +95,7 @@ types-have (u ∷ us) e = (
   without-of (Has-units (u ∷ us)) (typeOr31 u) (firsts (map typeOr31 us)) (has-more u us (firsts (map typeOr31 us)) (types-have us (e .1))),
 )
 
--- Their list can be read, whatever their types.
+-- The grouped list can be read, whatever the types are.
 module _ (us : List (List ℕ)) (types : Every (λ u. typeOr31 u ≤ largestUnitType) us) where
   groups-sound : (ts : List ℕ) → EachOf (Has-units us) ts → Sound (map (group us) ts)
   groups-sound [] e = sound-none
@@ -126,7 +126,7 @@ module _ (us : List (List ℕ)) where
       let r = grouped-as us in
       ap length (r .units) ∙ length-map (r .order) (λ i. getD us i []) ∙ r .count
 
--- How long short units are after lengths of w bytes, and in a list.
+-- The length of units of at most 255 bytes, each after a length of w bytes, and of their list.
 pub units-long : (w : ℕ) (us : List (List ℕ)) → Every (λ u. length u ≤ 255) us → length (encodeUnits w us) ≤ (w + 255) * length us
 unfolding encodeUnits
 units-long w [] e = omega arith

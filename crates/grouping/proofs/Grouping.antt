@@ -1,4 +1,4 @@
--- Expansion's order of units is the one that document 01 describes, and each unit stands once.
+-- The order of units after expansion is that of SCOPE 5.2, and each unit has exactly one place in it.
 use Prim.Native.Nat.{ℕ, zero, suc, _+_, _<_}
 use native.Mathlib.Omega.{arith}
 use native.Mathlib.Decide.{decLe}
@@ -15,7 +15,7 @@ use Rattle.unit_list.specs.UnitList.{unitsOf}
 use Rattle.grouping.specs.Order.{firstPlace, typeAt, Before, GroupedAs}
 use Rattle.grouping.specs.Grouping.{havingType, without, firsts, group, grouped}
 
--- what holds of every number of a list, and of every two in their order
+-- P of every number of a list, and R of every two in their order
 abbrev Each : (ℕ → Type 0) → List ℕ → Type 0
 Each P [] = Unit {0}
 Each P (x ∷ xs) = P x × Each P xs
@@ -24,7 +24,7 @@ abbrev Pairwise : (ℕ → ℕ → Type 0) → List ℕ → Type 0
 Pairwise R [] = Unit {0}
 Pairwise R (x ∷ xs) = Each (R x) xs × Pairwise R xs
 
--- x stands in the list
+-- x is in the list
 abbrev Has : ℕ → List ℕ → Type 0
 Has x xs = (k : ℕ) × (k < length xs) × (getD xs k 0 ≡ x)
 
@@ -60,7 +60,7 @@ pairwise-append R [] ys e f g = f
 pairwise-append R (x ∷ xs) ys e f g =
     (each-append (R x) xs ys (e .0) (g .0), pairwise-append R xs ys (e .1) f (g .1))
 
--- where Q holds of both, R gives S
+-- where Q holds of both, R implies S
 pairwise-map : {Q : ℕ → Type 0} {R S : ℕ → ℕ → Type 0} → ((x y : ℕ) → Q x → Q y → R x y → S x y) → (xs : List ℕ) → Each Q xs → Pairwise R xs → Pairwise S xs
 pairwise-map f [] q e = tt
 pairwise-map f (x ∷ xs) q e =
@@ -87,7 +87,7 @@ has-suc x [] (k, h, e) = absurd (omega arith)
 has-suc x (y ∷ xs) (zero, h, e) = (0, omega arith, ap suc e)
 has-suc x (y ∷ xs) (suc k, h, e) = has-cons (suc x) (suc y) (map suc xs) (has-suc x xs (k, omega arith, e))
 
--- A choice by the test for equality, by cases.
+-- a choice by a test for equality, by cases
 module _ {A : Type 0} (P : A → Type 0) (x t : ℕ) (a b : A) where
   by-eqb : (x ≡ t → P a) → ((x ≡ t → ⊥) → P b) → P (if eqb x t then a else b)
   by-eqb f g = go (eqb x t) refl
@@ -96,7 +96,7 @@ module _ {A : Type 0} (P : A → Type 0) (x t : ℕ) (a b : A) where
       go true e = f (eqb-true x t e)
       go false e = g (eqb-false x t e)
 
--- Without a number.
+-- laws of a list without a number
 without-each : (P : ℕ → Type 0) (t : ℕ) (xs : List ℕ) → Each P xs → Each P (without t xs)
 unfolding without
 without-each P t [] e = tt
@@ -132,7 +132,7 @@ without-none t [] e = refl
 without-none t (x ∷ xs) e =
     by-eqb (λ l. l ≡ x ∷ xs) x t (without t xs) (x ∷ without t xs) (λ z. absurd (e .0 z)) (λ _. ap (λ l. x ∷ l) (without-none t xs (e .1)))
 
--- The types stand by the first appearance of their units.
+-- the types are in the order in which they first occur
 first-same : (u : List ℕ) (us : List (List ℕ)) → firstPlace (u ∷ us) (typeOr31 u) ≡ 0
 unfolding firstPlace
 first-same u us = rw (eq-eqb (typeOr31 u) (typeOr31 u) refl)
@@ -165,7 +165,7 @@ has-type [] i h = absurd (omega arith)
 has-type (u ∷ us) zero h = (0, omega arith, refl)
 has-type (u ∷ us) (suc i) h = has-once (typeAt us i) (typeOr31 u) (firsts (map typeOr31 us)) (has-type us i (omega arith))
 
--- The places of the units of a type, rising.
+-- the numbers of the units of type t, in increasing order
 unfoldable places : ℕ → List (List ℕ) → List ℕ
 places t [] = []
 places t (u ∷ us) = if eqb (typeOr31 u) t then 0 ∷ map suc (places t us) else map suc (places t us)
@@ -217,7 +217,7 @@ unfolding places havingType
 places-units t [] = refl
 places-units t (u ∷ us) = units-step (eqb (typeOr31 u) t) u us (havingType t us) (places t us) (places-units t us)
 
--- The places of the units, type after type.
+-- the numbers of the units, type after type
 unfoldable flat : List (List ℕ) → List ℕ → List ℕ
 flat us [] = []
 flat us (t ∷ ts) = places t us ++ flat us ts
@@ -253,7 +253,7 @@ flat-sorted us (t ∷ ts) e =
     (flat-sorted us ts (e .1))
     (each-map (λ i p. each-map (λ j h. inl (rw (p .1) h)) (flat us ts) (flat-each (λ s. firstPlace us t < firstPlace us s) us ts (e .0))) (places t us) (places-type t us))
 
--- As many places as units.
+-- there are as many numbers as units
 places-same : (u : List ℕ) (us : List (List ℕ)) → length (places (typeOr31 u) (u ∷ us)) ≡ suc (length (places (typeOr31 u) us))
 unfolding places
 places-same u us = rw (eq-eqb (typeOr31 u) (typeOr31 u) refl) (ap suc (length-map (places (typeOr31 u) us) suc))
@@ -302,7 +302,7 @@ flat-count (u ∷ us) =
         go [] e = refl
         go (i ∷ ps) e = absurd (n (subst (λ x. Has x (firsts (map typeOr31 us))) (e .0 .1) (has-type us i (e .0 .0))))
 
--- Before is a strict order.
+-- Before is a strict order
 before-not-back : (us : List (List ℕ)) (i j : ℕ) → Before us i j → Before us j i → ⊥
 before-not-back us i j (inl p) (inl q) = omega arith
 before-not-back us i j (inl p) (inr q) = omega (arith, ap (firstPlace us) (q .0))

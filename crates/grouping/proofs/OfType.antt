@@ -1,4 +1,4 @@
--- Laws of the units of a type, for any walk that gives units: found, measured and stored one after the other.
+-- Laws of the units of a type, for any walk over units: found, measured and stored one after the other.
 use Prim.Native.Nat.{ℕ, _+_, _*_, _≤_}
 use mathlib.Core.Path.{_≡_, refl, sym, ap, _∙_}
 use mathlib.Core.List.{List, [], _∷_, _++_}
@@ -14,7 +14,7 @@ use Rattle.grouping.specs.Grouping.{havingType}
 use Rattle.grouping.specs.inner.Units.{Turn}
 use Rattle.parse.proofs.General.{sets-append}
 
--- the bytes of the units of a type, each after its length
+-- the bytes of the units of type t, each after its length
 abbrev pub bytesOf : ℕ → List (List ℕ) → List ℕ
 bytesOf t us = encodeUnits 4 (havingType t us)
 
@@ -26,7 +26,7 @@ pub bytes-none : (t : ℕ) (left : List (List ℕ)) → left ≡ [] → bytesOf 
 unfolding havingType encodeUnits
 bytes-none t left e = rw e
 
--- a unit of the type, and one of another
+-- the next unit is of type t, or it is not
 module _ (t : ℕ) (left : List (List ℕ)) (p : ℕ) (u : List ℕ) (rest : List (List ℕ)) (q : ℕ) (w : Turn left p u rest q) where
   module _ (same : typeOr31 u ≡ t) where
     pub having-same : havingType t left ≡ u ∷ havingType t rest
@@ -44,7 +44,7 @@ module _ (t : ℕ) (left : List (List ℕ)) (p : ℕ) (u : List ℕ) (rest : Lis
   unfolding havingType
   having-other h = ap (havingType t) (w .units) ∙ rw (ne-eqb (typeOr31 u) t h)
 
--- the walk over us stands at place p, with `left` left, and has measured so many bytes
+-- the walk over us is at place p with `left` to come, and has measured len bytes
 pub record TypeMeasured (t : ℕ) (us left : List (List ℕ)) (p len : ℕ) : Type 0 where
   pub few : len ≤ 2 * p
   pub whole : len + length (bytesOf t left) ≡ length (bytesOf t us)
@@ -68,7 +68,7 @@ module _ (t : ℕ) (us : List (List ℕ)) where
           let k = ap (λ (vs : List (List ℕ)). length (encodeUnits 4 vs)) (having-other t left p u rest q w h) in
           record { few = omega (arith, i .few, w .ahead); whole = omega (arith, i .whole) }
 
--- the walk over us has come to `left`; what is left is to be stored from place `to` on
+-- the walk over us has come to `left`; the units of the type in it are to be stored from place `to` on
 pub record Stored (t : ℕ) (us : List (List ℕ)) (out₀ : List ℕ) (at : ℕ) (left : List (List ℕ)) (out : List ℕ) (to : ℕ) : Type 0 where
   pub same : length out ≡ length out₀
   pub place : to + length (bytesOf t left) ≡ at + length (bytesOf t us)

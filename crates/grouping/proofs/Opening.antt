@@ -1,4 +1,4 @@
--- Laws of units that were counted: they all read, or give the count's refusal.
+-- Laws of units that were counted: all of them read, or the count's refusal is returned.
 use Prim.Native.Nat.{ℕ}
 use mathlib.Core.Path.{_≡_, refl, ap}
 use mathlib.Core.List.{List, map}

@@ -24,7 +24,7 @@ use Rattle.grouping.specs.declared.units.UnitStep.{UnitStep}
 use Rattle.grouping.specs.declared.units.UnitStep.the-variants as U
 use Rattle.parse.specs.inner.Walk.{more}
 
--- a step that found no unit: there is none
+-- a step that found no unit: none is left
 pub none-left : (s : List ℕ) (here : ListCursor) (r : ListStep) → stepped s r ≡ typedUnitsFrom s here → OneOf (1 ∷ 2 ∷ []) (tagOf the-type r) → unitsAt s here ≡ []
 unfolding unitsAt
 none-left s here r e k =
@@ -61,7 +61,7 @@ module _ (s : List ℕ) (here : ListCursor) (r : ListStep) (f : (stepped s r ≡
           small = small;
         }
 
--- what a step says where its answer is known
+-- what a step says when its answer is known
 module _ (s : List ℕ) (here : ListCursor) (r : UnitStep) (f : Steps s here r) where
   pub stepped-to : (a : Span) (t : ℕ) (next : ListCursor) → r ≡ U.Unit a t next → UnitStepped s here a t next
   stepped-to a t next e = subst (Steps s here) e f
@@ -69,6 +69,6 @@ module _ (s : List ℕ) (here : ListCursor) (r : UnitStep) (f : Steps s here r) 
   pub ended : r ≡ U.End → unitsAt s here ≡ []
   ended e = subst (Steps s here) e f
 
--- a step comes nearer to the end
+-- every step decreases the distance to the end
 pub nearer : (s : List ℕ) (c : ListCursor) (a : Span) (t : ℕ) (d : ListCursor) → UnitStepped s c a t d → length s - d .at < length s - c .at
 nearer s c a t d u = let f = u .readable .fits in omega (arith, u .turn .ahead, f .before, f .within)

@@ -1,5 +1,4 @@
-// Internal: units grouped by type. Those after a cursor are measured and stored as arrays, one for each type, the types by
-// first appearance.
+// Internal: the units after a cursor measured and stored as arrays, one for each type, in the order in which the types first occur.
 use super::units;
 use super::units::UnitStep;
 use boxes::place;
@@ -14,7 +13,7 @@ ghost use Rattle.unit_list.specs.UnitList.{encodeUnits, encodeArray, encodeArra
 ghost use Rattle.grouping.specs.Grouping.{havingType, group, grouped};
 ghost use Rattle.grouping.specs.inner.Units.{Readable, unitsAt};
 
-// How many bytes the units of a type take, each after a length of 4 bytes.
+// The bytes of the units of type t in a list, each after a length of 4 bytes.
 fn group_len(list: &[u8], c: ListCursor, t: u8) -> usize
     requires { ⌜ Readable (now list) c ⌝ }
     ensures { λ r. ⌜ (r ≡ length (encodeUnits 4 (havingType t (unitsAt (now (list .entry)) c)))) × (r ≤ 2 ^ 31) ⌝ }
@@ -32,7 +31,7 @@ fn group_len(list: &[u8], c: ListCursor, t: u8) -> usize
     }
 }
 
-// How many bytes the arrays take: each is its length, complete and type, and its units. An array is counted at the first unit of its type.
+// The bytes of all arrays. An array is its length, complete, type and units; it is counted at the first unit of its type.
 pub fn groups_len(list: &[u8], c: ListCursor) -> usize
     requires { ⌜ Readable (now list) c ⌝ }
     ensures { λ r. ⌜ (r ≡ length (encodeArrays 4 (grouped (unitsAt (now (list .entry)) c)))) × (r < 2 ^ 62) ⌝ }
@@ -53,7 +52,7 @@ pub fn groups_len(list: &[u8], c: ListCursor) -> usize
     }
 }
 
-// Stores the units of a type from a place on; the place after them.
+// Stores the units of type t from place `at` on and returns the place after them.
 fn put_group_units(list: &[u8], c: ListCursor, t: u8, out: &mut [u8], at: usize) -> usize
     requires { ⌜ Readable (now list) c × (at + length (encodeUnits 4 (havingType t (unitsAt (now list) c))) ≤ length (now out)) ⌝ }
     ensures { λ r. ⌜ (r ≡ at + length (encodeUnits 4 (havingType t (unitsAt (now (list .entry)) c)))) × (now (out .exit) ≡ sets (now (out .entry)) at (encodeUnits 4 (havingType t (unitsAt (now (list .entry)) c)))) ⌝ }
@@ -72,7 +71,7 @@ fn put_group_units(list: &[u8], c: ListCursor, t: u8, out: &mut [u8], at: usize)
     }
 }
 
-// Stores the array of a type from a place on; the place after it. It is complete.
+// Stores the array of type t, complete 1, from place `at` on and returns the place after it.
 fn put_group(list: &[u8], c: ListCursor, t: u8, out: &mut [u8], at: usize) -> usize
     requires { ⌜ Readable (now list) c × (at + length (encodeArray 4 (group (unitsAt (now list) c) t)) ≤ length (now out)) ⌝ }
     ensures { λ r. ⌜ (r ≡ at + length (encodeArray 4 (group (unitsAt (now (list .entry)) c) t))) × (now (out .exit) ≡ sets (now (out .entry)) at (encodeArray 4 (group (unitsAt (now (list .entry)) c) t))) ⌝ }
@@ -83,7 +82,7 @@ fn put_group(list: &[u8], c: ListCursor, t: u8, out: &mut [u8], at: usize) -> us
     to
 }
 
-// Stores the arrays from a place on, each at the first unit of its type.
+// Stores the arrays from place `at` on, each when the walk meets the first unit of its type.
 fn put_groups(list: &[u8], c: ListCursor, out: &mut [u8], at: usize)
     requires { ⌜ Readable (now list) c × (at + length (encodeArrays 4 (grouped (unitsAt (now list) c))) ≤ length (now out)) ⌝ }
     ensures { λ _. ⌜ now (out .exit) ≡ sets (now (out .entry)) at (encodeArrays 4 (grouped (unitsAt (now (list .entry)) c))) ⌝ }
@@ -104,7 +103,7 @@ fn put_groups(list: &[u8], c: ListCursor, out: &mut [u8], at: usize)
     }
 }
 
-// Stores the list of the arrays at the front: a byte 01, the arrays.
+// Stores the unit list of the arrays at the front of the output: version 01, then the arrays.
 pub fn put_list(list: &[u8], c: ListCursor, out: &mut [u8])
     requires { ⌜ Readable (now list) c × (length (encode (grouped (unitsAt (now list) c))) ≤ length (now out)) ⌝ }
     ensures { λ _. ⌜ now (out .exit) ≡ sets (now (out .entry)) 0 (encode (grouped (unitsAt (now (list .entry)) c))) ⌝ }

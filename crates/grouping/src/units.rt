@@ -1,5 +1,4 @@
-// Internal: the units of a list by the type in their headers. Grouping asks `next_unit` alone, so a walk over other
-// bytes that gives units needs only a step of its own.
+// Internal: the units of a list with the types in their headers. Grouping uses `next_unit` alone.
 use boxes::Span;
 use boxes::place;
 use error::Counted;
@@ -23,19 +22,19 @@ ghost use Rattle.unit_list.specs.inner.Find.{unitsLeft};
 ghost use Rattle.grouping.specs.Grouping.{havingType, firstElement};
 ghost use Rattle.grouping.specs.inner.Units.{Readable, unitsAt, foundUnit, FirstFits, startedUnits, StartReads, heldUnits, Steps};
 
-// One step of a walk over units that read: where the unit lies, its type and where the walk goes on; or the end.
+// A step of a walk over units that read: where the unit lies, its type, and the cursor after it; or the end.
 pub enum UnitStep {
     Unit(Span, u8, ListCursor),
     End,
 }
 
-// Where the first unit of a type lies.
+// Where the first unit of a type lies, or that there is none.
 pub enum FirstUnit {
     At(Span),
     Missing,
 }
 
-// The cursor itself, where all units after it read. Refusal: 21.
+// The cursor itself if all units after it read. Refusal: 21.
 fn start_at(list: &[u8], c: ListCursor) -> ListStart
     requires { ⌜ Fits (now list) c ⌝ }
     ensures { λ r. ⌜ (startedUnits (now (list .entry)) r ≡ heldUnits (now (list .entry)) (unitsLeft (now (list .entry)) c)) × StartReads (now (list .entry)) r ⌝ }
@@ -48,7 +47,7 @@ fn start_at(list: &[u8], c: ListCursor) -> ListStart
     }
 }
 
-// Where a walk over the units of a list starts that all read. Refusals: 23, 21.
+// The start of a walk over a list whose units all read. Refusals: 23, 21.
 pub fn start(list: &[u8]) -> ListStart
     ensures { λ r. ⌜ (startedUnits (now (list .entry)) r ≡ heldUnits (now (list .entry)) (listUnits (now (list .entry)))) × StartReads (now (list .entry)) r ⌝ }
 {
@@ -58,7 +57,7 @@ pub fn start(list: &[u8]) -> ListStart
     }
 }
 
-// The type of the unit at a span, 31 where its byte 1 is absent.
+// The type of the unit at span a; 31 if byte 1 is absent.
 fn unit_type(list: &[u8], a: Span) -> u8
     requires { ⌜ a .start + a .len ≤ length (now list) ⌝ }
     ensures { λ r. ⌜ (r ≡ typeOr31 (held (now (list .entry)) a)) × (r ≤ largestUnitType) ⌝ }
@@ -67,7 +66,7 @@ fn unit_type(list: &[u8], a: Span) -> u8
     header::type_or_31(unit)
 }
 
-// The next unit after a cursor, with its type.
+// The next unit after a cursor, with its type, or the end.
 pub fn next_unit(list: &[u8], c: ListCursor) -> UnitStep
     requires { ⌜ Readable (now list) c ⌝ }
     ensures { λ r. ⌜ Steps (now (list .entry)) c r ⌝ }
@@ -80,7 +79,7 @@ pub fn next_unit(list: &[u8], c: ListCursor) -> UnitStep
     UnitStep::Unit(a, t, next)
 }
 
-// The first unit of a record kind after a cursor, `t` being the type of that kind.
+// The first unit of a record kind after a cursor; t is the type of that kind.
 pub fn first_having(list: &[u8], c: ListCursor, t: u8) -> FirstUnit
     requires { ⌜ Readable (now list) c × (isRecordType t ≡ true) ⌝ }
     ensures { λ r. ⌜ (foundUnit (now (list .entry)) r ≡ firstElement (havingType t (unitsAt (now (list .entry)) c))) × FirstFits (now (list .entry)) r ⌝ }

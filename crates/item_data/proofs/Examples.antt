@@ -1,4 +1,4 @@
--- Worked bytes, computed from the definitions.
+-- Worked bytes (SCOPE 7), computed from the definitions.
 use Prim.Native.Nat.{ℕ}
 use mathlib.Core.Path.{_≡_, refl, _∙_}
 use mathlib.Core.Bool.{false}
@@ -13,16 +13,16 @@ use Rattle.compact.specs.ItemData.{restore, stillUnit, strip}
 use Rattle.compact.specs.declared.CompactVvcConfig.{CompactVvcConfig}
 use Rattle.item_data.proofs.Stills.{restore-unit, prefixed-given, prefixed-long}
 
--- the flag clear
+-- a configuration with the flag clear
 abbrev single : ℕ → CompactVvcConfig
 single size = record { «multi_layer_flag» = false; «length_size» = size }
 
--- 00 00 00 03 40 41 9A: the header's two top bits are not looked at
+-- 00 00 00 03 40 41 9A: the top two bits of the header are ignored
 strips : strip (single 4) (0 ∷ 0 ∷ 0 ∷ 3 ∷ 64 ∷ 65 ∷ 154 ∷ []) ≡ accept (154 ∷ [])
 unfolding strip itemUnits many manyUpTo itemUnit uint bytes be
 strips = refl
 
--- size 1: 253 stored bytes restore, 254 are 6
+-- prefix size 1: 253 stored bytes are accepted, 254 are refused with 6
 size-one : (S : List ℕ) → length S ≡ 253 → restore (single 1) S ≡ accept (255 ∷ 0 ∷ 65 ∷ S)
 unfolding toChunk toBe
 size-one S h =

@@ -1,4 +1,4 @@
--- Laws of an item that is measured and then stored: its length, what it is made of, and its bytes in the output.
+-- Laws of an item that is measured and then stored: its length, its parts, and its bytes in the output.
 use Prim.Native.Nat.{ℕ, _^_, _≤_}
 use mathlib.Core.Path.{_≡_, refl, sym, ap, _∙_}
 use mathlib.Core.Bool.{Bool, true, false}
@@ -18,7 +18,7 @@ use Rattle.item_data.specs.inner.Still.{restoredBytes, Restores}
 use Rattle.item_data.proofs.Stills.{restore-too-long, restore-copy, restore-unit}
 use Rattle.boxes.proofs.PrefixSizes.{size-inside}
 
--- bytes whose length was measured-as
+-- bytes whose length was measured as n
 pub record MeasuredAs (o : Outcome (List ℕ)) (n : ℕ) : Type 0 where
   pub bytes : List ℕ
   pub given : o ≡ accept bytes
@@ -32,7 +32,7 @@ pub measured-refused : (o : Outcome (List ℕ)) (n : ℕ) → refuse n ≡ count
 measured-refused (accept bytes) n e = absurd (let z : _≡_ {A = ℕ} 0 1 = cc in omega arith)
 measured-refused (refuse m) n e = let z : m ≡ n = cc in ap refuse z
 
--- stored bytes that restore: what the item is, and the output that holds it
+-- stored bytes that restore: the item, and the output that has room for it
 module _ (c : CompactVvcConfig) (s out : List ℕ) (r : Restores c s out) where
   pub restores-lent : length s ≤ 2 ^ 30
   restores-lent =

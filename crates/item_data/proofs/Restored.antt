@@ -1,4 +1,4 @@
--- Restored item data splits into its one unit: 00 41 and the stored bytes.
+-- Restored item data splits into one unit: 00 41 and the stored bytes.
 use Prim.Native.Nat.{ℕ, _+_, _^_, _≤_, _<_}
 use mathlib.Core.Path.{_≡_, _∙_}
 use mathlib.Core.Bool.{false}
@@ -17,7 +17,7 @@ use Rattle.compact.specs.ItemData.{stillUnit, restore}
 use Rattle.compact.specs.declared.CompactVvcConfig.{CompactVvcConfig}
 use Rattle.item_data.proofs.Stills.{restore-unit, prefixed-given}
 
--- what restoring S gives, and its one unit
+-- the item of S, and its one unit
 pub record Restored (c : CompactVvcConfig) (S : List ℕ) : Type 0 where
   pub item : List ℕ
   pub restored : restore c S ≡ accept item

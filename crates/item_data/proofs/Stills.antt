@@ -1,4 +1,4 @@
--- Laws of the one unit of a still: its answers, its bytes stored piece by piece, and its header.
+-- Laws of the one unit of a still: its answers, its bytes stored part by part, and its header.
 use Prim.Native.Nat.{ℕ, suc, _+_, _-_, _/_, _%_, _^_, _≤_, _<_}
 use mathlib.Core.Path.{_≡_, refl, sym, ap, _∙_}
 use mathlib.Core.Bool.{true, false, and-false}
@@ -30,7 +30,7 @@ use Rattle.parse.proofs.General.{sets-append}
 
 -- ### restored
 
--- the answers, in the order of their tests
+-- the answers in the order of their tests
 module _ (size : ℕ) (u : List ℕ) where
   pub prefixed-outside : outside size ≡ true → prefixed size u ≡ refuse 4
   prefixed-outside h = rw h
@@ -45,7 +45,7 @@ module _ (size : ℕ) (u : List ℕ) where
     pub prefixed-length : length u < 256 ^ size → (n : ℕ) → n ≡ size + length u → countFound (prefixed size u) ≡ accept n
     prefixed-length h n e = ap countFound (prefixed-given h) ∙ ap accept (length-toChunk size u ∙ sym e)
 
--- the unit stored: its length, its header, what was stored
+-- length, header and stored bytes make the unit
 pub still-stored : (stored out d e f : List ℕ) (size : ℕ) (header : List ℕ) → header ≡ nalHeader 8 0 1 → d ≡ sets out 0 (toBe size (2 + length stored))
     → e ≡ sets d size header → f ≡ sets e (size + 2) stored → f ≡ sets out 0 (toChunk size (stillUnit stored))
 unfolding toChunk
@@ -60,13 +60,13 @@ still-stored stored out d e f size header h x y z =
 
 -- ### stripped
 
--- a unit of one byte or none
+-- a unit with less than two bytes is not a still
 short-not : (u : List ℕ) → length u < 2 → isStill u ≡ false
 short-not [] h = refl
 short-not (x ∷ []) h = refl
 short-not (x ∷ y ∷ u) h = absurd (omega arith)
 
--- a unit of two bytes or more, by the parts of its header
+-- a unit with a header, by the fields of the header
 module _ (x y : ℕ) (u : List ℕ) where
   layer-not : (x % 64 ≡ 0 → ⊥) → isStill (x ∷ y ∷ u) ≡ false
   layer-not h = rw (ne-eqb (x % 64) 0 h) (and-false (eqb (y / 8) 8))
@@ -112,7 +112,7 @@ module _ (item : List ℕ) (a : Span) (inside : a .start + a .len ≤ length ite
     one-still h k l =
         rw (held-header, is-still (getD item (a .start) 0) (getD item (a .start + 1) 0) (held item (record { start = a .start + 2; len = a .len - 2 })) h k l)
 
--- no unit, one that ends before the item does, and the only one
+-- no unit; one unit with bytes after it; exactly one unit
 module _ (item : List ℕ) where
   pub none-still : (o : Outcome (List Span)) → total o ≡ 0 → refuse 24 ≡ onlyStill item o
   none-still (accept []) e = refl
@@ -131,7 +131,7 @@ module _ (item : List ℕ) where
       go (refused n) e = rw (many-bad (itemUnit size) item p n h e)
       go (value b q) e = several a b (itemUnitsFrom size item q) ∙ ap (λ (o : Outcome (List Span)). onlyStill item (more a o)) (sym (left-step size item p b q h e))
 
--- ### the two calls, by the tests of their input and of the flag
+-- ### the two calls, by the tests of the input's length and of the flag
 
 module _ (c : CompactVvcConfig) (s : List ℕ) where
   pub restore-too-long : 2 ^ 30 < length s → restore c s ≡ refuse 23

@@ -1,4 +1,4 @@
-// Internal: bytes copied to lent memory.
+// Internal: bytes copied to an output.
 use boxes::place;
 use error::Refusal;
 use error::Written;
@@ -6,7 +6,7 @@ ghost use mathlib.Core.Path.{_≡_};
 ghost use Rattle.parse.specs.Outcome.{accept, lentOutput, counted};
 ghost use Rattle.parse.specs.Answers.{writtenOf};
 
-// A result that is the bytes of `src`. Refusal: 20.
+// Writes a copy of `src`. Refusal: 20.
 pub fn put_all(src: &[u8], out: &mut [u8]) -> Written
     ensures { λ r. ⌜ (writtenOf r, now (out .exit)) ≡ lentOutput (counted (accept (now (src .entry)))) (now (out .entry)) ⌝ }
 {

@@ -1,4 +1,4 @@
-// Internal: how long restored item data is, measured before any of it is written.
+// Internal: the length of restored item data, measured before any of it is written.
 use boxes::place;
 use compact::CompactVvcConfig;
 use error::Counted;
@@ -12,7 +12,7 @@ ghost use Rattle.parse.specs.Answers.{countOf};
 ghost use Rattle.boxes.specs.Walk.{countFound};
 ghost use Rattle.compact.specs.ItemData.{prefixed, stillUnit, restore};
 
-// The first length that a prefix of `size` bytes does not hold.
+// 256^size: lengths below it fit a prefix of `size` bytes.
 fn prefix_limit(size: usize) -> usize
     requires { ⌜ (1 ≤ size) × (size ≤ 4) ⌝ }
     ensures { λ r. ⌜ r ≡ 256 ^ size ⌝ }
@@ -25,7 +25,7 @@ fn prefix_limit(size: usize) -> usize
     }
 }
 
-// How long the unit of stored bytes is with the length in front of it. Refusals: 4, 6.
+// The length of the unit of the stored bytes together with its prefix. Refusals: 4, 6.
 fn still_len(length_size: u8, stored: &[u8]) -> Counted
     requires { ⌜ length (now stored) ≤ 2 ^ 30 ⌝ }
     ensures { λ r. ⌜ countOf r ≡ countFound (prefixed «length_size» (stillUnit (now (stored .entry)))) ⌝ }
@@ -41,7 +41,7 @@ fn still_len(length_size: u8, stored: &[u8]) -> Counted
     Counted::Count(size + len)
 }
 
-// How long the item data of stored bytes is. Refusals: 23, 4, 6.
+// The length of the item data of the stored bytes. Refusals: 23, 4, 6.
 pub fn item_len(config: CompactVvcConfig, stored: &[u8]) -> Counted
     ensures { λ r. ⌜ countOf r ≡ countFound (restore config (now (stored .entry))) ⌝ }
 {

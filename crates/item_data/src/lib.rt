@@ -1,4 +1,4 @@
-// The item data of a compact still: restored from stored bytes, and stripped to them again.
+// Item data restored from the stored bytes of a still and stripped to them again (SCOPE 3.11 and 4.1).
 pub mod copied;
 pub mod lengths;
 pub mod still;
@@ -15,7 +15,8 @@ ghost use Rattle.parse.specs.Outcome.{lentOutput, counted};
 ghost use Rattle.parse.specs.Answers.{writtenOf};
 ghost use Rattle.compact.specs.ItemData.{restore, strip};
 
-// Restores the item data of stored bytes: a copy with the flag set, else their unit after its length. Refusals: 23, 4, 6, 20.
+// Writes the item data of stored bytes: a copy with the flag set, else 00 41 and the stored bytes after their length.
+// Refusals: 23; flag clear: 4, 6; 20.
 pub fn item_data(config: CompactVvcConfig, stored: &[u8], out: &mut [u8]) -> Written
     ensures { λ r. ⌜ (writtenOf r, now (out .exit)) ≡ lentOutput (counted (restore config (now (stored .entry)))) (now (out .entry)) ⌝ }
 {
@@ -31,7 +32,8 @@ pub fn item_data(config: CompactVvcConfig, stored: &[u8], out: &mut [u8]) -> Wri
     }
 }
 
-// The bytes to store for an item: a copy with the flag set, else what follows its one unit's header. Refusals: 23, 24, 20.
+// Writes the bytes to store for an item: a copy with the flag set, else the payload of its one unit.
+// Refusals: 23; flag clear: 24; 20.
 pub fn strip_item_data(config: CompactVvcConfig, item: &[u8], out: &mut [u8]) -> Written
     ensures { λ r. ⌜ (writtenOf r, now (out .exit)) ≡ lentOutput (counted (strip config (now (item .entry)))) (now (out .entry)) ⌝ }
 {

@@ -1,4 +1,4 @@
-// Internal: an item stored, and the one unit of a single-layer still found in it again.
+// Internal: an item stored, and the one unit of a still found in it.
 use boxes::Span;
 use boxes::place;
 use compact::CompactVvcConfig;
@@ -17,13 +17,13 @@ ghost use Rattle.split.specs.Item.{itemUnits};
 ghost use Rattle.compact.specs.ItemData.{stillUnit, restore, onlyStill};
 ghost use Rattle.item_data.specs.inner.Still.{payloadOf, PayloadFits, restoredBytes, Restores};
 
-// Where what follows the header of the one unit lies; or that an item is anything but one such unit.
+// Where the payload of the one unit lies, or that the item is not one such unit.
 pub enum Still {
     Payload(Span),
     Other,
 }
 
-// Stores the unit of stored bytes after its length of `size` bytes.
+// Stores the length in `size` bytes, the header 00 41 and the stored bytes at the front of the output.
 fn store_still(size: usize, stored: &[u8], out: &mut [u8])
     requires { ⌜ (size ≤ 4) × (length (now stored) ≤ 2 ^ 30) × (size + 2 + length (now stored) ≤ length (now out)) ⌝ }
     ensures { λ _. ⌜ now (out .exit) ≡ sets (now (out .entry)) 0 (toChunk size (stillUnit (now (stored .entry)))) ⌝ }
@@ -34,7 +34,7 @@ fn store_still(size: usize, stored: &[u8], out: &mut [u8])
     place::copy(stored, out, size + 2);
 }
 
-// Stores the item data of stored bytes that restore, where there is room for it: a copy with the flag set, else their unit.
+// Stores the item data of stored bytes that restore, in an output with room for it: a copy with the flag set, else their unit.
 pub fn store_item(config: CompactVvcConfig, stored: &[u8], out: &mut [u8])
     requires { ⌜ Restores config (now stored) (now out) ⌝ }
     ensures { λ _. ⌜ now (out .exit) ≡ sets (now (out .entry)) 0 (restoredBytes (restore config (now (stored .entry)))) ⌝ }
@@ -46,7 +46,7 @@ pub fn store_item(config: CompactVvcConfig, stored: &[u8], out: &mut [u8])
     store_still(place::wide(config.length_size), stored, out);
 }
 
-// Where what follows the header of an item's one unit lies, if that is of type 8, layer 0, temporal 1.
+// The payload of an item's one unit, if that unit has type 8, layer 0 and temporal id plus 1 of 1.
 pub fn find_still(length_size: u8, item: &[u8]) -> Still
     requires { ⌜ length (now item) ≤ 2 ^ 30 ⌝ }
     ensures { λ r. ⌜ (payloadOf (now (item .entry)) r ≡ onlyStill (now (item .entry)) (itemUnits «length_size» (now (item .entry)))) × PayloadFits (now (item .entry)) r ⌝ }
@@ -64,7 +64,7 @@ pub fn find_still(length_size: u8, item: &[u8]) -> Still
     still_of(item, a)
 }
 
-// The same of the unit at a span.
+// The same for the unit at span a.
 fn still_of(item: &[u8], a: Span) -> Still
     requires { ⌜ a .start + a .len ≤ length (now item) ⌝ }
     ensures { λ r. ⌜ (payloadOf (now (item .entry)) r ≡ onlyStill (now (item .entry)) (accept (a ∷ []))) × PayloadFits (now (item .entry)) r ⌝ }

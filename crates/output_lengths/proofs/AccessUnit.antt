@@ -1,4 +1,4 @@
--- `vvcc_access_unit`: so much scratch always suffices, and with it the stream does not depend on the scratch; and so much output always suffices.
+-- `vvcc_access_unit`: the scratch and the output that suffice; with such a scratch the stream does not depend on it.
 use Prim.Native.Nat.{ℕ, _*_, _≤_}
 use mathlib.Core.Path.{_≡_, refl, sym, ap, _∙_}
 use mathlib.Core.Bool.{Bool, true, false}
@@ -48,7 +48,7 @@ module _ (rec item : List ℕ) where
 
   -- ### the output
   module _ (bytes : AllBytes rec) (tols : Option ℕ) where
-    -- the record's units take at most twice the record
+    -- the units of the record take at most twice the record
     listed-long : (r : FullParsed) (list : List ℕ) → parseFull rec ≡ accept (r, list) → (us : List Span) → listUnits list ≡ accept us → streamed (map (held list) us) ≤ 2 * length rec
     listed-long r list e us u =
         let f = full-read rec r list e in
@@ -74,7 +74,7 @@ module _ (rec item : List ℕ) where
     fitted true o b e = e
     fitted false o b e = let z : _≡_ {A = ℕ} 0 1 = cc in absurd (omega arith)
 
-    -- the stream is no longer whatever the scratch, and with enough scratch no 20 is said
+    -- the bound of the stream holds for every scratch, and with enough scratch there is no 20
     module _ (scratch : List ℕ) where
       pub stream-long : (b : List ℕ) → streamBeside rec item tols scratch ≡ accept b → length b ≤ streamRoom rec item
       unfolding streamBeside

@@ -1,4 +1,4 @@
--- How long an assembled stream is: by the units of the list, and by the length of the item.
+-- The length of an assembled stream, by the units of the list and the length of the item.
 use Prim.Native.Nat.{ℕ, _+_, _*_, _^_, _≤_}
 use mathlib.Core.Path.{_≡_, refl, sym, ap, _∙_}
 use mathlib.Core.Bool.{Bool, true, false}
@@ -29,11 +29,11 @@ use Rattle.access_unit.proofs.Answering.{assemble-unknown, assemble-known}
 use Rattle.path.proofs.Expansion.{then-accept}
 use Rattle.split.specs.inner.Walk.{itemUnitsFrom}
 
--- so many bytes units have after start codes of four bytes
+-- the bytes of units after start codes of four bytes
 abbrev pub streamed : List (List ℕ) → ℕ
 streamed us = 4 * length us + lengths us
 
--- the stream of units and of one more
+-- the stream of units and one more
 pub stream-more : (us : List (List ℕ)) (u : List ℕ) → length (annexB startCode (us ++ (u ∷ []))) ≡ streamed us + (4 + length u)
 unfolding lengths
 stream-more us u = omega (arith, stream-length (us ++ (u ∷ [])), length-append us (u ∷ []), lengths-append us (u ∷ []))
@@ -46,11 +46,11 @@ held-room s (a ∷ us) = omega (arith, held-room s us, length-take (a .len) (dro
 
 -- ### the list's units
 
--- a list with units was not too long
+-- a list whose units read has at most 2^30 bytes
 list-lent : (list : List ℕ) (us : List Span) → listUnits list ≡ accept us → length list ≤ 2 ^ 30
 list-lent list us e = let x = then-accept (decode list) (λ xs. accept (unitsOf xs)) us e in accepted list (x .0) (x .1) .lent
 
--- those of an encoded list are those of its arrays
+-- the units of an encoded list are those of its arrays
 pub encoded-units : (xs : List (Array (List ℕ))) → Sound xs → (us : List Span) → listUnits (encode xs) ≡ accept us → map (held (encode xs)) us ≡ unitsOf xs
 encoded-units xs sound us e =
     let u = units-encode xs (list-lent (encode xs) us e) sound in

@@ -1,4 +1,4 @@
--- What the length of a compact record says of its units, and what its first bit says.
+-- What the length of a compact record says of its units, and what its first bit is.
 use Prim.Native.Nat.{ℕ, _+_, _*_, _/_, _%_, _≤_}
 use mathlib.Core.Path.{_≡_, ap, _∙_}
 use mathlib.Core.Bool.{Bool, true, false, not, _&&_}
@@ -29,7 +29,7 @@ unfolding encodeUnits lengths
 encoded-long w [] = omega arith
 encoded-long w (u ∷ us) = omega (arith, length-append (toChunk w u) (encodeUnits w us), length-toChunk w u, encoded-long w us, mul-suc w (length us))
 
--- one byte and the units, each after one
+-- one byte, then each unit after one byte
 written-long : (c : CompactVvcConfig) (us : List (List ℕ)) (C : List ℕ) → compactBytes c us ≡ accept C → length C ≡ 1 + length (encodeUnits 1 us)
 unfolding compactBytes
 written-long c us C e = go (compactFirstByte c (length us)) (outside (c .«length_size»)) (not (leb 2 (length us) && leb (length us) 33)) (not (allAtMost 255 us)) e

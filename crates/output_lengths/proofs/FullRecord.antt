@@ -1,4 +1,4 @@
--- How long what a full record holds is: its unit list is at most four times as long as the record, and the stream of its units at most twice.
+-- Bounds for a full record: its unit list is at most four times as long, and the stream of its units at most twice.
 use Prim.Native.Nat.{ℕ, zero, suc, _+_, _*_, _/_, _%_, _≤_}
 use mathlib.Core.Path.{_≡_, refl, ap, _∙_, subst}
 use mathlib.Core.Bool.{Bool, true, false}
@@ -26,7 +26,7 @@ use Rattle.output_lengths.specs.Lengths.{prefixSize, scratchRoom}
 use Rattle.output_lengths.proofs.Reading.{Gives, gives-value, gives-any, gives-bind, gives-uint}
 
 module _ (s : List ℕ) where
-  -- ### units: four bytes of a list or stream for two of the record, and their own
+  -- ### units: four bytes of a list or stream for two of the record, and the unit itself
   record UnitsFit (p n : ℕ) (us : List Span) (q : ℕ) : Type 0 where
     few : 2 * p + room 4 us ≤ 2 * q
     along : p + 2 * n ≤ q

@@ -1,4 +1,4 @@
--- Grouping keeps the lengths of units together: each is of one group.
+-- Grouping keeps the sum of the lengths of units: each is in one group.
 use Prim.Native.Nat.{ℕ, _+_, _≤_}
 use mathlib.Core.Path.{_≡_, refl, sym}
 use mathlib.Core.Bool.{Bool, true, false}
@@ -14,7 +14,7 @@ use Rattle.grouping.specs.Grouping.{havingType, without, firsts, group, grouped
 use Rattle.access_unit.specs.inner.Gathered.{lengths}
 use Rattle.access_unit.proofs.Sums.{lengths-append}
 
--- n for each time that t stands in a list
+-- n for each occurrence of t in a list
 unfoldable weigh : ℕ → ℕ → List ℕ → ℕ
 weigh t n [] = 0
 weigh t n (x ∷ xs) = (if eqb t x then n else 0) + weigh t n xs
@@ -38,7 +38,7 @@ module _ (t n : ℕ) where
       go true e h = h
       go false e h = let d = ne-eqb t x (λ f. eqb-false x t e (sym f)) in rw d (omega (arith, h))
 
-  -- among first appearances it stands once at most
+  -- in a list of first occurrences t occurs at most once
   firsts-once : (ts : List ℕ) → weigh t n (firsts ts) ≤ n
   unfolding weigh firsts
   firsts-once [] = omega arith
@@ -48,7 +48,7 @@ module _ (t n : ℕ) where
       go true e h = let f = eqb-true t y e in rw (← f) (omega (arith, without-none (firsts ts)))
       go false e h = omega (arith, without-less y (firsts ts))
 
--- one unit more: its length for each time that its type stands among the groups
+-- one unit more: its length for each occurrence of its type among the groups
 having-more : (t : ℕ) (u : List ℕ) (us : List (List ℕ)) → lengths (havingType t (u ∷ us)) ≡ (if eqb (typeOr31 u) t then length u else 0) + lengths (havingType t us)
 unfolding havingType lengths
 having-more t u us = go (eqb (typeOr31 u) t)

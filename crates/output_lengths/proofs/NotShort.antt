@@ -1,4 +1,4 @@
--- 20 is no refusal of a definition itself: only lent output adds it.
+-- 20 is not a refusal of a definition itself: only an output adds it.
 use Prim.Native.Nat.{ℕ, _^_}
 use native.Mathlib.Omega.{arith}
 use mathlib.Core.Path.{_≡_}
@@ -17,7 +17,7 @@ use Rattle.full.specs.Write.{fullBytes, recordFits, writeFull, serializeFull}
 use Rattle.full.specs.declared.VvcConfig.{VvcConfig}
 use Rattle.boxes.specs.Bytes.{outside}
 
--- a refusal, but not 20
+-- a refusal is not 20
 abbrev pub NotShort : {A : Type 0} → Outcome A → Type 0
 NotShort (accept a) = Unit {0}
 NotShort (refuse n) = n ≡ 20 → ⊥

@@ -1,4 +1,4 @@
--- An output that is long enough, and an input that was not too long.
+-- An output that is long enough, and an input that is not too long.
 use Prim.Native.Nat.{ℕ, _^_, _≤_}
 use mathlib.Core.Path.{_≡_, refl, sym, _∙_}
 use mathlib.Core.List.{List}
@@ -20,7 +20,7 @@ suffices n (accept b) never h =
     }
 suffices n (refuse e) never h = record { long = h; answer = λ out k. refl; not-short = λ out k. never }
 
--- what was accepted of a lent input
+-- what was accepted of an input
 pub lent-accepted : {A : Type 0} (s : List ℕ) (o : Outcome A) (a : A) → lentInput s o ≡ accept a → (length s ≤ 2 ^ 30) × (o ≡ accept a)
 lent-accepted s o a e =
     elim (decLe (length s) (2 ^ 30)) [

@@ -1,4 +1,4 @@
--- What holds of a value that is read and of the place after it.
+-- What holds of a value that is read, and of the place after it.
 use Prim.Native.Nat.{ℕ, _+_, _≤_}
 use mathlib.Core.Path.{_≡_, refl, subst}
 use mathlib.Core.List.{List}

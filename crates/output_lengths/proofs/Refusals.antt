@@ -1,4 +1,4 @@
--- 20 is said of an output alone: reading, expanding, writing and assembling are never refused with it.
+-- 20 is about an output alone: reading, expanding, writing and assembling never refuse with it.
 use Prim.Native.Nat.{ℕ, zero, suc, _+_, _-_, _*_, _/_, _%_}
 use mathlib.Core.Path.{_≡_, refl, _∙_}
 use mathlib.Core.Bool.{Bool, true, false, not}

@@ -1,4 +1,4 @@
--- `vvcc_still_record` and `vvcc_still_stream`: so much output always suffices.
+-- `vvcc_still_record` and `vvcc_still_stream`: the output that suffices.
 use Prim.Native.Nat.{ℕ, _+_, _*_, _^_, _≤_}
 use mathlib.Core.Path.{_≡_, refl, sym, ap, _∙_, subst}
 use mathlib.Core.Bool.{Bool, true, false}
@@ -87,7 +87,7 @@ module _ (C : List ℕ) (all : AllBytes C) (r : CompactParsed) (list : List ℕ)
 
   -- ### the stream
 
-  -- the list's units take at most four times the record, but for its first byte
+  -- the units of the list take at most four times the record, without its first byte
   listed-long : (vs : List Span) → listUnits arrays ≡ accept vs → streamed (map (held arrays) vs) + 4 ≤ 4 * length C
   listed-long vs f =
       let k = expanded c list from pic full arrays x in
@@ -100,7 +100,7 @@ module _ (C : List ℕ) (all : AllBytes C) (r : CompactParsed) (list : List ℕ)
     is-ready : Ready c (full .head) arrays
     is-ready = ready c (full .head) arrays (record { compact-list = list; from = from; picture = pic; full = full; expands = x; head = refl })
 
-    -- full write and restore accepted
+    -- full write and restore are accepted
     restored : (item : List ℕ) × (accept (length item) ≡ countFound (itemAfter c (full .head) arrays S))
     restored =
         let p = then-accept (serializeFull (full .head) arrays) (λ _. andThen (restore c S) (λ item. assemble (full .head) arrays item tols)) b (sym (is-ready .steps S tols) ∙ f) in

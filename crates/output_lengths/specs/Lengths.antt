@@ -1,5 +1,5 @@
--- How many bytes always suffice for what a call for C writes, and what it then answers (include/vvcc.h says the same in words). The theorems, for
--- records that are lists of bytes: proofs/Stills.antt and proofs/AccessUnit.antt.
+-- How many bytes always suffice for an output of the calls for C (SCOPE 4.8, also in include/vvcc.h), and what such a call returns. The theorems, for
+-- records that are lists of bytes, are in proofs/Stills.antt and proofs/AccessUnit.antt.
 use Prim.Native.Nat.{ℕ, _+_, _*_, _/_, _%_, _≤_}
 use mathlib.Core.Path.{_≡_}
 use mathlib.Core.Bool.{Bool}
@@ -10,7 +10,7 @@ use Rattle.parse.specs.Logic.{if_then_else_}
 use Rattle.parse.specs.Outcome.{Outcome, accept, andThen}
 use Rattle.vvcc_c.specs.Exports.{writtenAnswer, writtenGiven}
 
--- 2.5 times a length
+-- 5 n / 2, rounded down
 abbrev pub twoAndAHalf : ℕ → ℕ
 twoAndAHalf n = 5 * n / 2
 
@@ -18,7 +18,7 @@ twoAndAHalf n = 5 * n / 2
 abbrev pub multiLayer : List ℕ → Bool
 multiLayer C = eqb (getD C 0 0 / 128) 1
 
--- no longer compact record reads: 33 units of 255 bytes
+-- the greatest length of a compact record that reads: 33 units of 255 bytes
 abbrev pub longestCompact : ℕ
 longestCompact = 1 + 33 * 256
 
@@ -26,29 +26,31 @@ longestCompact = 1 + 33 * 256
 abbrev pub recordRoom : List ℕ → ℕ
 recordRoom C = 1100 + 5 * length C
 
--- `vvcc_still_stream`: the stream of a compact record C and stored bytes S, whether C's multi-layer flag is set or not
+-- `vvcc_still_stream`: the stream of C and stored bytes S, where layers is the multi-layer flag
 abbrev pub stillRoomWith : Bool → List ℕ → List ℕ → ℕ
 stillRoomWith layers C S = 4 * length C + (if layers then twoAndAHalf (length S) else length S + 6)
 
+-- the same with the flag in C
 abbrev pub stillRoom : List ℕ → List ℕ → ℕ
 stillRoom C S = stillRoomWith (multiLayer C) C S
 
--- the prefix size of a full record (LengthSizeMinusOne)
+-- the prefix size of a full record (LengthSizeMinusOne + 1)
 abbrev pub prefixSize : List ℕ → ℕ
 prefixSize rec = getD rec 0 0 / 2 % 4 + 1
 
--- `vvcc_access_unit`: the scratch for a full record's unit list
+-- `vvcc_access_unit`, scratch: the unit list of a full record
 abbrev pub scratchRoom : List ℕ → ℕ
 scratchRoom rec = 4 * length rec
 
--- and the stream of the record and an item, whether the prefix size is 4 or not
+-- `vvcc_access_unit`, output: the stream of a record and an item, where four is whether the prefix size is 4
 abbrev pub streamRoomWith : Bool → List ℕ → List ℕ → ℕ
 streamRoomWith four rec item = 2 * length rec + (if four then length item else twoAndAHalf (length item))
 
+-- the same with the prefix size in the record
 abbrev pub streamRoom : List ℕ → List ℕ → ℕ
 streamRoom rec item = streamRoomWith (eqb (prefixSize rec) 4) rec item
 
--- n bytes suffice for a result: it is no longer, and in an output of so many bytes the answer is the result's length or its refusal, and not 20
+-- n bytes suffice for a result: it is not longer, and with an output of n bytes or more the answer is its length or its refusal, never 20
 pub record Suffices (n : ℕ) (o : Outcome (List ℕ)) : Type 0 where
   pub long : (b : List ℕ) → o ≡ accept b → length b ≤ n
   pub answer : (out : List ℕ) → n ≤ length out → writtenGiven o out .0 ≡ writtenAnswer (andThen o (λ b. accept (length b)))

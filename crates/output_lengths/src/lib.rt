@@ -1,1 +1,1 @@
-// How long the results of the calls for C are at most: theorems over the definitions that those calls are proved to meet.
+// How many bytes suffice for the results of the calls for C (SCOPE 4.8): theorems about the definitions that the calls are proved against.

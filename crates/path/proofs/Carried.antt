@@ -1,4 +1,4 @@
--- Units that were read and expanded, and picture bytes, carried through writing, reading back, restoring, assembling and splitting.
+-- Units that were read and expanded, and stored bytes, through full write, full read, restore, assemble and split.
 use Prim.Native.Nat.{ℕ, _+_, _-_, _*_, _^_, _≤_, _<_}
 use native.Mathlib.Omega.{arith}
 use mathlib.Core.Path.{_≡_, sym, ap, _∙_}
@@ -47,7 +47,7 @@ annexB-long (g ∷ gs) u e =
     let h = e .0 in
     omega (arith, length-append g (annexB startCode (gs ++ (u ∷ []))), annexB-long gs u (e .1))
 
--- what is known of a still once its record was read and expanded
+-- what is known of a still whose record was read and expanded
 pub record Expanded (c : CompactVvcConfig) (pic : Picture) (ptl : VvcPtlRecord) (us : List (List ℕ)) (S : List ℕ) : Type 0 where
   pub plain : c .«multi_layer_flag» ≡ false
   pub size-low : 1 ≤ c .«length_size»

@@ -1,4 +1,4 @@
--- What an accepted expansion of units gives: the head with a PTL that can be written, and the list of the grouped units.
+-- What an accepted expansion of units returns: a head with a PTL that can be written, and the list of the grouped units.
 use Prim.Native.Nat.{ℕ}
 use native.Mathlib.Omega.{arith}
 use mathlib.Core.Path.{_≡_, refl, sym, ap, subst}
@@ -24,12 +24,12 @@ use Rattle.grouping.proofs.GroupedFits.{Every}
 use Rattle.path.proofs.Ptls.{sps-ptl, vps-ptl}
 use Rattle.boxes.specs.Bytes.{AllBytes}
 
--- an accepted step after another: both were accepted
+-- when one step after another is accepted, both are
 pub then-accept : {A B : Type 0} (o : Outcome A) (f : A → Outcome B) (b : B) → andThen o f ≡ accept b → (a : A) × (o ≡ accept a) × (f a ≡ accept b)
 then-accept (accept a) f b e = (a, refl, e)
 then-accept (refuse n) f b e = let z : _≡_ {A = ℕ} 0 1 = cc in absurd (omega arith)
 
--- the firstElement unit of a type is one of the units
+-- the first unit of a type is one of the units
 first-is : (P : List ℕ → Type 0) (t : ℕ) (us : List (List ℕ)) → Every P us → (e : ℕ) (u : List ℕ) → orRefuse e (firstElement (havingType t us)) ≡ accept u → P u
 unfolding havingType
 first-is P t [] p e u h = let z : _≡_ {A = ℕ} 0 1 = cc in absurd (omega arith)
@@ -54,7 +54,7 @@ module _ (us : List (List ℕ)) (bytes : Every AllBytes us) where
           let r = then-accept (orRefuse 18 (firstElement (havingType 14 us))) vpsFirstPtl p y in
           vps-ptl (r .0) p (first-is AllBytes 14 us bytes 18 (r .0) (r .1)) (r .2)
 
-  -- the steps accepted, expansion is
+  -- when the steps are accepted, expansion is
   expands-as : (c : CompactVvcConfig) (pic : Picture) (x : Unit {0}) (u : List ℕ) (h : SpsHead) (p : VvcPtlRecord) → multiLayerVps (c .«multi_layer_flag») us ≡ accept x
       → orRefuse 17 (firstElement (havingType 15 us)) ≡ accept u → parseSps u ≡ accept h → ptlOfSets h us ≡ accept p
       → expandUnits c pic us ≡ accept (withList (expandedHead c pic p) (encode (grouped us)))
@@ -66,7 +66,7 @@ module _ (us : List (List ℕ)) (bytes : Every AllBytes us) where
     pub writable : P.Writable ptl
     pub head : full .head ≡ expandedHead c pic ptl
     pub is-list : list ≡ encode (grouped us)
-    -- what is known of the picture changes the head alone
+    -- the picture changes the head alone
     pub of-any : (any : Picture) → expandUnits c any us ≡ accept (withList (expandedHead c any ptl) (encode (grouped us)))
 
   pub expansion : (c : CompactVvcConfig) (pic : Picture) (full : FullHead) (list : List ℕ) → expandUnits c pic us ≡ accept (full, list)

@@ -1,5 +1,5 @@
--- Two stills that meet every premise of the whole path, and what it gives of them. The first is document 01's worked P and Q with S = 9A. The second has
--- its types mixed, so that grouping changes the order, a prefix size of 1 and an empty S.
+-- Two stills that meet every premise of the whole path, and what the claim says of them. The first is P and Q of SCOPE 7 with S = 9A. The second has
+-- mixed types, so that grouping changes the order, prefix size 1 and an empty S.
 use Prim.Native.Nat.{ℕ, _≤_}
 use native.Mathlib.Omega.{arith}
 use mathlib.Core.Path.{_≡_, refl, _∙_}
@@ -54,12 +54,12 @@ instances = record {
   interleaved = meets mixed [] 1 (Q ∷ P ∷ opi ∷ Q′ ∷ dci ∷ P′ ∷ []) refl refl refl refl (λ e. omega arith) (omega arith) (omega arith) refl clean-none (omega arith) (omega arith);
 }
 
--- the theorem of these two
+-- the theorem for these two
 module _ (pic pic′ : Picture) (chroma : pic .chroma ≤ 3) (depth : pic .depth ≤ 15) (chroma′ : pic′ .chroma ≤ 3) (depth′ : pic′ .depth ≤ 15) (tols tols′ : Option ℕ) where
   pub both : Paths C (0x9A ∷ []) mixed [] pic pic′ tols tols′
   both = whole-path C (0x9A ∷ []) mixed [] (instances .worked) (instances .interleaved) pic pic′ chroma depth chroma′ depth′ tols tols′
 
-  -- the SPS and the PPS, as they stand
+  -- the SPS and the PPS, in the order of the record
   pub worked-grouped : both .first .grouped ≡ P ∷ Q ∷ []
   unfolding times be uint bytes chunk atEnd compactRecord havingType without firsts grouped unitsOf
   worked-grouped = one-order (unitsIn C) (both .first .grouped) (P ∷ Q ∷ []) (both .first .order) (grouped-as (unitsIn C))

@@ -1,4 +1,4 @@
--- How long few short units are, after their lengths and in a full record.
+-- The lengths of few short units, after their lengths and in a full record.
 use Prim.Native.Nat.{ℕ, _+_, _*_, _≤_}
 use native.Mathlib.Omega.{arith}
 use mathlib.Core.Path.{_≡_}
@@ -27,7 +27,7 @@ encoded-append w [] vs = omega arith
 encoded-append w (u ∷ us) vs =
     omega (arith, length-append (toChunk w u) (encodeUnits w us), length-append (toChunk w u) (encodeUnits w (us ++ vs)), encoded-append w us vs)
 
--- arrays of a full record: three bytes at most beside their units
+-- arrays of a full record: at most three bytes for each beside their units
 pub arrays-long : (xs : List (Array (List ℕ))) → length (arraysBytes xs) ≤ 3 * length xs + length (encodeUnits 2 (unitsOf xs))
 unfolding arraysBytes arrayBytes unitsOf
 arrays-long [] = omega arith

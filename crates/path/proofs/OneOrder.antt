@@ -1,4 +1,4 @@
--- The described order is one: two lists of the same units in it are equal.
+-- The order of SCOPE 5.2 is unique: two lists of the same units in it are equal.
 use Prim.Native.Nat.{ℕ, zero, suc, _≤_, _<_}
 use native.Mathlib.Omega.{arith}
 use native.Mathlib.Decide.{decLe}
@@ -11,7 +11,7 @@ use lib.Seq.{ext-getD}
 use borrow.Author.Tests.{leb-true, leb-false}
 use Rattle.grouping.specs.Order.{Before, GroupedAs}
 
--- m + 1 places do not go into m, one each: the last place takes that of the one that lies at m
+-- m + 1 numbers do not fit m places, one each: the last takes the place of the one at m
 module _ (m : ℕ) (f : ℕ → ℕ) (small : (i : ℕ) → i < suc (suc m) → f i < suc m)
     (once : (i j : ℕ) → i < suc (suc m) → j < suc (suc m) → f i ≡ f j → i ≡ j) where
   abbrev pick : Bool → ℕ → ℕ
@@ -43,7 +43,7 @@ no-room : (m : ℕ) (f : ℕ → ℕ) → ((i : ℕ) → i < suc m → f i < m) 
 no-room zero f small once = omega (arith, small 0 (omega arith))
 no-room (suc m) f small once = no-room m (λ i. pick m f small once (leb m (f i)) (f i)) (moved-small m f small once) (moved-once m f small once)
 
--- each place holds one of the units
+-- each place has one of the units
 module _ (us gs : List (List ℕ)) (g : GroupedAs us gs) (k : ℕ) (h : k < length us) (far : length us ≤ getD (g .order) k 0) where
   abbrev place : (i : ℕ) → Dec (suc i ≤ length us) → ℕ
   place i (yes l) = g .each i l .0
@@ -71,7 +71,7 @@ inside us gs g k h =
     ]
 
 module _ (us gs hs : List (List ℕ)) (g : GroupedAs us gs) (h : GroupedAs us hs) where
-  -- where the places before k hold the same units, so does k
+  -- where the places before k have the same units, so does place k
   next : (k : ℕ) → k < length us → ((j : ℕ) → j < k → getD (g .order) j 0 ≡ getD (h .order) j 0) → getD (g .order) k 0 ≡ getD (h .order) k 0
   next k l same =
       let a = h .each (getD (g .order) k 0) (inside us gs g k l) in

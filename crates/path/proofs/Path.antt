@@ -1,4 +1,4 @@
--- The whole path, one theorem: `whole-path`.
+-- The whole path, one theorem (SCOPE 5.3): `whole-path`.
 use Prim.Native.Nat.{ℕ, _≤_}
 use native.Mathlib.Omega.{arith}
 use mathlib.Core.Path.{_≡_, refl, sym, ap, _∙_}

@@ -1,4 +1,4 @@
--- The premises of a still by tests, which compute: for stills that are written out.
+-- The premises of a still as tests that compute, for stills that are written out.
 use Prim.Native.Nat.{ℕ, zero, suc, _+_, _^_, _≤_, _<_}
 use native.Mathlib.Omega.{arith}
 use mathlib.Core.Path.{_≡_, refl, sym, subst}
@@ -33,7 +33,7 @@ bytes-of [] e i = omega arith
 bytes-of (x ∷ s) e zero = ltb-true x 256 (both-true (ltb x 256) (allBytes s) e .0)
 bytes-of (x ∷ s) e (suc i) = bytes-of s (both-true (ltb x 256) (allBytes s) e .1) i
 
--- no unit is empty, contains 00 00 01 or ends in 00: the unit check
+-- no unit is empty, contains 00 00 01 or ends in 00: the unit check (SCOPE 4.6)
 unfoldable pub allChecked : List (List ℕ) → Bool
 allChecked [] = true
 allChecked (v ∷ us) = unitChecked v && allChecked us
@@ -50,7 +50,7 @@ clean-of v s = record { free = λ i a b c d. s .free i (record { inside = a; fir
 pub clean-none : Clean []
 clean-none = record { free = λ i a b c d. omega arith; ends = λ h. absurd (omega arith) }
 
--- at most one unit of a type: their count
+-- at most one unit of a type, by their count
 fewer : (v : List ℕ) (c : Bool) (us : List (List ℕ)) (n : ℕ) → length (if c then v ∷ us else us) ≤ n → length us ≤ n
 fewer v true us n h = omega arith
 fewer v false us n h = h
@@ -71,7 +71,7 @@ one-at t (v ∷ us) e (suc i) (suc j) h k f g = one-at t us (fewer v (eqb (typeO
 abbrev pub picture : Picture
 picture = record { chroma = 1; depth = 8; width = 16; height = 8 }
 
--- C with these units, a prefix size and P's PTL, the flag clear
+-- C with these units, a prefix size, the PTL of P and the flag clear
 module _ (C S : List ℕ) (size : ℕ) (us : List (List ℕ)) where
   abbrev pub config : CompactVvcConfig
   config = record { «multi_layer_flag» = false; «length_size» = size }

@@ -1,4 +1,4 @@
--- A PTL that was read from an SPS or a VPS can be written and read back.
+-- A PTL that was read from an SPS or a VPS can be written, and reads as the same PTL.
 use Prim.Native.Nat.{ℕ, _≤_}
 use native.Mathlib.Omega.{arith}
 use mathlib.Core.Path.{_≡_}

@@ -25,7 +25,7 @@ pub record Facts (us : List (List ℕ)) (read : CompactParsed) (list : List ℕ)
   pub size-high : read .config .«length_size» ≤ 4
   pub units : UnitsRead list (listUnits list) us
 
--- what reading returns: the count is that of the units, the length is the list's
+-- what reading returns: the number of units, and the length of the list
 module _ (C : List ℕ) (read : CompactParsed) (list : List ℕ) (spans : List Span) (lent : length C ≤ 2 ^ 30)
     (whole : compactRecord C 0 ≡ value (read .config, spans) (length C)) (reads : parseCompact C ≡ accept (read, list)) where
   given : parseCompact C ≡ accept (parsedWith C (read .config, spans))

@@ -1,4 +1,4 @@
--- Each step of the path is accepted, of a still that meets the premises and a picture whose chroma and depth can be written.
+-- Each step of the path is accepted, for a still that meets the premises and a picture with chroma at most 3 and depth at most 15.
 use Prim.Native.Nat.{ℕ, _≤_}
 use native.Mathlib.Omega.{arith}
 use mathlib.Core.Path.{_≡_, refl, sym, _∙_, subst}
@@ -63,14 +63,14 @@ module _ (C S : List ℕ) (still : Still C S) where
   splittable : Every Splittable us
   splittable = every-of Splittable us (λ k h. clean-splits (getD us k []) (still .some k h) (still .clean k h))
 
-  -- the expansion that the premises speak of; its PTL is that of every other
+  -- the expansion of the premises; its PTL is that of every other expansion
   pub expansion-of : Expansion us (known .all-bytes) config (still .picture) (still .full) (still .full-list)
   expansion-of =
       expansion us (known .all-bytes) config (still .picture) (still .full) (still .full-list)
       (subst (λ (vs : List (List ℕ)). expandUnits config (still .picture) vs ≡ accept (still .full, still .full-list)) (known .units .bytes)
       (of-units config (still .picture) (still .list) (known .units .spans) (still .full, still .full-list) (known .units .read) (still .expands)))
 
-  -- the list, and the stream: neither depends on the picture's numbers or the target
+  -- the list and the stream depend neither on the picture nor on the target
   abbrev pub listOf : List ℕ
   listOf = encode (grouped us)
 

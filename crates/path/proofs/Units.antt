@@ -1,4 +1,4 @@
--- What the plain premises say of the units: they can be grouped and written, and split off a stream again.
+-- What the premises say of the units: they can be grouped and written, and the stream splits into them.
 use Prim.Native.Nat.{ℕ, zero, suc, _+_, _-_, _≤_, _<_}
 use native.Mathlib.Omega.{arith}
 use mathlib.Core.Path.{_≡_, refl, ap, subst}
@@ -20,7 +20,7 @@ use Rattle.grouping.proofs.GroupedFits.{Every}
 use Rattle.path.specs.Still.{Clean, AtMostOne}
 use Rattle.boxes.specs.Bytes.{AllBytes}
 
--- what holds at every place holds of every unit, and back
+-- what holds of unit k for every k holds of every unit, and conversely
 pub every-of : (P : List ℕ → Type 0) (us : List (List ℕ)) → ((k : ℕ) → k < length us → P (getD us k [])) → Every P us
 every-of P [] f = tt
 every-of P (u ∷ us) f = (f 0 (omega arith), every-of P us (λ k h. f (suc k) (omega arith)))
@@ -30,7 +30,7 @@ every-at P [] e k h = absurd (omega arith)
 every-at P (u ∷ us) e zero h = e .0
 every-at P (u ∷ us) e (suc k) h = every-at P us (e .1) k (omega arith)
 
--- At most one unit of a type.
+-- at most one unit of a type
 none-of : (t : ℕ) (us : List (List ℕ)) → ((j : ℕ) → j < length us → typeAt us j ≡ t → ⊥) → havingType t us ≡ []
 unfolding havingType
 none-of t [] f = refl
@@ -55,7 +55,7 @@ type-small [] b = omega arith
 type-small (x ∷ []) b = omega arith
 type-small (x ∷ y ∷ u) b = omega (arith, b 1)
 
--- Units that split off again.
+-- units into which a stream splits
 pub clean-splits : (u : List ℕ) → 0 < length u → Clean u → Splittable u
 clean-splits u h c = record { some = h; free = λ i k. c .free i (k .inside) (k .first) (k .second) (k .third); ends = c .ends h }
 

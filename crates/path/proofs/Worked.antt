@@ -1,4 +1,4 @@
--- The starred worked bytes of document 01, as one table: each line computes from the definitions that the contracts cite.
+-- The worked bytes of SCOPE 7 that are marked 'proved', as one theorem; each line computes from the definitions that the contracts cite.
 use Prim.Native.Nat.{ℕ}
 use mathlib.Core.Path.{_≡_, refl}
 use mathlib.Core.Bool.{false}
@@ -40,39 +40,39 @@ C = 0x60 ∷ 0x0B ∷ P ++ (0x03 ∷ Q)
 abbrev plain : ℕ → CompactVvcConfig
 plain size = record { «multi_layer_flag» = false; «length_size» = size }
 
--- a read list expanded with chroma 1, depth 8, 16 by 8, and the full record of that
+-- a list that was read, expanded with chroma 1, depth 8, 16 by 8, and its full record
 abbrev written : Outcome (CompactParsed × List ℕ) → Outcome (List ℕ)
 written o =
     andThen o (λ r.
     andThen (toFull (r .0 .config) (record { chroma = 1; depth = 8; width = 16; height = 8 }) (r .1)) (λ f.
     serializeFull (f .0 .head) (f .1)))
 
--- a full record read and written again: bytes consumed, and the new record
+-- a full record read and written again: the bytes consumed, and the new record
 abbrev rewritten : Outcome (FullParsed × List ℕ) → Outcome (ℕ × List ℕ)
 rewritten o = andThen o (λ r. andThen (serializeFull (r .0 .head) (r .1)) (λ b. accept (r .0 .consumed, b)))
 
 pub record Worked : Type 0 where
-  -- 60 0B P 03 Q reads: size 4, 2 units
+  -- 60 0B P 03 Q reads: prefix size 4, 2 units
   pub compact-reads : parseCompact C ≡ accept (record { config = plain 4; unitCount = 2; listLength = length (oneArray (P ∷ Q ∷ [])) }, oneArray (P ∷ Q ∷ []))
   pub sps-head : parseSps P ≡ accept headOfP
   -- FF 00 15 1F 01 02 33 80 00 00 10 00 08 00 00 02 8F 00 01 00 0B P 90 00 01 00 03 Q
   pub expanded-and-written : written (parseCompact C) ≡ accept
       ((0xFF ∷ 0x00 ∷ 0x15 ∷ 0x1F ∷ 0x01 ∷ 0x02 ∷ 0x33 ∷ 0x80 ∷ 0x00 ∷ 0x00 ∷ 0x10 ∷ 0x00 ∷ 0x08 ∷ 0x00 ∷ 0x00 ∷ 0x02 ∷ [])
       ++ (0x8F ∷ 0x00 ∷ 0x01 ∷ 0x00 ∷ 0x0B ∷ P) ++ (0x90 ∷ 0x00 ∷ 0x01 ∷ 0x00 ∷ 0x03 ∷ Q))
-  -- stored 9A, flag clear, size 4
+  -- 9A restored, flag clear, prefix size 4
   pub restored : restore (plain 4) (0x9A ∷ []) ≡ accept (0x00 ∷ 0x00 ∷ 0x00 ∷ 0x03 ∷ 0x00 ∷ 0x41 ∷ 0x9A ∷ [])
-  -- 40 00 00 reads (size 3), 40 00 is 1, 40 00 00 00 is 7
+  -- 40 00 00 reads (prefix size 3), 40 00 is 1, 40 00 00 00 is 7
   pub size-3-reads : parseCompact (0x40 ∷ 0x00 ∷ 0x00 ∷ []) ≡ accept (record { config = plain 3; unitCount = 2; listLength = length (oneArray ([] ∷ [] ∷ [])) }, oneArray ([] ∷ [] ∷ []))
   pub unit-missing : parseCompact (0x40 ∷ 0x00 ∷ []) ≡ refuse 1
   pub byte-left : parseCompact (0x40 ∷ 0x00 ∷ 0x00 ∷ 0x00 ∷ []) ≡ refuse 7
-  -- 00 00 55 reads as a full record, 2 consumed, rewritten F8 00; FC 00 is 3
+  -- 00 00 55 reads as a full record of 2 bytes, written again as F8 00; FC 00 is 3
   pub full-rewritten : rewritten (parseFull (0x00 ∷ 0x00 ∷ 0x55 ∷ [])) ≡ accept (2, 0xF8 ∷ 0x00 ∷ [])
   pub full-size-3 : parseFull (0xFC ∷ 0x00 ∷ []) ≡ refuse 3
-  -- Exp-Golomb: 00 00 00 01 FF FF FF FE, four 00 bytes, three
+  -- ue(v) of 00 00 00 01 FF FF FF FE, of four bytes 00, of three
   pub largest-code : ue (0x00 ∷ 0x00 ∷ 0x00 ∷ 0x01 ∷ 0xFF ∷ 0xFF ∷ 0xFF ∷ 0xFE ∷ []) 0 ≡ value 4294967294 63
   pub too-long-code : ue (0x00 ∷ 0x00 ∷ 0x00 ∷ 0x00 ∷ []) 0 ≡ refused 12
   pub code-runs-out : ue (0x00 ∷ 0x00 ∷ 0x00 ∷ []) 0 ≡ refused 11
-  -- 00 00 03 00 00 03 extracts to 00 00 00 00
+  -- the RBSP of 00 00 03 00 00 03 is 00 00 00 00
   pub extracted : rbsp (0x00 ∷ 0x00 ∷ 0x03 ∷ 0x00 ∷ 0x00 ∷ 0x03 ∷ []) ≡ 0x00 ∷ 0x00 ∷ 0x00 ∷ 0x00 ∷ []
 
 pub worked : Worked

@@ -1,4 +1,4 @@
--- What is written to every output that is long enough is what was accepted, and back.
+-- What is written to every output that is long enough is what was accepted, and conversely.
 use Prim.Native.Nat.{ℕ, suc, _+_, _≤_, _<_}
 use native.Mathlib.Omega.{arith}
 use native.Mathlib.Decide.{decLe}
@@ -16,9 +16,9 @@ writes-of o a b e out h = rw e (rw (le-leb (length b) (length out) h))
 pub counts-of : (o : Outcome (List ℕ)) (b : List ℕ) → o ≡ accept b → Writes (counted o) (length b) b
 counts-of o b e out h = rw e (rw (le-leb (length b) (length out) h))
 
--- bytes that stand at the front of an output of n zeros and of one of n ones
+-- bytes at the front of an output of n zeros and of one of n ones
 module _ (n : ℕ) (b c : List ℕ) (long : length b + length c ≤ n) (same : (v : ℕ) → overlay c (replicate n v) ≡ overlay b (replicate n v)) where
-  -- after them stands what the output held
+  -- after them the output is unchanged
   not-longer : length b < length c → ⊥
   not-longer h = let z = after 0 in let o = after 1 in omega arith
     where

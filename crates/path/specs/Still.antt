@@ -1,4 +1,4 @@
--- What the whole path asks of a still, in plain terms.
+-- The premises of the whole path about a still (SCOPE 5.1).
 use Prim.Native.Nat.{ℕ, _+_, _-_, _^_, _≤_, _<_}
 use mathlib.Core.Path.{_≡_}
 use mathlib.Core.Bool.{false}
@@ -14,44 +14,45 @@ use Rattle.expand.specs.Expand.{Picture, FullHead, toFull}
 use Rattle.grouping.specs.Order.{typeAt}
 use Rattle.boxes.specs.Bytes.{AllBytes}
 
--- contains no 00 00 01, and does not end in 00
+-- u does not contain 00 00 01 and does not end in 00
 pub record Clean (u : List ℕ) : Type 0 where
   pub free : (i : ℕ) → i + 2 < length u → getD u i 0 ≡ 0 → getD u (i + 1) 0 ≡ 0 → getD u (i + 2) 0 ≡ 1 → ⊥
   pub ends : 0 < length u → getD u (length u - 1) 0 ≡ 0 → ⊥
 
--- at most one unit of a type: no two places
+-- at most one unit has type t
 abbrev pub AtMostOne : ℕ → List (List ℕ) → Type 0
 AtMostOne t us = (i j : ℕ) → i < j → j < length us → typeAt us i ≡ t → typeAt us j ≡ t → ⊥
 
--- the units of a compact record, in their order
+-- the units of a compact record, in order
 abbrev unitsRead : List ℕ → Parsed (CompactVvcConfig × List Span) → List (List ℕ)
 unitsRead C (value r p) = map (held C) (r .1)
 unitsRead C (refused e) = []
 
+-- the units of C; none if C does not read
 abbrev pub unitsIn : List ℕ → List (List ℕ)
 unitsIn C = unitsRead C (compactRecord C 0)
 
--- A compact record C that reads and expands, and picture bytes S, "as the mission describes".
+-- A compact record C that reads and expands, and stored bytes S (SCOPE 5.1).
 pub record Still (C S : List ℕ) : Type 0 where
   pub bytes : AllBytes C
   -- C reads
   pub read : CompactParsed
   pub list : List ℕ
   pub reads : parseCompact C ≡ accept (read, list)
-  -- C expands: with some chroma, depth and dimensions, on which that does not depend
+  -- C expands with some picture; whether it expands does not depend on the picture
   pub picture : Picture
   pub full : FullHead
   pub full-list : List ℕ
   pub expands : toFull (read .config) picture list ≡ accept (full, full-list)
-  -- multi-layer flag clear, prefix size 1, 2 or 4
+  -- the multi-layer flag is clear, and the prefix size is 1, 2 or 4
   pub plain : read .config .«multi_layer_flag» ≡ false
   pub size : read .config .«length_size» ≡ 3 → ⊥
   pub one-opi : AtMostOne 12 (unitsIn C)
   pub one-dci : AtMostOne 13 (unitsIn C)
-  -- no empty unit; no unit nor S contains 00 00 01 or ends in 00
+  -- no unit is empty; no unit, nor S, contains 00 00 01 or ends in 00
   pub some : (k : ℕ) → k < length (unitsIn C) → 0 < length (getD (unitsIn C) k [])
   pub clean : (k : ℕ) → k < length (unitsIn C) → Clean (getD (unitsIn C) k [])
   pub picture-clean : Clean S
-  -- "S, which may be empty, fits a prefix of size p when 2 plus its length is below 256^p"; at most 2^29 bytes
+  -- S, which may be empty, has at most 2^29 bytes and fits its prefix: 2 + |S| < 256^p
   pub short : length S ≤ 2 ^ 29
   pub fits : 2 + length S < 256 ^ (read .config .«length_size»)

@@ -1,1 +1,1 @@
-// The whole path of a still, from compact record to stream: theorems over the definitions that the calls below are proved to meet.
+// The whole path of a still, from compact record to split stream (SCOPE 5): theorems about the definitions that the public calls are proved against.

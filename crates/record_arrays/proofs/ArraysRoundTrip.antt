@@ -23,13 +23,13 @@ use Rattle.record_arrays.specs.Read.{holdsOne, recordArray}
 use Rattle.record_arrays.specs.Write.{arrayBytes, arraysBytes, unitsFit, arrayFits, arraysFit}
 use Rattle.parse.proofs.General.{both-true}
 
--- one byte that follows others
+-- one byte after others
 pub byte-there : (s pre post : List ℕ) (b p : ℕ) → s ≡ pre ++ (b ∷ post) → length pre ≡ p → uint 1 s p ≡ value b (p + 1)
 byte-there s pre post b p e l =
     let n = ap length e ∙ length-append pre (b ∷ post) in
     uint-there 1 s p (omega arith) ∙ ap (λ v. value v (p + 1)) (be-one s p ∙ rw e (getD-at pre b post 0 p l))
 
--- a number of w bytes that follows others
+-- a number of w bytes after others
 pub number-there : (w : ℕ) (s pre post : List ℕ) (n p : ℕ) → s ≡ pre ++ (toBe w n ++ post) → length pre ≡ p → n < 256 ^ w → uint w s p ≡ value n (p + w)
 number-there w s pre post n p e l f =
     let m = ap length e ∙ length-append pre (toBe w n ++ post) in
@@ -37,7 +37,7 @@ number-there w s pre post n p e l f =
     let j = length-toBe w n in
     uint-there w s p (omega arith) ∙ ap (λ v. value v (p + w)) (rw (e, ← l) (be-toBe-at pre w n post f))
 
--- units that follow others, each of which fits its length
+-- units after others, each of which fits its length
 module _ (w : ℕ) (s : List ℕ) where
   abbrev pub Below : List (List ℕ) → Type 0
   Below [] = Unit {0}
@@ -74,20 +74,20 @@ module _ (w : ℕ) (s : List ℕ) where
       let h : held s (record { start = p + w; len = length u }) ≡ u = rw (g, ← l) (held-toChunk w pre u (encodeUnits w us ++ post) (f .0)) in
       rw (h, units-held us (pre ++ toChunk w u) post (p + w + length u) (g ∙ sym (append-assoc pre (toChunk w u) (encodeUnits w us ++ post))) (past-unit u pre p l) (f .1))
 
--- One array.
+-- one array
 fits-below : (us : List (List ℕ)) → unitsFit us ≡ true → Below 2 [] us
 unfolding unitsFit
 fits-below [] e = tt
 fits-below (u ∷ us) e = let r = both-true _ _ e in (omega (arith, leb-true (length u) 65535 (r .0)), fits-below us (r .1))
 
--- what comes before an array's units
+-- the count of an array
 abbrev countPart : Array (List ℕ) → List ℕ
 countPart a = if holdsOne (a .unitType) then [] else toBe 2 (length (a .units))
 
 abbrev firstByte : Array (List ℕ) → ℕ
 firstByte a = a .complete * 128 + a .unitType
 
--- where an array's units lie, the array being written from p on
+-- the spans of an array's units when the array is written from place p on
 abbrev pub placedArray : ℕ → Array (List ℕ) → Array Span
 placedArray p a = record { complete = a .complete; unitType = a .unitType; units = placedUnits 2 (p + 1 + length (countPart a)) (a .units) }
 
@@ -114,7 +114,7 @@ module _ (s : List ℕ) (a : Array (List ℕ)) (pre post : List ℕ) (p : ℕ) (
   units-there : times (length (a .units)) (chunk 2) s (p + 1 + length (countPart a)) ≡ value (placedUnits 2 (p + 1 + length (countPart a)) (a .units)) (p + 1 + length (countPart a) + length (encodeUnits 2 (a .units)))
   units-there = units-read 2 s (a .units) (pre ++ (firstByte a ∷ countPart a)) post _ split-units before-units (fits-below (a .units) (all-fit .1))
 
-  -- the count, or none for a type that holds one
+  -- the count, or none for types 12 and 13
   count-there : (c : Bool) → holdsOne (a .unitType) ≡ c → (if c then give 1 else uint 2) s (p + 1) ≡ value (length (a .units)) (p + 1 + length (countPart a))
   count-there true h = rw h (let n : length (a .units) ≡ 1 = eqb-true _ 1 (rw h at (all-fit .2)) in rw n (ap (value 1) (omega arith)))
   count-there false h =
@@ -141,7 +141,7 @@ module _ (s : List ℕ) (a : Array (List ℕ)) (pre post : List ℕ) (p : ℕ) (
       ap (λ (us : List (List ℕ)). record { complete = a .complete; unitType = a .unitType; units = us })
       (units-held 2 s (a .units) (pre ++ (firstByte a ∷ countPart a)) post (p + 1 + length (countPart a)) split-units before-units (fits-below (a .units) (all-fit .1)))
 
--- Arrays one after the other.
+-- arrays one after the other
 module _ (s : List ℕ) where
   next-arrays : (a : Array (List ℕ)) (xs : List (Array (List ℕ))) (pre post : List ℕ) → s ≡ pre ++ (arraysBytes (a ∷ xs) ++ post)
       → s ≡ pre ++ (arrayBytes a ++ (arraysBytes xs ++ post))

@@ -1,4 +1,4 @@
--- An array of a full record read (ISO/IEC 14496-15 11.2.4.2). Reserved bits are ignored.
+-- An array of a full record read (SCOPE 3.10; ISO/IEC 14496-15:2024 11.2.4.2). Reserved bits are ignored.
 use Prim.Native.Nat.{ℕ, _/_, _%_}
 use mathlib.Core.Bool.{Bool, _||_}
 use lib.Dec.{eqb}
@@ -8,11 +8,11 @@ use Rattle.boxes.specs.Bytes.{uint, chunk}
 use Rattle.boxes.specs.declared.Span.{Span}
 use Rattle.unit_list.specs.UnitList.{Array}
 
--- OPI and DCI arrays have no count: they hold one unit
+-- an array of type 12 (OPI) or 13 (DCI) has no count: it has one unit
 abbrev pub holdsOne : ℕ → Bool
 holdsOne t = eqb t 12 || eqb t 13
 
--- one array of the record
+-- one array, with the spans of its units
 unfoldable pub recordArray : Parser (Array Span)
 recordArray = do
   b ← uint 1  -- array_completeness 1, reserved 2, NAL_unit_type 5

@@ -1,4 +1,4 @@
--- What the arrays of a record give and leave in the output: a refusal, 20, or the list.
+-- What reading the arrays of a record returns and writes: a refusal, 20, or the list.
 use Prim.Native.Nat.{ℕ, _+_, _≤_, _<_}
 use mathlib.Core.Path.{_≡_, ap, _∙_}
 use mathlib.Core.List.{List}
@@ -30,7 +30,7 @@ module _ (s : List ℕ) (at : ℕ) where
     pub arrays-refused : (e : ℕ) → refused e ≡ roomTaken arraysInList s 0 (times n recordArray s (at + 1)) → listGiven s (countedArrays s at) ≡ refuse e
     arrays-refused e w = ap (listGiven s) (arrays-after ∙ room-refused arraysInList s (times n recordArray s (at + 1)) e w)
 
-    -- the arrays, once they are measured
+    -- the arrays when they are measured
     module _ (room q : ℕ) (w : value room q ≡ roomTaken arraysInList s 0 (times n recordArray s (at + 1))) where
       found : RoomFound arraysInList s (times n recordArray s (at + 1)) room q
       found = room-found arraysInList s (times n recordArray s (at + 1)) room q w

@@ -1,4 +1,4 @@
--- Laws of the arrays of a record and of their units: what comes before the units, one array measured and stored, and the bytes of many.
+-- Laws of the arrays of a record: the head of an array, one array measured and stored, and the bytes of many.
 use Prim.Native.Nat.{ℕ, _+_, _-_, _/_, _%_, _≤_, _<_}
 use mathlib.Core.Path.{_≡_, refl, sym, ap, _∙_, subst}
 use mathlib.Core.Bool.{Bool, true, false}
@@ -32,7 +32,7 @@ use Rattle.parse.proofs.General.{sets-append, sets-before}
 use Rattle.parse.specs.Outcome.{accept}
 use Rattle.parse.specs.inner.Stores.{Puts}
 
--- a byte that is there
+-- reading a byte that is there
 pub byte-read : (s : List ℕ) (p : ℕ) → p < length s → uint 1 s p ≡ value (getD s p 0) (p + 1)
 byte-read s p h = uint-there 1 s p (omega arith) ∙ ap (λ (b : ℕ). value b (p + 1)) (be-one s p)
 
@@ -50,7 +50,7 @@ pub units-more : (s : List ℕ) (a : Span) (us : List Span) → unitsInList s (a
 unfolding encodeUnits
 units-more s a us = refl
 
--- the unit that a walk found
+-- the unit that a step found
 pub record UnitAt (s : List ℕ) (p : ℕ) (a : Span) : Type 0 where
   pub read : chunk 2 s p ≡ value a (a .start + a .len)
   pub start : a .start ≡ p + 2
@@ -67,7 +67,7 @@ module _ (s : List ℕ) (p : ℕ) (r : ChunkRead) (said : chunkStepped r ≡ chu
       let w = chunk-read 2 s p a (a .start + a .len) g in
       record { read = g; start = w .start; inside = w .fits; room = length-toChunk 4 (held s a) ∙ ap (λ (n : ℕ). 4 + n) (held-long s a (w .fits)) }
 
--- ### what comes before the units of an array
+-- ### the head of an array
 
 abbrev headWith : ℕ → ℕ → ArrayHead
 headWith b n = record { complete = b / 128; «unit_type» = b % 32; count = n }
@@ -99,7 +99,7 @@ module _ (s : List ℕ) (p : ℕ) where
     unfolding arrayHead
     array-counted h = rw (first, count-there (holdsOne (getD s p 0 % 32)) h)
 
-    -- the same of fields that were read one by one
+    -- the same for fields that were read one by one
     pub array-headed : (complete t len n : ℕ) → complete ≡ getD s p 0 / 128 → t ≡ getD s p 0 % 32 → len ≡ countLen t
         → n ≡ (if holdsOne t then 1 else be s (p + 1) 2) → p + 1 + len ≤ length s
         → value (record { complete = complete; «unit_type» = t; count = n }) (p + 1 + len) ≡ arrayHead s p
@@ -107,7 +107,7 @@ module _ (s : List ℕ) (p : ℕ) where
         let m : len ≡ countLen (getD s p 0 % 32) = l ∙ ap countLen e in
         rw (k, m, e, c) (sym (array-counted (omega arith)))
 
--- what the answer says once it is known which it is
+-- what the answer says when it is known
 pub record HeadAt (s : List ℕ) (p : ℕ) (h : ArrayHead) (q : ℕ) : Type 0 where
   pub read : arrayHead s p ≡ value h q
   pub after : p + 1 ≤ q
@@ -147,7 +147,7 @@ array-split s p = go (uint 1 s p)
     go (value b q) = counted s b ((if holdsOne (b % 32) then give 1 else uint 2) s q)
     go (refused e) = refl
 
--- what comes before the units in a list
+-- what comes before the units of an array in a list
 abbrev headBytes : ArrayHead → ℕ → List ℕ
 headBytes h rest = toBe 4 rest ++ (h .complete ∷ h .«unit_type» ∷ [])
 

@@ -1,5 +1,5 @@
--- Laws of a parser repeated n times whose values are measured and stored one after the other: what is done and what is left make the
--- whole. One set of laws for the units of an array and for the arrays of a record.
+-- Laws of a parser repeated n times whose values are measured and stored one after the other: what is done and what is left are the
+-- whole. The same laws serve the units of an array and the arrays of a record.
 use Prim.Native.Nat.{ℕ, zero, suc, _+_, _-_, _*_, _≤_, _<_}
 use mathlib.Core.Path.{_≡_, refl, sym, ap, _∙_, subst}
 use mathlib.Core.List.{List, [], _∷_, _++_}
@@ -36,7 +36,7 @@ module _ {A : Type 0} (f : List ℕ → A → List ℕ) (s : List ℕ) where
   room-refused (value a r) e w = absurd (let z : _≡_ {A = ℕ} 0 1 = cc in omega arith)
   room-refused (refused j) e w = let z : j ≡ e = cc in ap refused z
 
--- and the answer that has it, once it is known which it is
+-- the answer of a measurement when it is known
 pub record RoomAt (s : List ℕ) (p : ℕ) (x : Parsed ℕ) (n q : ℕ) : Type 0 where
   pub read : value n q ≡ x
   pub inside : q ≤ length s
@@ -56,10 +56,10 @@ value-of : {A : Type 0} (x : Parsed A) (a : A) → outcome x ≡ accept a → x 
 value-of (value b q) a e = let z : b ≡ a = cc in ap (λ c. value c q) z
 value-of (refused n) a e = let z : _≡_ {A = ℕ} 0 1 = cc in absurd (omega arith)
 
--- P's values, the bytes of one and those of many
+-- values of P: the bytes of one, and of many
 module _ {A : Type 0} (P : Parser A) (f : List ℕ → A → List ℕ) (F : List ℕ → List A → List ℕ)
     (none : (s : List ℕ) → F s [] ≡ []) (first : (s : List ℕ) (a : A) (xs : List A) → F s (a ∷ xs) ≡ f s a ++ F s xs) (s : List ℕ) where
-  -- the bytes of one more
+  -- the length with one more
   room-more : (a : A) (xs : List A) → length (F s (a ∷ xs)) ≡ length (f s a) + length (F s xs)
   room-more a xs = ap length (first s a xs) ∙ length-append (f s a) (F s xs)
 
@@ -96,7 +96,7 @@ module _ {A : Type 0} (P : Parser A) (f : List ℕ → A → List ℕ) (F : List
   place-more a (value xs r) = refl
   place-more a (refused e) = refl
 
-  -- n are left to be read from place p on and stored from place `to` on; x₀ was to be stored from place `start` of out₀ on
+  -- n values are left, to be read from place p on and stored from place `to` on; x₀ was to be stored from place `start` of out₀ on
   pub record Storing (out₀ : List ℕ) (start : ℕ) (x₀ : Parsed (List A)) (n p : ℕ) (out : List ℕ) (to : ℕ) : Type 0 where
     pub putting : Putting (F s) out₀ start (outcome x₀) (outcome (times n P s p)) out to
     pub place : placeAfter (times n P s p) ≡ placeAfter x₀
@@ -115,13 +115,13 @@ module _ {A : Type 0} (P : Parser A) (f : List ℕ → A → List ℕ) (F : List
         record { written = w .1; from = sym (ap placeAfter e) ∙ i .place; to = w .0 }
 
     module _ (some : 0 < n) where
-      -- the next one is there
+      -- the next value is there
       pub storing-not-short : (e : ℕ) → P s p ≡ refused e → ⊥
       storing-not-short e w =
           putting-never (F s) out₀ start (outcome x₀) (outcome (times n P s p)) out to (i .putting) e (ap outcome (times-refused n p some e w))
 
       module _ (a : A) (q : ℕ) (w : P s p ≡ value a q) where
-        -- what is left after one more
+        -- the rest after one more
         left : outcome (times n P s p) ≡ more a (outcome (times (n - 1) P s q))
         left = ap outcome (times-more n p some a q w) ∙ outcome-more a (times (n - 1) P s q)
 
@@ -143,11 +143,11 @@ module _ {A : Type 0} (P : Parser A) (f : List ℕ → A → List ℕ) (F : List
       one-of (value a q) w = record { it = a; found = ap outcome w; room = storing-room a q w }
       one-of (refused e) w = absurd (storing-not-short e w)
 
-      -- and has room
+      -- the output has room for it
       pub storing-one : Puts (f s) (outcome (P s p)) out to
       storing-one = one-of (P s p) refl
 
-      -- and once its bytes are stored, what is left
+      -- the rest when its bytes are stored
       pub storing-stored : (d : List ℕ) (r : Stored) → StoredAt f s (P s p) out to d r → Storing out₀ start x₀ (n - 1) (r .from) d (r .to)
       storing-stored d r v =
           let o = storing-one in

@@ -17,7 +17,7 @@ ghost use Rattle.record_arrays.specs.Read.{holdsOne};
 ghost use Rattle.record_arrays_read.specs.inner.Arrays.{arrayHead, arrayHeadOf, ArrayHeadFits, countedArrays, listGiven, listOf};
 ghost use Rattle.record_arrays.specs.inner.Counts.{countLen};
 
-// How many units an array of the type has, by the count that stands at a place; one where there is no count.
+// The number of units of an array of the type, from the count at place `at`; 1 where there is no count.
 fn unit_count(record: &[u8], at: usize, unit_type: u8) -> usize
     requires { ⌜ at + countLen «unit_type» ≤ length (now «record») ⌝ }
     ensures { λ r. ⌜ r ≡ (if holdsOne «unit_type» then 1 else be (now («record» .entry)) at 2) ⌝ }
@@ -28,7 +28,7 @@ fn unit_count(record: &[u8], at: usize, unit_type: u8) -> usize
     place::number(record, at, 2)
 }
 
-// The head of the array at a place.
+// The head of the array at place `at`.
 pub fn array_head(record: &[u8], at: usize) -> ArrayHeadRead
     requires { ⌜ length (now «record») ≤ 2 ^ 30 ⌝ }
     ensures { λ r. ⌜ (arrayHeadOf r ≡ arrayHead (now («record» .entry)) at) × ArrayHeadFits (now («record» .entry)) at r ⌝ }
@@ -54,7 +54,7 @@ pub fn array_head(record: &[u8], at: usize) -> ArrayHeadRead
     )
 }
 
-// The arrays of a record, whose count stands at a place, measured first and then stored as a unit list. Refusals: 1, 20.
+// Writes the unit list of the arrays whose count is at place `at`; they are measured before anything is written. Refusals: 1, 20.
 pub fn read_list(record: &[u8], at: usize, out: &mut [u8]) -> ListRead
     requires { ⌜ length (now «record») ≤ 2 ^ 30 ⌝ }
     ensures { λ r. ⌜ (listOf r, now (out .exit)) ≡ lentOutput (listGiven (now («record» .entry)) (countedArrays (now («record» .entry)) at)) (now (out .entry)) ⌝ }

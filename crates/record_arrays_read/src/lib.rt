@@ -1,24 +1,24 @@
-// The arrays of a full record read into a unit list.
+// Internal to full read: the arrays of a full record read into a unit list (SCOPE 3.10).
 pub mod arrays;
 pub mod list;
 pub mod room;
 
 use error::Refusal;
 
-// What comes before the units of an array: whether it is complete, its type, and how many units come.
+// What comes before the units of an array: complete, type, and the number of units.
 pub struct ArrayHead {
     pub complete: u8,
     pub unit_type: u8,
     pub count: usize,
 }
 
-// The head of an array and the place after it, or that it is not all there.
+// The head of an array and the place after it, or that the record is too short.
 pub enum ArrayHeadRead {
     Head(ArrayHead, usize),
     Short,
 }
 
-// The place after the arrays of a record, and how many bytes of the output their unit list takes.
+// The place after the arrays of a record, and the length of their list in the output.
 pub enum ListRead {
     Read(usize, usize),
     Refused(Refusal),

@@ -1,4 +1,4 @@
-// For this crate's call: the arrays of a full record, known to be there, stored as those of a unit list.
+// Internal: the arrays of a full record, known to be complete, stored as those of a unit list.
 use super::ArrayHeadRead;
 use unit_list::ChunkRead;
 use unit_list::walk;
@@ -13,13 +13,13 @@ ghost use Rattle.record_arrays.specs.Read.{recordArray};
 ghost use Rattle.record_arrays_read.specs.inner.Arrays.{unitsInList, arrayInList, arraysInList, storedBytes, StoredAt};
 ghost use Rattle.parse.specs.inner.Stores.{Puts};
 
-// Where storing stands: the next place of the record and that of the output.
+// The places where reading and storing continue: in the record and in the output.
 pub struct Stored {
     pub from: usize,
     pub to: usize,
 }
 
-// Stores `count` units of the record from a place on.
+// Stores `count` units from place `from` of the record.
 fn put_units(record: &[u8], from: usize, count: usize, out: &mut [u8], to: usize) -> Stored
     requires { ⌜ (length (now «record») ≤ 2 ^ 30) × (from ≤ length (now «record»)) × Puts (unitsInList (now «record»)) (outcome (times count (chunk 2) (now «record») from)) (now out) to ⌝ }
     ensures { λ r. ⌜ StoredAt unitsInList (now («record» .entry)) (times count (chunk 2) (now («record» .entry)) from) (now (out .entry)) to (now (out .exit)) r ⌝ }
@@ -39,7 +39,7 @@ fn put_units(record: &[u8], from: usize, count: usize, out: &mut [u8], to: usize
     Stored { from: at, to: next }
 }
 
-// Stores the array at a place of the record: its units, and then what comes before them.
+// Stores the array at a place of the record: its units first, then its length, complete and type before them.
 fn put_array(record: &[u8], at: usize, out: &mut [u8], to: usize) -> Stored
     requires { ⌜ (length (now «record») ≤ 2 ^ 30) × Puts (arrayInList (now «record»)) (outcome (recordArray (now «record») at)) (now out) to ⌝ }
     ensures { λ r. ⌜ StoredAt arrayInList (now («record» .entry)) (recordArray (now («record» .entry)) at) (now (out .entry)) to (now (out .exit)) r ⌝ }
@@ -53,7 +53,7 @@ fn put_array(record: &[u8], at: usize, out: &mut [u8], to: usize) -> Stored
     stored
 }
 
-// Stores `count` arrays of the record from a place on.
+// Stores `count` arrays from place `from` of the record.
 pub fn put_arrays(record: &[u8], from: usize, count: usize, out: &mut [u8], to: usize)
     requires { ⌜ (length (now «record») ≤ 2 ^ 30) × Puts (arraysInList (now «record»)) (outcome (times count recordArray (now «record») from)) (now out) to ⌝ }
     ensures { λ _. ⌜ now (out .exit) ≡ sets (now (out .entry)) to (storedBytes arraysInList (now («record» .entry)) (times count recordArray (now («record» .entry)) from)) ⌝ }

@@ -1,4 +1,4 @@
-// For this crate's call: the room that the arrays of a full record take in a unit list.
+// Internal: the bytes that the arrays of a full record take in a unit list.
 use super::ArrayHeadRead;
 use unit_list::ChunkRead;
 use unit_list::walk;
@@ -10,13 +10,13 @@ ghost use Rattle.boxes.specs.Bytes.{chunk};
 ghost use Rattle.record_arrays.specs.Read.{recordArray};
 ghost use Rattle.record_arrays_read.specs.inner.Arrays.{listRoomOf, RoomFits, roomTaken, unitsInList, arrayInList, arraysInList};
 
-// How many bytes units or arrays take in a list, and the place after them in the record; or that they are not all there.
+// The bytes that units or arrays take in a list, and the place after them in the record; or that the record is too short.
 pub enum ListRoom {
     Room(usize, usize),
     Short,
 }
 
-// Measures `count` units from a place on.
+// Measures `count` units from place `from` on.
 fn units_room(record: &[u8], from: usize, count: usize) -> ListRoom
     requires { ⌜ (length (now «record») ≤ 2 ^ 30) × (from ≤ length (now «record»)) ⌝ }
     ensures { λ r. ⌜ (listRoomOf r ≡ roomTaken unitsInList (now («record» .entry)) 0 (times count (chunk 2) (now («record» .entry)) from)) × RoomFits (now («record» .entry)) from r ⌝ }
@@ -35,7 +35,7 @@ fn units_room(record: &[u8], from: usize, count: usize) -> ListRoom
     ListRoom::Room(room, at)
 }
 
-// Measures the array at a place.
+// Measures the array at place `at`.
 fn array_room(record: &[u8], at: usize) -> ListRoom
     requires { ⌜ length (now «record») ≤ 2 ^ 30 ⌝ }
     ensures { λ r. ⌜ (listRoomOf r ≡ roomTaken arrayInList (now («record» .entry)) 0 (recordArray (now («record» .entry)) at)) × RoomFits (now («record» .entry)) at r ⌝ }
@@ -49,7 +49,7 @@ fn array_room(record: &[u8], at: usize) -> ListRoom
     ListRoom::Room(6 + room, ends)
 }
 
-// Measures `count` arrays from a place on.
+// Measures `count` arrays from place `from` on.
 pub fn arrays_room(record: &[u8], from: usize, count: usize) -> ListRoom
     requires { ⌜ (length (now «record») ≤ 2 ^ 30) × (from ≤ length (now «record»)) ⌝ }
     ensures { λ r. ⌜ (listRoomOf r ≡ roomTaken arraysInList (now («record» .entry)) 0 (times count recordArray (now («record» .entry)) from)) × RoomFits (now («record» .entry)) from r ⌝ }

@@ -1,4 +1,4 @@
--- Laws of measuring: what is measured and what is left make the whole, for the units of an array and for arrays.
+-- Laws of measuring: what is measured and what is left are the whole, for units and for arrays.
 use Prim.Native.Nat.{ℕ, _+_, _-_, _*_, _^_, _≤_, _<_}
 use mathlib.Core.Path.{_≡_, refl, sym, ap, _∙_, subst}
 use mathlib.Core.Bool.{Bool, true, false, _&&_, and-assoc}
@@ -46,7 +46,7 @@ joined-nothing m = same-measure (omega arith) (omega arith) (and-yes (m .fits))
 nothing-joined : (m : Measure) → joined nothing m ≡ m
 nothing-joined m = same-measure (omega arith) (omega arith) refl
 
--- nothing measuredBy, one more, all
+-- nothing measured, one more, all
 pub after-start : (o : Outcome Measure) → afterMeasured nothing o ≡ o
 after-start (accept m) = ap accept (nothing-joined m)
 after-start (refuse e) = refl
@@ -92,7 +92,7 @@ module _ (s : List ℕ) (here : ListCursor) (r : ListStep) (f : (unitsStepped s 
     pub units-next : arrayUnitsFrom s here ≡ more a (arrayUnitsFrom s next)
     units-next = sym (passed .0)
 
-    -- where the unit lies, and where the walk goes on
+    -- where the unit lies, and where the walk continues
     pub record Ahead : Type 0 where
       pub fits : Fits s next
       pub inside : a .start + a .len ≤ length s

@@ -1,4 +1,4 @@
--- Laws of storing what is found, one thing after the other: what is stored and what is left make the whole.
+-- Laws of storing what is found, one after the other: what is stored and what is left are the whole.
 use Prim.Native.Nat.{ℕ, _+_, _-_, _*_, _≤_, _<_}
 use mathlib.Core.Path.{_≡_, refl, sym, ap, _∙_}
 use mathlib.Core.Bool.{true, false}
@@ -113,7 +113,7 @@ module _ (s : List ℕ) (t : ℕ) (o : Outcome (List Span)) where
       go (accept us) e h = let z : _≡_ {A = ℕ} 0 1 = cc in omega arith
       go (refuse k) e h = let z : _≡_ {A = ℕ} 0 1 = cc in omega arith
 
--- what the three stores of an array need and leave
+-- what the three writes of an array need and leave
 module _ (s : List ℕ) (complete t : ℕ) (o : Outcome (List Span)) (out : List ℕ) (to : ℕ) (h : Puts (arrayInRecord s complete t) o out to) where
   module _ (b : ℕ) (is : b ≡ complete * 128 + t) (d₁ : List ℕ) (e₁ : d₁ ≡ set out to b) where
     one-long : length d₁ ≡ length out

@@ -8,27 +8,27 @@ ghost use Prim.Native.Nat.{_+_, _<_, _^_};
 ghost use Rattle.unit_list.specs.inner.Walk.{Fits, arrayUnitsFrom, arraysFrom};
 ghost use Rattle.record_arrays_write.specs.inner.Measures.{joined, unitMeasure, arrayFitsBy, arrayBy, measuredBy, unitsMeasure, arraysMeasure, measureOf, UnitsWithin, ArraysWithin, arrayMeasured, ArrayWithin};
 
-// Units or arrays: how many, the bytes that they take in a record, and whether all fit their places.
+// Units or arrays: how many, the bytes that they take in a record, and whether every value fits its field.
 pub struct Measure {
     pub count: usize,
     pub len: usize,
     pub fits: bool,
 }
 
-// Units or arrays of a list, or that it is malformed.
+// The measure of units or arrays of a list, or that the list is malformed.
 pub enum RecordMeasure {
     Is(Measure),
     Malformed,
 }
 
-// One array and the cursor whose end is after it, the end, or that the list is malformed.
+// One array and the cursor whose end is after it; the end; or that the list is malformed.
 pub enum ArrayMeasured {
     Array(Measure, ListCursor),
     End,
     Malformed,
 }
 
-// Both together.
+// The sum of two measures.
 fn add(a: Measure, b: Measure) -> Measure
     requires { ⌜ (a .count + b .count < 2 ^ 32) × (a .len + b .len < 2 ^ 32) ⌝ }
     ensures { λ r. ⌜ r ≡ joined a b ⌝ }
@@ -50,7 +50,7 @@ fn add(a: Measure, b: Measure) -> Measure
     }
 }
 
-// A unit of so many bytes, after a length of two bytes.
+// The measure of a unit of `len` bytes, with its length of two bytes.
 fn of_unit(len: usize) -> Measure
     requires { ⌜ len < 2 ^ 32 ⌝ }
     ensures { λ r. ⌜ r ≡ unitMeasure len ⌝ }
@@ -62,7 +62,7 @@ fn of_unit(len: usize) -> Measure
     }
 }
 
-// Whether an array of a type fits, by its units.
+// Whether an array of type t fits, by the measure of its units.
 fn array_fits(t: u8, units: Measure) -> bool
     ensures { λ r. ⌜ r ≡ arrayFitsBy t units ⌝ }
 {
@@ -78,7 +78,7 @@ fn array_fits(t: u8, units: Measure) -> bool
     true
 }
 
-// An array of a type, by its units.
+// The measure of an array of type t, by that of its units.
 fn of_array(t: u8, units: Measure) -> Measure
     requires { ⌜ units .len < 2 ^ 32 ⌝ }
     ensures { λ r. ⌜ r ≡ arrayBy t units ⌝ }
@@ -92,7 +92,7 @@ fn of_array(t: u8, units: Measure) -> Measure
     }
 }
 
-// The units after a cursor, up to the end of its array.
+// Measures the units after a cursor, up to the end of its array.
 pub fn measure_units(list: &[u8], c: ListCursor) -> RecordMeasure
     requires { ⌜ Fits (now list) c ⌝ }
     ensures { λ r. ⌜ (measureOf r ≡ measuredBy (unitsMeasure (now (list .entry))) (arrayUnitsFrom (now (list .entry)) c)) × UnitsWithin c r ⌝ }
@@ -115,7 +115,7 @@ pub fn measure_units(list: &[u8], c: ListCursor) -> RecordMeasure
     }
 }
 
-// The array after a cursor's end.
+// Measures the array after a cursor's end.
 fn measure_array(list: &[u8], c: ListCursor) -> ArrayMeasured
     requires { ⌜ Fits (now list) c ⌝ }
     ensures { λ r. ⌜ (arrayMeasured (now (list .entry)) r ≡ measuredBy (arraysMeasure (now (list .entry))) (arraysFrom (now (list .entry)) c)) × ArrayWithin (now (list .entry)) c r ⌝ }
@@ -132,7 +132,7 @@ fn measure_array(list: &[u8], c: ListCursor) -> ArrayMeasured
     }
 }
 
-// The arrays after a cursor's end.
+// Measures the arrays after a cursor's end.
 pub fn measure_arrays(list: &[u8], c: ListCursor) -> RecordMeasure
     requires { ⌜ Fits (now list) c ⌝ }
     ensures { λ r. ⌜ (measureOf r ≡ measuredBy (arraysMeasure (now (list .entry))) (arraysFrom (now (list .entry)) c)) × ArraysWithin (now (list .entry)) r ⌝ }

@@ -17,7 +17,7 @@ ghost use Rattle.record_arrays_write.specs.inner.Measures.{countBytes, a
 ghost use Rattle.parse.specs.inner.Stores.{Puts, bytesOf};
 ghost use Rattle.unit_list.specs.inner.Written.{unitBytes};
 
-// Stores the units after a cursor, up to the end of its array, and gives the place after them.
+// Stores the units after a cursor, up to the end of its array, and returns the place after them.
 fn put_units(list: &[u8], c: ListCursor, out: &mut [u8], to: usize) -> usize
     requires { ⌜ Fits (now list) c × Puts (unitBytes 2 (now list)) (arrayUnitsFrom (now list) c) (now out) to ⌝ }
     ensures { λ r. ⌜ (r ≡ to + length (bytesOf (unitBytes 2 (now (list .entry))) (arrayUnitsFrom (now (list .entry)) c))) × (now (out .exit) ≡ sets (now (out .entry)) to (bytesOf (unitBytes 2 (now (list .entry))) (arrayUnitsFrom (now (list .entry)) c))) ⌝ }
@@ -34,7 +34,7 @@ fn put_units(list: &[u8], c: ListCursor, out: &mut [u8], to: usize) -> usize
     }
 }
 
-// Stores the count of the units after a cursor, where the array has one, and gives the place after it.
+// Stores the count of the units after a cursor, if the array has one, and returns the place after it.
 fn put_count(list: &[u8], c: ListCursor, out: &mut [u8], to: usize) -> usize
     requires { ⌜ Fits (now list) c × Puts (countBytes (now list) (c .«unit_type»)) (arrayUnitsFrom (now list) c) (now out) to ⌝ }
     ensures { λ r. ⌜ (r ≡ to + length (bytesOf (countBytes (now (list .entry)) (c .«unit_type»)) (arrayUnitsFrom (now (list .entry)) c))) × (now (out .exit) ≡ sets (now (out .entry)) to (bytesOf (countBytes (now (list .entry)) (c .«unit_type»)) (arrayUnitsFrom (now (list .entry)) c))) ⌝ }
@@ -49,7 +49,7 @@ fn put_count(list: &[u8], c: ListCursor, out: &mut [u8], to: usize) -> usize
     to + 2
 }
 
-// Stores an array, whose units follow a cursor, and gives the place after it.
+// Stores an array whose units follow a cursor, and returns the place after it.
 fn put_array(list: &[u8], complete: u8, c: ListCursor, out: &mut [u8], to: usize) -> usize
     requires { ⌜ (complete ≤ 1) × (c .«unit_type» ≤ largestType) × Fits (now list) c × Puts (arrayInRecord (now list) complete (c .«unit_type»)) (arrayUnitsFrom (now list) c) (now out) to ⌝ }
     ensures { λ r. ⌜ (r ≡ to + length (bytesOf (arrayInRecord (now (list .entry)) complete (c .«unit_type»)) (arrayUnitsFrom (now (list .entry)) c))) × (now (out .exit) ≡ sets (now (out .entry)) to (bytesOf (arrayInRecord (now (list .entry)) complete (c .«unit_type»)) (arrayUnitsFrom (now (list .entry)) c))) ⌝ }

@@ -1,11 +1,11 @@
-// Answers cases read from standard input: each case is one public call of this build on given input, each answer one line. The form of
-// cases and of answer lines is in the README.md beside src/.
+// Answers cases from standard input: each case is one public call on given input, each answer one line. The form of cases and answers is in the
+// README.md beside src/.
 use replay_text::fields;
 use replay_text::text;
 ghost use mathlib.Core.Path.{_≡_};
 ghost use lib.ListN.{length};
 
-// Reads some of `count` characters, and says how many are left.
+// Reads some of `count` characters and returns how many are left.
 fn skip_some(count: usize, space: &mut [u8]) -> usize {
     let n = text::least(count, space.len());
     if space.len() < n {
@@ -15,7 +15,7 @@ fn skip_some(count: usize, space: &mut [u8]) -> usize {
     text::less(count, got)
 }
 
-// Reads `count` characters and drops them; false where the input ends before.
+// Reads `count` characters and drops them; false if the input ends before.
 fn skip(count: usize, space: &mut [u8]) -> bool {
     let mut left = count;
     while 0 < left {
@@ -28,7 +28,7 @@ fn skip(count: usize, space: &mut [u8]) -> bool {
     true
 }
 
-// Answers a case of `n` bytes, whose digits stand in front on the input; false where the input or the output ends.
+// Answers a case of `n` bytes, whose digits come next on the input; false if the input or the output ends.
 fn answer(n: usize, space: &mut [u8], input: &mut [u8], out: &mut [u8]) -> bool {
     let chars = text::plus(text::plus(n, n), 1);
     if input.len() < n || space.len() < chars {
@@ -46,7 +46,7 @@ fn answer(n: usize, space: &mut [u8], input: &mut [u8], out: &mut [u8]) -> bool 
     io::write_all(1, text::front(space, end))
 }
 
-// One case: eight hexadecimal digits that give its length in bytes, a space, its digits and a line end.
+// One case: its length in bytes as eight hexadecimal digits, a space, its digits and a line end.
 fn turn(space: &mut [u8], input: &mut [u8], out: &mut [u8]) -> bool {
     let mut head = [0u8; 9];
     let got = io::read_full(0, &mut head);
@@ -58,7 +58,7 @@ fn turn(space: &mut [u8], input: &mut [u8], out: &mut [u8]) -> bool {
     answer(fields::four(&length, 0), space, input, out)
 }
 
-// All cases. A proved loop has to end, so it counts its turns down from a number that no run uses up.
+// Answers all cases. A proved loop has to end, so it counts its turns down from a number that no run reaches.
 fn replay(space: &mut [u8], input: &mut [u8], out: &mut [u8]) {
     let mut turns = u64::MAX;
     while 0 < turns && turn(space, input, out) {
@@ -66,7 +66,7 @@ fn replay(space: &mut [u8], input: &mut [u8], out: &mut [u8]) {
     }
 }
 
-// Zeros for a line: the digits of a case, or those of what a case and its output have together, and numbers.
+// Zeros for a line: the digits of a case, or those of a case and its output, and numbers.
 fn line_space() -> [u8; 1204096]
     ensures { λ r. ⌜ 1204096 ≡ length r ⌝ }
 {

@@ -1,4 +1,4 @@
-// A case taken apart, the call that it asks for, and the whole answer line.
+// A case of `replay` taken apart, the call that it names, and the whole answer line.
 use boxes::place;
 use replay_records::access_calls;
 use replay_records::compact_calls;
@@ -10,7 +10,7 @@ use replay_units::list_calls;
 use replay_units::nal_calls;
 use replay_units::split_calls;
 
-// The bytes of a case from a place on, empty where they are not all there.
+// The bytes of a case from a place on; empty if they run past the end.
 fn part(s: &[u8], start: usize, len: usize) -> &[u8] {
     if s.len() < start {
         return &s[..0];
@@ -22,7 +22,7 @@ fn part(s: &[u8], start: usize, len: usize) -> &[u8] {
     &s[start..end]
 }
 
-// The calls by their numbers, which README.md of `replay` lists.
+// The calls by their numbers, as in README.md of `replay`.
 fn answer<'a>(
     op: u8,
     fill: u8,
@@ -46,7 +46,7 @@ fn answer<'a>(
     }
 }
 
-// The answer to a case whose three byte strings have these lengths: the call's number, its answer and what it left in the lent memory.
+// The answer to a case whose three byte strings have these lengths: the call's number, its answer, and the lent memory after the call.
 fn answered(input: &[u8], n: usize, m: usize, k: usize, lent: &mut [u8], out: &mut [u8]) -> usize {
     let op = place::byte(input, 0);
     let fill = place::byte(input, 1);
@@ -62,14 +62,14 @@ fn answered(input: &[u8], n: usize, m: usize, k: usize, lent: &mut [u8], out: &m
     text::put(out, shown, b'\n')
 }
 
-// How long the answer line of a case with this much input and output can be: the digits of both, and the numbers.
+// The greatest length of the answer line of a case with so much input and output: the digits of both, and the numbers.
 fn longest_line(input: usize, room: usize) -> usize {
     let bytes = text::plus(input, room);
     text::plus(4096, text::plus(bytes, bytes))
 }
 
-// The answer line of a case, and its length. It is exported for cases that need more memory than a program has, which is its stack: those of
-// more than 2^30 bytes, refusal 23.
+// Writes the answer line of a case and returns its length. It is exported for cases that need more memory than the stack of a program: those with
+// inputs of more than 2^30 bytes, refusal 23.
 #[no_mangle]
 pub extern "C" fn replay_line(input: &[u8], lent: &mut [u8], out: &mut [u8]) -> usize {
     let room = fields::four(input, 2);

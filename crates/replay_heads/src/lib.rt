@@ -1,5 +1,5 @@
-// The heads of records and parameter sets in `replay`: as bytes of a case, and as text. Array entries past a count get the case's fill byte, which no call
-// may look at.
+// The heads of records and parameter sets in `replay`: from the bytes of a case, and as text. Array entries past a count are set to the fill byte of
+// the case, which no call may use.
 use boxes::place;
 use compact::CompactVvcConfig;
 use full::VvcConfig;
@@ -8,7 +8,7 @@ use replay_text::fields;
 use replay_text::text;
 use sps::SpsHead;
 
-// A compact record's fields: flag, prefix size.
+// The configuration of a compact record: flag, prefix size.
 pub fn compact_head(s: &[u8]) -> CompactVvcConfig {
     CompactVvcConfig {
         multi_layer_flag: fields::flag(s, 0),
@@ -16,7 +16,7 @@ pub fn compact_head(s: &[u8]) -> CompactVvcConfig {
     }
 }
 
-// The byte at a place, or the fill byte where none is wanted.
+// The byte at a place, or the fill byte if `wanted` is false.
 fn byte_or(s: &[u8], at: usize, wanted: bool, fill: u8) -> u8 {
     if wanted {
         return place::byte(s, at);
@@ -24,7 +24,7 @@ fn byte_or(s: &[u8], at: usize, wanted: bool, fill: u8) -> u8 {
     fill
 }
 
-// The number of four bytes at a place, or the fill byte where none is wanted.
+// The number of four bytes at a place, or the fill byte if `wanted` is false.
 fn four_or(s: &[u8], at: usize, wanted: bool, fill: u8) -> u32 {
     if wanted {
         return fields::four(s, at) as u32;
@@ -32,7 +32,7 @@ fn four_or(s: &[u8], at: usize, wanted: bool, fill: u8) -> u32 {
     fill as u32
 }
 
-// The constraint bytes from a place on.
+// The constraint bytes, from a place on.
 fn constraints(s: &[u8], at: usize, n: usize, fill: u8) -> [u8; 63] {
     let mut bytes = [0u8; 63];
     let mut i: usize = 0;
@@ -43,7 +43,7 @@ fn constraints(s: &[u8], at: usize, n: usize, fill: u8) -> [u8; 63] {
     bytes
 }
 
-// The flags of the levels from a place on, where a flag and a level are two bytes.
+// The present flags of the levels, from a place on; a flag and a level are two bytes.
 fn present(s: &[u8], at: usize, n: usize, fill: u8) -> [bool; 7] {
     let mut flags = [false; 7];
     let mut i: usize = 0;
@@ -54,7 +54,7 @@ fn present(s: &[u8], at: usize, n: usize, fill: u8) -> [bool; 7] {
     flags
 }
 
-// The levels from a place on.
+// The levels, from a place on.
 fn levels(s: &[u8], at: usize, n: usize, fill: u8) -> [u8; 7] {
     let mut bytes = [0u8; 7];
     let mut i: usize = 0;
@@ -65,7 +65,7 @@ fn levels(s: &[u8], at: usize, n: usize, fill: u8) -> [u8; 7] {
     bytes
 }
 
-// The sub-profiles from a place on, four bytes each.
+// The sub-profiles, from a place on, four bytes each.
 fn sub_profiles(s: &[u8], at: usize, n: usize, fill: u8) -> [u32; 255] {
     let mut values = [0u32; 255];
     let mut i: usize = 0;
@@ -76,7 +76,7 @@ fn sub_profiles(s: &[u8], at: usize, n: usize, fill: u8) -> [u32; 255] {
     values
 }
 
-// A PTL from place `at` on: five numbers, three counts of two bytes, then as much of each array as its count says and the array holds.
+// A PTL from place `at` on: five numbers, three counts of two bytes, then of each array as many entries as its count and its length allow.
 fn ptl(s: &[u8], at: usize, fill: u8) -> VvcPtlRecord {
     let n = fields::two(s, text::plus(at, 5));
     let m = fields::two(s, text::plus(at, 7));
@@ -100,7 +100,7 @@ fn ptl(s: &[u8], at: usize, fill: u8) -> VvcPtlRecord {
     }
 }
 
-// A full record's head from place `at` on: fourteen bytes of numbers, then the PTL.
+// The head of a full record from place `at` on: fourteen bytes of numbers, then the PTL.
 pub fn full_head(s: &[u8], at: usize, fill: u8) -> VvcConfig {
     VvcConfig {
         length_size: place::byte(s, at),
@@ -117,7 +117,7 @@ pub fn full_head(s: &[u8], at: usize, fill: u8) -> VvcConfig {
     }
 }
 
-// An SPS head for the cropped size: chroma, width, height, window flag and values. The other fields come from the fill byte.
+// An SPS head for the cropped size: chroma, width, height, window flag and offsets. The other fields are set from the fill byte.
 pub fn window_head(s: &[u8], fill: u8) -> SpsHead {
     SpsHead {
         sps_id: fill,
@@ -138,7 +138,7 @@ pub fn window_head(s: &[u8], fill: u8) -> SpsHead {
     }
 }
 
-// The prefix size, PTL flag, operating point and sublayers of a full record's head.
+// Puts the prefix size, PTL flag, operating point and sublayers of a head.
 fn first_numbers(out: &mut [u8], at: usize, h: VvcConfig) -> usize {
     let first = text::put_small(out, at, h.length_size);
     let second = text::put_flag(out, first, h.ptl_present_flag);
@@ -146,21 +146,21 @@ fn first_numbers(out: &mut [u8], at: usize, h: VvcConfig) -> usize {
     text::put_small(out, third, h.num_sublayers)
 }
 
-// The frame rate's kind, chroma format and depth of a full record's head.
+// Puts the constant frame rate, chroma format and bit depth of a head.
 fn format_numbers(out: &mut [u8], at: usize, h: VvcConfig) -> usize {
     let first = text::put_small(out, at, h.constant_frame_rate);
     let second = text::put_small(out, first, h.chroma_format_idc);
     text::put_small(out, second, h.bit_depth_minus8)
 }
 
-// The dimensions and the average frame rate of a full record's head.
+// Puts the dimensions and the average frame rate of a head.
 fn last_numbers(out: &mut [u8], at: usize, h: VvcConfig) -> usize {
     let first = text::put_number(out, at, h.max_picture_width as u64);
     let second = text::put_number(out, first, h.max_picture_height as u64);
     text::put_number(out, second, h.avg_frame_rate as u64)
 }
 
-// A full record's head in the order of its fields.
+// Puts a head, in the order of its fields.
 pub fn put_full_head(out: &mut [u8], at: usize, h: VvcConfig) -> usize {
     let native_ptl = h.native_ptl;
     let first = first_numbers(out, at, h);
@@ -169,35 +169,35 @@ pub fn put_full_head(out: &mut [u8], at: usize, h: VvcConfig) -> usize {
     last_numbers(out, third, h)
 }
 
-// The ids and sublayers of an SPS head.
+// Puts the ids and sublayers of an SPS head.
 fn sps_ids(out: &mut [u8], at: usize, h: SpsHead) -> usize {
     let first = text::put_small(out, at, h.sps_id);
     let second = text::put_small(out, first, h.vps_id);
     text::put_small(out, second, h.max_sublayers_minus1)
 }
 
-// The chroma format, CTU size and PTL flag of an SPS head.
+// Puts the chroma format, CTU size and PTL flag of an SPS head.
 fn sps_numbers(out: &mut [u8], at: usize, h: SpsHead) -> usize {
     let first = text::put_small(out, at, h.chroma_format_idc);
     let second = text::put_small(out, first, h.log2_ctu_size);
     text::put_flag(out, second, h.ptl_present_flag)
 }
 
-// The first three of the window of an SPS head: its flag, left and right.
+// Puts the window flag and the left and right offsets of an SPS head.
 fn window_sides(out: &mut [u8], at: usize, h: SpsHead) -> usize {
     let first = text::put_flag(out, at, h.conformance_window_flag);
     let second = text::put_number(out, first, h.conf_win_left_offset as u64);
     text::put_number(out, second, h.conf_win_right_offset as u64)
 }
 
-// The last of an SPS head: the window's top and bottom, and the depth.
+// Puts the top and bottom offsets and the bit depth of an SPS head.
 fn window_ends(out: &mut [u8], at: usize, h: SpsHead) -> usize {
     let first = text::put_number(out, at, h.conf_win_top_offset as u64);
     let second = text::put_number(out, first, h.conf_win_bottom_offset as u64);
     text::put_small(out, second, h.bit_depth)
 }
 
-// The size, window and depth of an SPS head.
+// Puts the size, window and bit depth of an SPS head.
 fn size_numbers(out: &mut [u8], at: usize, h: SpsHead) -> usize {
     let first = text::put_number(out, at, h.pic_width as u64);
     let second = text::put_number(out, first, h.pic_height as u64);
@@ -205,7 +205,7 @@ fn size_numbers(out: &mut [u8], at: usize, h: SpsHead) -> usize {
     window_ends(out, third, h)
 }
 
-// An SPS head in the order of its fields.
+// Puts an SPS head, in the order of its fields.
 pub fn put_sps_head(out: &mut [u8], at: usize, h: SpsHead) -> usize {
     let ptl = h.ptl;
     let first = sps_ids(out, at, h);

@@ -6,7 +6,7 @@ use replay_text::text;
 use sps::SpsHead;
 use sps::SpsRead;
 
-// Whether a parameter set was read.
+// Puts whether a parameter set was read.
 fn put_answer(out: &mut [u8], at: usize, r: ParamsAnswer) -> usize {
     match r {
         ParamsAnswer::Read => shown::accepted(out, at),
@@ -14,7 +14,7 @@ fn put_answer(out: &mut [u8], at: usize, r: ParamsAnswer) -> usize {
     }
 }
 
-// `SpsHead::parse_nal`, `SpsHead::parse_rbsp`: the answer, and the head whatever it is.
+// `SpsHead::parse_nal`, `SpsHead::parse_rbsp`: the answer and the head, which is also shown on a refusal.
 fn put_sps(out: &mut [u8], at: usize, r: SpsRead) -> usize {
     let answer = r.answer;
     let head = r.head;
@@ -22,7 +22,7 @@ fn put_sps(out: &mut [u8], at: usize, r: SpsRead) -> usize {
     replay_heads::put_sps_head(out, next, head)
 }
 
-// `vps_first_ptl`: the answer, and the PTL whatever it is.
+// `vps_first_ptl`: the answer and the PTL, which is also shown on a refusal.
 fn vps(s: &[u8], out: &mut [u8], at: usize) -> usize {
     let r = vps::vps_first_ptl(s);
     let answer = r.answer;
@@ -31,7 +31,7 @@ fn vps(s: &[u8], out: &mut [u8], at: usize) -> usize {
     replay_ptl::put_ptl(out, next, ptl)
 }
 
-// `opi_ols_idx`: 1 and the operating point, or 0 where it is absent.
+// `opi_ols_idx`: 1 and the operating point, or 0 if it is absent.
 fn opi(s: &[u8], out: &mut [u8], at: usize) -> usize {
     let r = opi::opi_ols_idx(s);
     match r {

@@ -1,8 +1,8 @@
-// A PTL in the answers of `replay`, as text. An array is shown up to its count, with any entry after that is not 0.
+// A PTL in the answers of `replay`, as text. An array is shown up to its count; later entries are shown if they are not 0.
 use ptl::VvcPtlRecord;
 use replay_text::text;
 
-// A byte of an array, where it is wanted or is not 0.
+// Puts a byte of an array if it is wanted or is not 0.
 fn byte_if(out: &mut [u8], at: usize, wanted: bool, b: u8) -> usize {
     if wanted || b != 0 {
         return text::put_byte(out, at, b);
@@ -10,13 +10,13 @@ fn byte_if(out: &mut [u8], at: usize, wanted: bool, b: u8) -> usize {
     at
 }
 
-// A level, where it is wanted or is not absent and 0: whether it is present, and its byte.
+// Puts a level, as its flag and its byte, if it is wanted, present or not 0.
 fn level_if(out: &mut [u8], at: usize, wanted: bool, present: bool, b: u8) -> usize {
     let first = byte_if(out, at, wanted || b != 0, if present { 1 } else { 0 });
     byte_if(out, first, wanted || present, b)
 }
 
-// A sub-profile, where it is wanted or is not 0, as four bytes.
+// Puts a sub-profile, as four bytes, if it is wanted or is not 0.
 fn sub_profile_if(out: &mut [u8], at: usize, wanted: bool, v: u32) -> usize {
     if !wanted && v == 0 {
         return at;
@@ -27,7 +27,7 @@ fn sub_profile_if(out: &mut [u8], at: usize, wanted: bool, v: u32) -> usize {
     text::put_byte(out, third, (v % 256) as u8)
 }
 
-// The constraint bytes up to a count, and any byte after that is not 0.
+// Puts the constraint bytes up to a count, and every later byte that is not 0.
 fn constraints(out: &mut [u8], at: usize, n: usize, bytes: &[u8; 63]) -> usize {
     let mut end = text::put_all(out, at, b" =");
     let mut i: usize = 0;
@@ -38,7 +38,7 @@ fn constraints(out: &mut [u8], at: usize, n: usize, bytes: &[u8; 63]) -> usize {
     end
 }
 
-// The levels up to a count, and any after that is not absent and 0.
+// Puts the levels up to a count, and every later one that is present or not 0.
 fn levels(out: &mut [u8], at: usize, n: usize, present: &[bool; 7], bytes: &[u8; 7]) -> usize {
     let mut end = text::put_all(out, at, b" =");
     let mut i: usize = 0;
@@ -49,7 +49,7 @@ fn levels(out: &mut [u8], at: usize, n: usize, present: &[bool; 7], bytes: &[u8;
     end
 }
 
-// The sub-profiles up to a count, and any after that is not 0.
+// Puts the sub-profiles up to a count, and every later one that is not 0.
 fn sub_profiles(out: &mut [u8], at: usize, n: usize, values: &[u32; 255]) -> usize {
     let mut end = text::put_all(out, at, b" =");
     let mut i: usize = 0;
@@ -60,7 +60,7 @@ fn sub_profiles(out: &mut [u8], at: usize, n: usize, values: &[u32; 255]) -> usi
     end
 }
 
-// The numbers of a PTL that come before its arrays.
+// Puts the numbers of a PTL that come before its arrays.
 fn ptl_numbers(out: &mut [u8], at: usize, p: VvcPtlRecord) -> usize {
     let first = text::put_small(out, at, p.general_profile_idc);
     let second = text::put_flag(out, first, p.general_tier_flag);
@@ -69,7 +69,7 @@ fn ptl_numbers(out: &mut [u8], at: usize, p: VvcPtlRecord) -> usize {
     text::put_flag(out, fourth, p.ptl_multilayer_enabled_flag)
 }
 
-// A PTL: its numbers, then each array after its count.
+// Puts a PTL: its numbers, then each array after its count.
 pub fn put_ptl(out: &mut [u8], at: usize, p: VvcPtlRecord) -> usize {
     let bytes = p.general_constraint_info;
     let present = p.sublayer_level_present_flag;

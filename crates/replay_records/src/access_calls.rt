@@ -62,7 +62,7 @@ fn unit_at(
     )
 }
 
-// The calls by their numbers: target, k and head are among the numbers of the case.
+// The calls by their numbers. Target, k and head are among the numbers of the case.
 pub fn answer<'a>(
     op: u8,
     fill: u8,

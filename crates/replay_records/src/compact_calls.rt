@@ -6,7 +6,7 @@ use replay_text::fields;
 use replay_text::shown;
 use replay_text::text;
 
-// `parse` of a compact record: flag, prefix size, unit count and the length of the list.
+// `compact_read::parse`: flag, prefix size, unit count and the length of the list.
 fn parse(s: &[u8], lent: &mut [u8], out: &mut [u8], at: usize) -> usize {
     let r = compact_read::parse(s, lent);
     match r {
@@ -20,7 +20,7 @@ fn parse(s: &[u8], lent: &mut [u8], out: &mut [u8], at: usize) -> usize {
     }
 }
 
-// Whether a compact record was expanded: the length of the list.
+// Puts the length of the list of an expansion, or the refusal.
 fn put_answer(out: &mut [u8], at: usize, r: ExpandAnswer) -> usize {
     match r {
         ExpandAnswer::List(len) => shown::number(out, at, len),
@@ -28,7 +28,7 @@ fn put_answer(out: &mut [u8], at: usize, r: ExpandAnswer) -> usize {
     }
 }
 
-// `to_full`: the answer, and the head whatever it is.
+// `to_full`: the answer and the head, which is also shown on a refusal.
 fn to_full(numbers: &[u8], list: &[u8], lent: &mut [u8], out: &mut [u8], at: usize) -> usize {
     let config = replay_heads::compact_head(numbers);
     let chroma = place::byte(numbers, 2);

@@ -7,7 +7,7 @@ use ptl::VvcPtlRecord;
 use replay_text::shown;
 use sample_format::SampleFormat;
 
-// Whether a record was read: the bytes consumed and the length of the list.
+// Puts the bytes consumed and the length of the list, or the refusal.
 fn put_answer(out: &mut [u8], at: usize, r: FullAnswer) -> usize {
     match r {
         FullAnswer::Read(consumed, len) => shown::pair(out, at, consumed, len),
@@ -15,7 +15,7 @@ fn put_answer(out: &mut [u8], at: usize, r: FullAnswer) -> usize {
     }
 }
 
-// `parse`: the answer, and the head whatever it is.
+// `full_read::parse`: the answer and the head, which is also shown on a refusal.
 fn parse(s: &[u8], lent: &mut [u8], out: &mut [u8], at: usize) -> usize {
     let r = full_read::parse(s, lent);
     let answer = r.answer;

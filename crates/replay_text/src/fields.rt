@@ -1,9 +1,9 @@
-// Internal: numbers of a case at a place, each byte past the end read as 0.
+// Internal: numbers in the bytes of a case; a byte past the end is read as 0.
 use crate::text;
 use boxes::place;
 ghost use Prim.Native.Nat.{_<_};
 
-// A yes or no: any byte but 0 is yes.
+// A flag: any byte but 0 is yes.
 pub fn flag(s: &[u8], at: usize) -> bool {
     place::byte(s, at) != 0
 }

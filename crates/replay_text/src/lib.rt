@@ -1,4 +1,4 @@
-// The text of the cases and answers of `replay`: digits, numbers, lines written from their front on, and plain answers.
+// The text of the cases and answers of `replay`: digits, numbers, lines, and plain answers.
 pub mod fields;
 pub mod shown;
 pub mod text;

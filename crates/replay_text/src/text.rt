@@ -1,4 +1,4 @@
-// Internal: the answer line, a text that is written from its front on, and hexadecimal digits.
+// Internal: the answer line, which is written from its front on, and hexadecimal digits.
 ghost use mathlib.Core.Path.{_≡_};
 ghost use Prim.Native.Nat.{_-_, _≤_};
 
@@ -9,19 +9,19 @@ pub fn least(a: usize, b: usize) -> usize
     if a < b { a } else { b }
 }
 
-// A difference, 0 where it would be below.
+// a - b, 0 if it is below 0.
 pub fn less(a: usize, b: usize) -> usize
     ensures { λ r. ⌜ r ≡ a - b ⌝ }
 {
     if b < a { a - b } else { 0 }
 }
 
-// A sum, 0 where it would not fit.
+// a + b, 0 if it does not fit.
 pub fn plus(a: usize, b: usize) -> usize {
     if a <= usize::MAX - b { a + b } else { 0 }
 }
 
-// The first bytes of a slice, empty where they are not all there.
+// The first n bytes of a slice; empty if there are fewer.
 pub fn front(s: &[u8], n: usize) -> &[u8] {
     if n <= s.len() {
         return &s[0..n];
@@ -29,7 +29,7 @@ pub fn front(s: &[u8], n: usize) -> &[u8] {
     &s[..0]
 }
 
-// One character at a place, and the place after it; a full text stays as it is.
+// Puts one character at a place and returns the place after it; a full text does not change.
 pub fn put(text: &mut [u8], at: usize, c: u8) -> usize {
     if at < text.len() {
         text[at] = c;
@@ -49,7 +49,7 @@ fn digit(n: u8) -> u8 {
     63
 }
 
-// What a hexadecimal digit in lower case stands for, 0 for any other character.
+// The value of a hexadecimal digit in lower case, 0 for any other character.
 fn value(c: u8) -> u8
     ensures { λ r. ⌜ r ≤ 15 ⌝ }
 {
@@ -67,7 +67,7 @@ fn byte_of(digits: &[u8], at: usize) -> u8 {
     high * 16 + low
 }
 
-// Fills `bytes` with those that the digits give.
+// Fills `bytes` with the bytes of the digits.
 pub fn decode(digits: &[u8], bytes: &mut [u8]) {
     let mut i: usize = 0;
     let mut at: usize = 0;
@@ -78,7 +78,7 @@ pub fn decode(digits: &[u8], bytes: &mut [u8]) {
     }
 }
 
-// Sets every byte of lent memory.
+// Sets every byte of lent memory to b.
 pub fn fill(bytes: &mut [u8], b: u8) {
     let mut i: usize = 0;
     while i < bytes.len() {
@@ -87,13 +87,13 @@ pub fn fill(bytes: &mut [u8], b: u8) {
     }
 }
 
-// A byte as two digits.
+// Puts a byte as two digits.
 pub fn put_byte(text: &mut [u8], at: usize, b: u8) -> usize {
     let next = put(text, at, digit(b / 16));
     put(text, next, digit(b % 16))
 }
 
-// The digits of bytes.
+// Puts bytes as digits.
 pub fn put_digits(text: &mut [u8], at: usize, bytes: &[u8]) -> usize {
     let mut end = at;
     let mut i: usize = 0;
@@ -104,7 +104,7 @@ pub fn put_digits(text: &mut [u8], at: usize, bytes: &[u8]) -> usize {
     end
 }
 
-// Characters as they are.
+// Puts characters as they are.
 pub fn put_all(text: &mut [u8], at: usize, chars: &[u8]) -> usize {
     let mut end = at;
     let mut i: usize = 0;
@@ -115,31 +115,31 @@ pub fn put_all(text: &mut [u8], at: usize, chars: &[u8]) -> usize {
     end
 }
 
-// A number.
+// Puts a number in decimal.
 pub fn put_decimal(text: &mut [u8], at: usize, n: u64) -> usize {
     let mut digits = [0u8; 20];
     let k = io::decimal(n, &mut digits);
     put_all(text, at, &digits[..k])
 }
 
-// A space and a number.
+// Puts a space and a number.
 pub fn put_number(text: &mut [u8], at: usize, n: u64) -> usize {
     let next = put(text, at, b' ');
     put_decimal(text, next, n)
 }
 
-// A space and a number of one byte.
+// Puts a space and a number of one byte.
 pub fn put_small(text: &mut [u8], at: usize, n: u8) -> usize {
     put_number(text, at, n as u64)
 }
 
-// A space and a yes or no as 1 or 0.
+// Puts a space and a yes or no, as 1 or 0.
 pub fn put_flag(text: &mut [u8], at: usize, flag: bool) -> usize {
     let n: u64 = if flag { 1 } else { 0 };
     put_number(text, at, n)
 }
 
-// A space, an equals sign and the digits of bytes.
+// Puts a space, an equals sign and bytes as digits.
 pub fn put_bytes(text: &mut [u8], at: usize, bytes: &[u8]) -> usize {
     let next = put_all(text, at, b" =");
     put_digits(text, next, bytes)

@@ -4,7 +4,7 @@ use error::Refusal;
 use replay_text::fields;
 use replay_text::shown;
 
-// The refusal of a number up to 12; others get 12.
+// The refusal with number n up to 12; any other n is taken as 12.
 fn low_refusal(n: u8) -> Refusal {
     match n {
         1 => Refusal::Truncated,
@@ -22,7 +22,7 @@ fn low_refusal(n: u8) -> Refusal {
     }
 }
 
-// The refusal of a number above 12; others get 24.
+// The refusal with number n above 12; any other n is taken as 24.
 fn high_refusal(n: u8) -> Refusal {
     match n {
         13 => Refusal::Subpictures,

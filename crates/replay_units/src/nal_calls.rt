@@ -6,7 +6,7 @@ use nal::UnitKind;
 use replay_text::shown;
 use replay_text::text;
 
-// A part of a header: 1 and its number, or 0 where it is absent.
+// Puts a field of a header: 1 and its number, or 0 if it is absent.
 fn put_field(out: &mut [u8], at: usize, r: HeaderField) -> usize {
     match r {
         HeaderField::Present(v) => shown::pair(out, at, 1, place::wide(v)),
@@ -24,7 +24,7 @@ fn put_check(out: &mut [u8], at: usize, r: UnitCheck) -> usize {
     }
 }
 
-// `unit_kind`: the kinds numbered from 0 in their order in `nal`, and the type where a kind has one.
+// `unit_kind`: the number of the kind, from 0 in their order in `nal`, and the type if the kind has one.
 fn put_kind(out: &mut [u8], at: usize, kind: UnitKind) -> usize {
     match kind {
         UnitKind::PictureData(t) => shown::pair(out, at, 0, place::wide(t)),

@@ -4,7 +4,7 @@ use replay_text::fields;
 use replay_text::shown;
 use split::NextUnit;
 
-// The next unit: 1, where it lies and the place after it, or 0 where there is none.
+// Puts the next unit: 1, where it lies and the place after it, or 0 if there is none.
 fn next(r: NextUnit, text: &mut [u8], at: usize) -> usize {
     match r {
         NextUnit::Unit(a, after) => shown::span(text, at, a, after),

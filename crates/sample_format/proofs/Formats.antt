@@ -61,7 +61,7 @@ module _ (s : List ℕ) (r : SpsRead) (e : spsOf r ≡ spsGiven s) where
 
 -- ---- a list
 
--- the format of the first SPS by where it lies
+-- the format of the first SPS, by its place
 abbrev firstAt : List ℕ → Option Place → Outcome Format
 firstAt s none = refuse 17
 firstAt s (some (inFirst a)) = spsFormatOf (held s a)
@@ -91,7 +91,7 @@ module _ (h : VvcConfig) (s : List ℕ) (r : UnitPlace) (e : placeOf r ≡ spsPl
   pub list-refused : (n : Refusal) → r ≡ U.Refused n → refuse (numberOf n) ≡ sampleFormat h s
   list-refused n f = sym (ap (byPlace h s) f) ∙ by-place
 
-  -- the list was read: no refusal was told
+  -- the list was read, so there is no refusal
   module _ (k : OneOf (0 ∷ 1 ∷ 2 ∷ []) (tagOf the-type r)) where
     pub list-head : h .«ptl_present_flag» ≡ true → headFormat h ≡ sampleFormat h s
     list-head b = go r k ∙ by-place
@@ -115,6 +115,6 @@ module _ (h : VvcConfig) (s : List ℕ) (r : UnitPlace) (e : placeOf r ≡ spsPl
       pub list-first : (a : Span) → r ≡ U.First a → spsFormatOf (held s a) ≡ sampleFormat h s
       list-first a f = (rw b) ∙ sym (ap (byPlace h s) f) ∙ by-place
 
--- a unit lies inside its list
+-- a unit lies in its list
 pub first-inside : (s : List ℕ) (r : UnitPlace) → PlaceFits s [] r → (a : Span) → r ≡ U.First a → a .start + a .len ≤ length s
 first-inside s r h a f = subst (PlaceFits s []) f h

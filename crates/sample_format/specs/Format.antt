@@ -1,4 +1,4 @@
--- The sample format that a record announces.
+-- The chroma format and bit depth of the samples (SCOPE 4.3).
 use Prim.Native.Nat.{ℕ}
 use mathlib.Core.List.{List, [], _∷_}
 use Rattle.parse.specs.Logic.{if_then_else_}
@@ -15,20 +15,21 @@ pub record Format : Type 0 where
   pub chroma : ℕ
   pub depth : ℕ
 
--- the head's: "only 22 for depth minus 8 above 247"
+-- the format of a head: 22 for bit_depth_minus8 above 247
 unfoldable pub headFormat : VvcConfig → Outcome Format
 headFormat h = andThen (bitDepth h) (λ d. accept (record { chroma = h .«chroma_format_idc»; depth = d }))
 
--- an SPS's, with its refusals
+-- the format of an SPS, with its refusals
 unfoldable pub spsFormatOf : List ℕ → Outcome Format
 spsFormatOf sps = andThen (parseSps sps) (λ h. accept (record { chroma = h .«chroma_format_idc»; depth = h .«bit_depth» }))
 
--- the first SPS's: "17 no unit in an array of type 15, then the SPS refusals"
+-- the format of the first SPS of a list: 17 if there is none, then its refusals
 unfoldable pub firstFormat : List ℕ → List Span → Outcome Format
 firstFormat list [] = refuse 17
 firstFormat list (a ∷ r) = spsFormatOf (held list a)
 
--- `sample_format`: 23, 21; "PTL flag set, only 22 ..; else 17 .., then the SPS refusals"
+-- `sample_format`: that of the head with the PTL flag, else that of the first unit in an array of type 15
+-- Refusals: 23, 21; PTL flag set: 22; clear: 17 and those of the SPS
 unfoldable pub sampleFormat : VvcConfig → List ℕ → Outcome Format
 sampleFormat h list =
     andThen (decode list) (λ xs. if h .«ptl_present_flag» then headFormat h else firstFormat list (unitsOfType 15 xs))

@@ -1,4 +1,4 @@
-// The sample format that a full record announces.
+// The chroma format and bit depth of a full record (SCOPE 4.3).
 use boxes::UnitPlace;
 use boxes::place;
 use error::Refusal;
@@ -10,7 +10,7 @@ ghost use mathlib.Core.Path.{_≡_};
 ghost use Rattle.sample_format.specs.Format.{sampleFormat, headFormat, spsFormatOf};
 ghost use Rattle.sample_format.specs.Answers.{formatOf};
 
-// Chroma format and bit depth.
+// Chroma format and bit depth, or the refusal.
 pub enum SampleFormat {
     Format(u8, u8),
     Refused(Refusal),
@@ -29,7 +29,7 @@ fn sps_format(sps: &[u8]) -> SampleFormat
     }
 }
 
-// The head's format. Refusal: 22.
+// The format of the head. Refusal: 22.
 fn head_format(head: VvcConfig) -> SampleFormat
     ensures { λ r. ⌜ formatOf r ≡ headFormat head ⌝ }
 {
@@ -39,7 +39,8 @@ fn head_format(head: VvcConfig) -> SampleFormat
     }
 }
 
-// With the PTL flag the head's format, else the first SPS's, by the array's type. Refusals: 23, 21; with the flag 22; else 17 and the SPS's.
+// The format of the head with the PTL flag, else that of the first unit in an array of type 15.
+// Refusals: 23, 21; PTL flag set: 22; clear: 17, 10, then in bit order 11, 12, 13, 14.
 pub fn sample_format(head: VvcConfig, list: &[u8]) -> SampleFormat
     ensures { λ r. ⌜ formatOf r ≡ sampleFormat head (now (list .entry)) ⌝ }
 {

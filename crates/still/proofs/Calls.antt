@@ -1,4 +1,4 @@
--- Demand 3 carried over to the two calls, one theorem: `whole-calls`.
+-- The claim of the whole path for the two calls of SCOPE 4.7, one theorem: `whole-calls`.
 use Prim.Native.Nat.{ℕ, _≤_}
 use native.Mathlib.Omega.{arith}
 use mathlib.Core.Path.{_≡_, sym, ap, _∙_}
@@ -23,7 +23,7 @@ use Rattle.still.specs.Stills.{stillRecord, streamWith, stillStream}
 use Rattle.still.specs.Calls.{Calls, TwoCalls, WholeCalls}
 use Rattle.still.proofs.Pictures.{any-picture}
 
--- one still: its path's steps are those of the calls
+-- one still: the steps of its path are those of the calls
 module _ {C S : List ℕ} {pic : Picture} {tols : Option ℕ} (still : Still C S) (chroma : pic .chroma ≤ 3) (depth : pic .depth ≤ 15) (p : Path C S pic tols) where
   is-record : stillRecord C pic ≡ accept (p .bytes)
   unfolding stillRecord
@@ -64,7 +64,7 @@ whole-calls C S C′ S′ still still′ pic pic′ chroma depth chroma′ depth
     bytes-of : {a b : List ℕ} → accept a ≡ accept b → a ≡ b
     bytes-of e = cc
 
--- The theorem of the two stills of crates/path/proofs/Instance.antt. The record of the first is document 01's worked one; its stream is P, Q and 00 41 9A
+-- The theorem for the two stills of crates/path/proofs/Instance.antt. The record of the first is that of SCOPE 7; its stream is P, Q and 00 41 9A
 -- after start codes.
 abbrev picture : Picture
 picture = record { chroma = 1; depth = 8; width = 16; height = 8 }

@@ -1,4 +1,4 @@
--- What is known of a list that compact read gave, and of the head and list that it expands to: how long they are, and what they hold.
+-- What is known of a list that compact read returned, and of the head and list to which it expands: their lengths and units.
 use Prim.Native.Nat.{ℕ, _^_, _≤_}
 use native.Mathlib.Omega.{arith}
 use mathlib.Core.Path.{_≡_, refl, sym, ap, _∙_, subst}
@@ -33,7 +33,7 @@ use Rattle.path.proofs.Lengths.{head-long, arrays-long}
 use Rattle.still.specs.inner.Steps.{ReadFrom, ExpandedFrom, Plain, streamExpanded}
 use Rattle.boxes.specs.Bytes.{AllBytes}
 
--- what full write accepts is the record's bytes
+-- what full write accepts is the bytes of the record
 pub written-bytes : (h : VvcConfig) (xs : List (Array (List ℕ))) (b : List ℕ) → writeFull h xs ≡ accept b → fullBytes h xs ≡ b
 unfolding writeFull
 written-bytes h xs b e = go (eqb (h .«length_size») 3) (recordFits h xs) e
@@ -43,7 +43,7 @@ written-bytes h xs b e = go (eqb (h .«length_size») 3) (recordFits h xs) e
     go false true e = cc
     go false false e = let z : _≡_ {A = ℕ} 0 1 = cc in absurd (omega arith)
 
--- An expanded head and list: a prefix size and units to write, and that the path from full write on needs no full read.
+-- An expanded head and list: a prefix size and units to write; and the path from full write on does not need full read.
 pub record Ready (c : CompactVvcConfig) (h : VvcConfig) (list : List ℕ) : Type 0 where
   pub plain : Plain (c .«length_size») list
   pub size : h .«length_size» ≡ c .«length_size»
@@ -151,7 +151,7 @@ module _ (c : CompactVvcConfig) (list : List ℕ) (from : ReadFrom c list) where
         let l = ap length (written-bytes head (grouped us) b w) in
         read-after-write head typed (grouped us) (grouped-sound us types) b w (omega (arith, record-long))
 
-    -- assembly looks only at what reading back keeps of the head
+    -- assembly uses only what full read keeps of the head
     assembles-back : (item : List ℕ) (tols : Option ℕ) → assemble (headRead head) arrays item tols ≡ assemble head arrays item tols
     unfolding assemble accessUnit
     assembles-back item none = refl

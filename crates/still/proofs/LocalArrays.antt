@@ -1,4 +1,4 @@
--- A step that writes to a local array which is long enough: what it gave stands at the front, and 20 is not among its refusals.
+-- A step that writes to a local array that is long enough: its result is at the front, and 20 is not among its refusals.
 use Prim.Native.Nat.{ℕ, _^_, _≤_, _<_}
 use native.Mathlib.Omega.{arith}
 use mathlib.Core.Path.{_≡_, refl, sym, ap, _∙_}
@@ -28,7 +28,7 @@ use Rattle.boxes.specs.Bytes.{AllBytes}
 use Rattle.parse.proofs.Output.{output-accepted, output-not-accepted}
 
 module _ {A : Type 0} (o : Outcome (A × List ℕ)) (out : List ℕ) (fits : (a : A) (b : List ℕ) → o ≡ accept (a, b) → length b ≤ length out) where
-  -- what was accepted: the bytes, which stand at the front
+  -- the bytes that were accepted are at the front
   pub record Stored (a : A) (after : List ℕ) : Type 0 where
     pub bytes : List ℕ
     pub given : o ≡ accept (a, bytes)
@@ -51,7 +51,7 @@ module _ {A : Type 0} (o : Outcome (A × List ℕ)) (out : List ℕ) (fits : (a 
 
 -- ### compact read
 
--- the count that is returned is that of the list's bytes
+-- the length that is returned is that of the list
 list-counted : (C : List ℕ) (r : CompactParsed) (list : List ℕ) → parseCompact C ≡ accept (r, list) → r .listLength ≡ length list
 unfolding parseCompact
 list-counted C r list e = go (leb (length C) (2 ^ 30)) (outcome (compactRecord C 0)) e
@@ -63,7 +63,7 @@ list-counted C r list e = go (leb (length C) (2 ^ 30)) (outcome (compactRecord C
     go true (refuse n) f = let z : _≡_ {A = ℕ} 0 1 = cc in absurd (omega arith)
     go false o f = let z : _≡_ {A = ℕ} 0 1 = cc in absurd (omega arith)
 
--- fields and a list at the front of what the array then holds
+-- a configuration, and a list at the front of the array after the call
 pub record Read (C : List ℕ) (c : CompactVvcConfig) (n len : ℕ) (after : List ℕ) : Type 0 where
   pub given : parseCompact C ≡ accept (record { config = c; unitCount = n; listLength = len }, take len after)
   pub within : len ≤ length after
@@ -95,7 +95,7 @@ module _ (C : List ℕ) (bytes : AllBytes C) (out : List ℕ) where
 
 -- ### expansion
 
--- a head, and a list at the front of what the array then holds
+-- a head, and a list at the front of the array after the call
 pub record Expanded (c : CompactVvcConfig) (pic : Picture) (list : List ℕ) (h : VvcConfig) (len : ℕ) (after : List ℕ) : Type 0 where
   pub given : toFull c pic list ≡ accept (record { head = h; listLength = len }, take len after)
   pub within : len ≤ length after
@@ -134,11 +134,11 @@ module _ (c : CompactVvcConfig) (pic : Picture) (list : List ℕ) (from : ReadFr
 
 -- ### the path, step by step
 
--- what a later step gives is what the whole path gives
+-- what a later step returns is what the whole path returns
 pub given-as : (o whole : Outcome (List ℕ)) (out : List ℕ) (x : Outcome ℕ × List ℕ) → whole ≡ o → x ≡ lentOutput (counted o) out → x ≡ lentOutput (counted whole) out
 given-as o whole out x e f = f ∙ ap (λ (y : Outcome (List ℕ)). lentOutput (counted y) out) (sym e)
 
--- the same of its length, and of its refusal
+-- the same for its length and its refusal
 pub counted-as : (o whole : Outcome (List ℕ)) (n : Outcome ℕ) → whole ≡ o → n ≡ countFound o → n ≡ countFound whole
 counted-as o whole n e f = f ∙ ap countFound (sym e)
 

@@ -1,4 +1,4 @@
--- A still's stream depends on no picture: for every one that can be written, the path gives what it gives for `anyPicture`.
+-- The stream of a still does not depend on the picture: with chroma at most 3 and depth at most 15 it is that of `anyPicture`.
 use Prim.Native.Nat.{ℕ, _-_, _≤_}
 use native.Mathlib.Omega.{arith}
 use mathlib.Core.Path.{_≡_, refl, sym, ap, _∙_}
@@ -28,12 +28,12 @@ use Rattle.still.specs.inner.Steps.{ReadFrom, streamExpanded}
 use Rattle.still.proofs.Lists.{Ready, facts, us, expanded, ready}
 use Rattle.boxes.specs.Bytes.{AllBytes}
 
--- goes on, or is refused
+-- accepted or refused, without the value
 abbrev done : {A : Type 0} → Outcome A → Outcome (Unit {0})
 done o = andThen o (λ _. accept tt)
 
 module _ (pic any : Picture) where
-  -- expansion is refused for both or for neither
+  -- expansion is refused with both pictures or with neither
   module _ (c : CompactVvcConfig) (us : List (List ℕ)) where
     abbrev made : Picture → VvcPtlRecord → FullHead × List ℕ
     made p ptl = withList (expandedHead c p ptl) (encode (grouped us))
@@ -68,7 +68,7 @@ module _ (pic any : Picture) where
         first-step (accept x) e = unit-step (orRefuse 17 (firstElement (havingType 15 us))) e
         first-step (refuse m) e = let z : m ≡ n = cc in ap refuse z
 
-  -- full write refuses both or neither
+  -- full write is refused with both pictures or with neither
   module _ (c : CompactVvcConfig) (ptl : VvcPtlRecord) (chroma : pic .chroma ≤ 3) (depth : pic .depth ≤ 15) (chroma′ : any .chroma ≤ 3) (depth′ : any .depth ≤ 15) where
     fits-alike : headFits (expandedHead c pic ptl) ≡ headFits (expandedHead c any ptl)
     unfolding headFits ptlPartFits
@@ -97,7 +97,7 @@ module _ (pic any : Picture) where
     assemble-alike list item none = refl
     assemble-alike list item (some t) = refl
 
-    -- and the rest of the path looks at nothing of the picture
+    -- the rest of the path uses nothing of the picture
     stream-alike : (list S : List ℕ) (tols : Option ℕ) → Ready c (expandedHead c pic ptl) list → Ready c (expandedHead c any ptl) list
         → streamExpanded c (expandedHead c pic ptl) list S tols ≡ streamExpanded c (expandedHead c any ptl) list S tols
     stream-alike list S tols r q = r .steps S tols ∙ both (serializeFull (expandedHead c pic ptl) list) (serializeFull (expandedHead c any ptl) list) (serialize-alike list) ∙ sym (q .steps S tols)

@@ -1,4 +1,4 @@
--- The steps after expansion: the refusals of full write and restore, and the stream where both accept.
+-- The steps after expansion: the refusals of full write and restore, and the stream if both accept.
 use Prim.Native.Nat.{ℕ, _^_, _≤_, _<_}
 use native.Mathlib.Omega.{arith}
 use native.Mathlib.Decide.{decLe}
@@ -26,7 +26,7 @@ use Rattle.access_unit.proofs.OneUnit.{one-assembled}
 use Rattle.still.specs.inner.Steps.{itemAfter, plainStream, streamExpanded}
 use Rattle.still.proofs.Lists.{Ready}
 
--- the item's length once the record's is known, or the first refusal
+-- the length of the item when the length of the record is known, or the first refusal
 module _ (c : CompactVvcConfig) (h : VvcConfig) (list S : List ℕ) where
   pub item-counted : (m : ℕ) (n : Outcome ℕ) → accept m ≡ countFound (serializeFull h list) → n ≡ countFound (restore c S) → n ≡ countFound (itemAfter c h list S)
   item-counted m n e f = go (serializeFull h list) e
@@ -55,7 +55,7 @@ module _ (c : CompactVvcConfig) (h : VvcConfig) (list S : List ℕ) (tols : Opti
       go (accept b) (accept i) e = let z : _≡_ {A = ℕ} 0 1 = cc in absurd (omega arith)
 
   module _ (m : ℕ) (e : accept m ≡ countFound (itemAfter c h list S)) where
-    -- both steps accepted: the item, and the stream of it
+    -- both steps are accepted: the item, and its stream
     record Made : Type 0 where
       item : List ℕ
       long : m ≡ length item

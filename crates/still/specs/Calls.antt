@@ -1,4 +1,4 @@
--- Demand 3 of the two calls: what they give for stills that meet the premises of the whole path (crates/path/specs/Still.antt). The claim is `WholeCalls`, below.
+-- What the two calls of SCOPE 4.7 return for stills that meet the premises of the whole path (SCOPE 5.1). The claim is `WholeCalls`, at the end.
 use Prim.Native.Nat.{ℕ, _≤_}
 use mathlib.Core.Path.{_≡_}
 use mathlib.Core.Logic.{_↔_}
@@ -11,20 +11,20 @@ use Rattle.path.specs.Still.{Still}
 use Rattle.path.specs.Path.{Writes, Path, Paths}
 use Rattle.still.specs.Stills.{stillRecord, stillStream}
 
--- One still: both are accepted with any output that is long enough. The record is the one that the path writes, and the stream is the path's, which
--- splits into the grouped units and 00 41 S.
+-- One still: both calls are accepted with any output that is long enough. They return the full record and the stream of the path, which splits into
+-- the grouped units and 00 41 S.
 pub record Calls (C S : List ℕ) (pic : Picture) (tols : Option ℕ) (path : Path C S pic tols) : Type 0 where
   pub record-given : Writes (counted (stillRecord C pic)) (length (path .bytes)) (path .bytes)
   pub stream-given : Writes (counted (stillStream C S tols)) (length (path .stream)) (path .stream)
 
--- Two stills: the calls of both, and the calls give the same stream exactly when the S are equal and the grouped units are equal in order.
+-- Two stills: both calls for each, and the streams are equal exactly when S = S′ and the grouped units are equal, one by one in order.
 pub record TwoCalls (C S C′ S′ : List ℕ) (pic pic′ : Picture) (tols tols′ : Option ℕ) : Type 0 where
   pub paths : Paths C S C′ S′ pic pic′ tols tols′
   pub first : Calls C S pic tols (paths .first)
   pub second : Calls C′ S′ pic′ tols′ (paths .second)
   pub same : (stillStream C S tols ≡ stillStream C′ S′ tols′) ↔ ((S ≡ S′) × (paths .first .grouped ≡ paths .second .grouped))
 
--- The claim: of any two stills that meet the premises, with any chroma up to 3, depth up to 15, dimensions, and target or none.
+-- The claim, for any two stills that meet the premises and any targets, with chroma at most 3, depth at most 15 and any dimensions.
 abbrev pub WholeCalls : Type 0
 WholeCalls =
     (C S C′ S′ : List ℕ) → Still C S → Still C′ S′ → (pic pic′ : Picture) → pic .chroma ≤ 3 → pic .depth ≤ 15 → pic′ .chroma ≤ 3 → pic′ .depth ≤ 15

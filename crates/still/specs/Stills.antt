@@ -1,5 +1,5 @@
--- One still in one call (document 01, "One still, from compact record to stream"): its steps one after the other, the first refusal being that
--- of the whole. What lies between the steps are lists, so no step but the last has an output to be too short (20).
+-- One still in one call (SCOPE 4.7): the steps one after the other; the first refusal is that of the call. No step has an output of its own, so 20 is
+-- about the result alone.
 use Prim.Native.Nat.{ℕ}
 use mathlib.Core.List.{List}
 use mathlib.Core.Option.{Option}
@@ -12,14 +12,14 @@ use Rattle.full.specs.Write.{serializeFull}
 use Rattle.expand.specs.Expand.{Picture, toFull}
 use Rattle.access_unit.specs.AccessUnit.{assemble}
 
--- the full record of a compact record C and of what the caller knows of the picture: compact read, expand, full write
+-- the full record of C with the caller's picture: compact read, expand, full write
 unfoldable pub stillRecord : List ℕ → Picture → Outcome (List ℕ)
 stillRecord C pic = do
   read ← parseCompact C
   full ← toFull (read .0 .config) pic (read .1)
   serializeFull (full .0 .head) (full .1)
 
--- the stream of a compact record C, a picture and stored bytes S: compact read, expand, full write, full read, restore, assemble; 23 of S first
+-- the stream of C and S with a picture: compact read, expand, full write, full read, restore, assemble. 23 of S comes first
 unfoldable pub streamWith : Picture → List ℕ → List ℕ → Option ℕ → Outcome (List ℕ)
 streamWith pic C S tols = lentInput S do
   read ← parseCompact C
@@ -29,10 +29,10 @@ streamWith pic C S tols = lentInput S do
   item ← restore (read .0 .config) S
   assemble (back .0 .head) (back .1) item tols
 
--- a stream does not depend on chroma, depth and dimensions (`any-picture`, crates/still/proofs/Pictures.antt)
+-- the stream does not depend on the picture (`any-picture`, crates/still/proofs/Pictures.antt)
 abbrev pub anyPicture : Picture
 anyPicture = record { chroma = 1; depth = 8; width = 0; height = 0 }
 
--- so a call for it does not ask for them
+-- so `still_stream` takes no picture
 unfoldable pub stillStream : List ℕ → List ℕ → Option ℕ → Outcome (List ℕ)
 stillStream C S tols = streamWith anyPicture C S tols

@@ -1,8 +1,8 @@
-// One still, from compact record to stream: its definitions and theorems, and the room that its lists take. The calls are those of `still_record`
-// and `still_stream`.
+// One still, from compact record to stream (SCOPE 4.7): definitions and theorems, and the lengths of its lists. The calls are in `still_record` and
+// `still_stream`.
 
-// The most bytes that the unit list of a compact record has: its version, one array's head, 33 units of 255 bytes after their lengths.
+// The greatest length of the unit list of a compact record: version, the head of one array, 33 units of 255 bytes after their lengths.
 pub const COMPACT_LIST: usize = 1 + 6 + 33 * 259;
 
-// The most bytes that it has when it is expanded: its version, the heads of 33 arrays, 33 units of 255 bytes after their lengths.
+// The greatest length of the expanded list: version, the heads of 33 arrays, 33 units of 255 bytes after their lengths.
 pub const EXPANDED_LIST: usize = 1 + 33 * 6 + 33 * 259;

@@ -1,4 +1,4 @@
--- The stream of a list's units and of the picture's unit, measured without an item.
+-- The stream of the units of a list and of the unit of the stored bytes, measured without an item.
 use Prim.Native.Nat.{ℕ, _+_, _*_, _^_, _≤_, _<_}
 use native.Mathlib.Omega.{arith}
 use mathlib.Core.Path.{_≡_, sym, ap, _∙_, subst}
@@ -43,7 +43,7 @@ module _ (size : ℕ) (list : List ℕ) (p : Plain size list) where
       let n = p .some in
       rw (p .listed, split-empty size (p .low) (p .high), ne-eqb (length (p .units) + 0) 0 (λ e. omega arith))
 
-  -- what measuring gives
+  -- what measuring returns
   pub listed-at : (v : Sizes) → accept v ≡ andThen (gather size none list []) (λ g. accept (sizesOf list [] g)) → Listed size list v
   listed-at v e =
       let f : accept v ≡ accept (sizesOf list [] parts) = e ∙ ap (λ (o : Outcome Gathered). andThen o (λ g. accept (sizesOf list [] g))) gathers in
@@ -55,17 +55,17 @@ module _ (size : ℕ) (list : List ℕ) (p : Plain size list) where
       let z : _≡_ {A = ℕ} 0 1 = cc in
       omega arith
 
--- the item that stored bytes are restored to, of n bytes, may be too long (23)
+-- an item of n bytes that is too long is 23
 module _ (size : ℕ) (list S : List ℕ) (n : ℕ) (long : ItemLong size S n) where
   pub plain-too-long : 2 ^ 30 < n → plainStream size list S ≡ refuse 23
   plain-too-long h = lent-too-long (toChunk size (stillUnit S)) _ (omega arith)
 
-  -- else what measuring gives makes the stream
+  -- else the stream is that of the units measured
   pub plain-measured : Plain size list → n ≤ 2 ^ 30 → (r : SizesAnswer) → sizesAnswerOf r ≡ andThen (gather size none list []) (λ g. accept (sizesOf list [] g)) → PlainSizes size list S r
   plain-measured p h (M.Sized v) e = (listed-at size list p v e, lent-within (toChunk size (stillUnit S)) _ (omega arith))
   plain-measured p h (M.Refused x) e = absurd (never-refused size list p (numberOf x) e)
 
--- what the measured list says where its answer is known
+-- what the sizes of the list say when the answer is known
 module _ (size : ℕ) (list S : List ℕ) (r : SizesAnswer) (f : PlainSizes size list S r) where
   pub sized-listed : (v : Sizes) → r ≡ M.Sized v → Listed size list v × (plainStream size list S ≡ unitsStream list S)
   sized-listed v e = subst (PlainSizes size list S) e f
@@ -106,6 +106,6 @@ module _ (size : ℕ) (list : List ℕ) (v : Sizes) (k : Listed size list v) whe
     pub stream-long : length streamBytes ≡ 4 * v .listed + v .lengths + 6 + length S
     stream-long = omega (arith, length-append front (startCode ++ stillUnit S), front-long)
 
-    -- so long is the stream
+    -- the length of the stream
     pub stream-counted : plainStream size list S ≡ unitsStream list S → (n : ℕ) → n ≡ 4 * v .listed + v .lengths + 6 + length S → accept n ≡ countFound (plainStream size list S)
     stream-counted e n h = ap accept (h ∙ sym stream-long) ∙ ap countFound (sym (e ∙ stream-given))

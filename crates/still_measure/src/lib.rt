@@ -1,3 +1,3 @@
-// A still measured: how many bytes its record and its stream have, or the refusal. Nothing is written.
+// The lengths of the record and of the stream of a still (SCOPE 4.7), or the refusal. Nothing is written.
 pub mod record;
 pub mod stream;

@@ -1,4 +1,4 @@
-// Internal: how many bytes the full record of a still has, or the refusal.
+// Internal: the length of the full record of a still, or the refusal.
 use compact::CompactRead;
 use compact::CompactVvcConfig;
 use error::Counted;
@@ -11,7 +11,7 @@ ghost use Rattle.boxes.specs.Walk.{countFound};
 ghost use Rattle.still.specs.Stills.{stillRecord};
 ghost use Rattle.still.specs.inner.Steps.{ReadFrom, recordFrom};
 
-// The record of a compact record's fields and list. Refusals: those of expansion; 3, 22.
+// The length of the record of a configuration and a list. Refusals: those of expansion; 3, 22.
 fn record_len(
     config: CompactVvcConfig,
     list: &[u8],
@@ -41,7 +41,7 @@ fn record_len(
     }
 }
 
-// The full record of a still. Refusals: those of `still_record` but for 20.
+// The length of the full record of a still. Refusals: those of `still_record` but for 20.
 pub fn still_record_len(
     record: &[u8],
     chroma_format_idc: u8,

@@ -1,4 +1,4 @@
-// Internal: how many bytes the stream of a still has, or the refusal.
+// Internal: the length of the stream of a still, or the refusal.
 use access_unit::Target;
 use access_unit::lengths;
 use access_unit::sizes;
@@ -22,8 +22,8 @@ ghost use Rattle.still.specs.Stills.{stillStream};
 ghost use Rattle.still.specs.inner.Steps.{ReadFrom, ExpandedFrom, Plain, itemAfter, plainStream, streamExpanded, streamFrom};
 ghost use Rattle.still_measure.specs.inner.Plain.{PlainSizes, ItemLong};
 
-// How long the item is that stored bytes are restored to, once full write accepts the record. Neither is needed itself: full read gives the same
-// list and what assembly looks at of the head, and the item is the stored bytes or holds their one unit. Refusals: 3, 22; with the flag clear 6.
+// The length of the item of the stored bytes, if full write accepts the record. Neither is made: full read returns the same list and what assembly
+// uses of the head, and the item is the stored bytes or has them as its one unit's payload. Refusals: 3, 22; with the flag clear 6.
 pub fn restored_len(
     config: CompactVvcConfig,
     head: VvcConfig,
@@ -38,7 +38,7 @@ pub fn restored_len(
     }
 }
 
-// The place after the picture's unit, whose start code and header have 6 bytes, where the list's stream ends at a place.
+// The place after the unit of the stored bytes, with its start code and header of 6 bytes, where the stream of the list ends at `at`.
 pub fn picture_end(at: usize, stored: usize) -> usize
     requires { ⌜ (at ≤ 2 ^ 40) × (stored ≤ 2 ^ 30) ⌝ }
     ensures { λ r. ⌜ r ≡ at + 6 + stored ⌝ }
@@ -46,7 +46,7 @@ pub fn picture_end(at: usize, stored: usize) -> usize
     at + 6 + stored
 }
 
-// A list measured as an access unit without an item, for stored bytes that restore to an item of `item_len` bytes. Refusal: 23 of the item.
+// The sizes of a list as an access unit without an item, for stored bytes whose item has `item_len` bytes. Refusal: 23 for the item.
 pub fn plain_sizes(length_size: u8, list: &[u8], stored: &[u8], item_len: usize) -> SizesAnswer
     requires { ⌜ Plain «length_size» (now list) × ItemLong «length_size» (now stored) «item_len» ⌝ }
     ensures { λ r. ⌜ PlainSizes «length_size» (now (list .entry)) (now (stored .entry)) r ⌝ }
@@ -58,7 +58,7 @@ pub fn plain_sizes(length_size: u8, list: &[u8], stored: &[u8], item_len: usize)
     sizes::measure(list, &stored[..0], length_size, target)
 }
 
-// The stream of a list and of stored bytes that restore to one unit. Refusal: 23.
+// The length of the stream of a list and of stored bytes with one unit. Refusal: 23.
 fn plain_len(length_size: u8, list: &[u8], stored: &[u8], item_len: usize) -> Counted
     requires { ⌜ Plain «length_size» (now list) × (length (now stored) ≤ 2 ^ 30) × ItemLong «length_size» (now stored) «item_len» ⌝ }
     ensures { λ r. ⌜ countOf r ≡ countFound (plainStream «length_size» (now (list .entry)) (now (stored .entry))) ⌝ }
@@ -72,7 +72,7 @@ fn plain_len(length_size: u8, list: &[u8], stored: &[u8], item_len: usize) -> Co
     }
 }
 
-// The stream of an expanded head and list. Refusals: 3, 22; with the flag clear 6, 23, else in byte order 1 and 5.
+// The length of the stream of an expanded head and list. Refusals: 3, 22; with the flag clear 6, 23, else in byte order 1 and 5.
 fn expanded_len(
     config: CompactVvcConfig,
     head: VvcConfig,
@@ -94,7 +94,7 @@ fn expanded_len(
     }
 }
 
-// The stream of a compact record's fields and list. Refusals: those of expansion; 3, 22; with the flag clear 6, 23, else in byte order 1 and 5.
+// The length of the stream of a configuration and a list. Refusals: those of expansion; 3, 22; with the flag clear 6, 23, else in byte order 1 and 5.
 fn stream_len(config: CompactVvcConfig, list: &[u8], stored: &[u8], tols: Target) -> Counted
     requires { ⌜ ReadFrom config (now list) × (length (now stored) ≤ 2 ^ 30) ⌝ }
     ensures { λ r. ⌜ countOf r ≡ countFound (streamFrom config (now (list .entry)) (now (stored .entry)) (tolsOf tols)) ⌝ }
@@ -109,7 +109,7 @@ fn stream_len(config: CompactVvcConfig, list: &[u8], stored: &[u8], tols: Target
     }
 }
 
-// The stream of a still. Refusals: those of `still_stream` but for 20.
+// The length of the stream of a still. Refusals: those of `still_stream` but for 20.
 pub fn still_stream_len(record: &[u8], stored: &[u8], tols: Target) -> Counted
     ensures { λ r. ⌜ countOf r ≡ countFound (stillStream (now («record» .entry)) (now (stored .entry)) (tolsOf tols)) ⌝ }
 {

@@ -1,4 +1,4 @@
--- The stream of a list's units and of the picture's unit, stored part by part.
+-- The stream of the units of a list and of the unit of the stored bytes, stored part by part.
 use Prim.Native.Nat.{ℕ, suc, _+_, _*_, _≤_}
 use native.Mathlib.Omega.{arith}
 use mathlib.Core.Path.{_≡_, ap, _∙_}
@@ -18,7 +18,7 @@ use Rattle.still_measure.specs.inner.Plain.{Listed}
 use Rattle.still_measure.proofs.Streams.{known, front, front-found, front-long, streamBytes}
 use Rattle.parse.proofs.General.{sets-append}
 
--- the picture's unit stored: the start code, the header's two bytes, the stored bytes
+-- start code, header and stored bytes make the unit in the stream
 pub picture-stored : (S out d e f g : List ℕ) (at : ℕ) (header : List ℕ) → header ≡ nalHeader 8 0 1 → d ≡ sets out at (toBe 4 1) → e ≡ set d (at + 4) (getD header 0 0)
     → f ≡ set e (at + 5) (getD header 1 0) → g ≡ sets f (at + 6) S → g ≡ sets out at (startCode ++ stillUnit S)
 unfolding toBe

@@ -1,4 +1,4 @@
-// Internal: the stream of a still whose multi-layer flag is clear, of its list's units and of the picture's unit.
+// Internal: the stream of a still whose multi-layer flag is clear: the units of its list, then the unit of the stored bytes.
 use access_unit::Target;
 use access_unit::sizes::Sizes;
 use access_unit::sizes::SizesAnswer;
@@ -18,7 +18,7 @@ ghost use Rattle.access_unit.specs.AccessUnit.{startCode};
 ghost use Rattle.still.specs.inner.Steps.{Plain, unitsStream, plainStream};
 ghost use Rattle.still_measure.specs.inner.Plain.{Listed, ItemLong};
 
-// Stores the picture's unit, the header 00 41 and the stored bytes, from a place on after a start code.
+// Stores 00 00 00 01, the header 00 41 and the stored bytes from place `at` on.
 fn put_picture(stored: &[u8], out: &mut [u8], at: usize)
     requires { ⌜ at + 6 + length (now stored) ≤ length (now out) ⌝ }
     ensures { λ _. ⌜ now (out .exit) ≡ sets (now (out .entry)) at (startCode ++ stillUnit (now (stored .entry))) ⌝ }
@@ -30,7 +30,7 @@ fn put_picture(stored: &[u8], out: &mut [u8], at: usize)
     place::copy(stored, out, at + 6);
 }
 
-// Stores the stream of a list that was measured and of the picture. Refusal: 20.
+// Stores the stream of a list that was measured and of the stored bytes. Refusal: 20.
 fn put_sized(length_size: u8, list: &[u8], stored: &[u8], sizes: Sizes, out: &mut [u8]) -> Written
     requires { ⌜ Listed «length_size» (now list) sizes × (length (now stored) ≤ 2 ^ 30) ⌝ }
     ensures { λ r. ⌜ (writtenOf r, now (out .exit)) ≡ lentOutput (counted (unitsStream (now (list .entry)) (now (stored .entry)))) (now (out .entry)) ⌝ }
@@ -46,7 +46,7 @@ fn put_sized(length_size: u8, list: &[u8], stored: &[u8], sizes: Sizes, out: &mu
     Written::Bytes(len)
 }
 
-// The stream of a list and of stored bytes that restore to one unit, in an item of `item_len` bytes. The item itself is never made. Refusals: 23, 20.
+// Writes the stream of a list and of stored bytes whose item has one unit and `item_len` bytes. The item is not made. Refusals: 23, 20.
 pub fn put_plain(
     length_size: u8,
     list: &[u8],

@@ -1,4 +1,4 @@
-// The full record of a still in one call. What lies between the steps stands in local arrays, so that only the output is lent.
+// The full record of a still in one call (SCOPE 4.7). Intermediate results are in local arrays, so only the output is lent.
 use compact::CompactRead;
 use compact::CompactVvcConfig;
 use error::Written;
@@ -11,7 +11,7 @@ ghost use Rattle.parse.specs.Answers.{writtenOf};
 ghost use Rattle.still.specs.Stills.{stillRecord};
 ghost use Rattle.still.specs.inner.Steps.{ReadFrom, recordFrom};
 
-// The record of a compact record's fields and list. Refusals: those of expansion; 3, 22; 20.
+// Writes the record of a configuration and a list. Refusals: those of expansion; 3, 22; 20.
 fn put_still(
     config: CompactVvcConfig,
     list: &[u8],
@@ -42,7 +42,8 @@ fn put_still(
     }
 }
 
-// The full record of a still. Refusals: 23, 1, 7; with the flag set 16 and the VPS's; 17, the SPS's, 18, the VPS's; 3, 22; 20.
+// Writes the full record of a compact record with the caller's picture.
+// Refusals: 23, 1, 7; with the flag set 16 and the VPS's; 17, the SPS's, 18, the VPS's; 3, 22; 20.
 pub fn still_record(
     record: &[u8],
     chroma_format_idc: u8,

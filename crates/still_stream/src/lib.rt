@@ -1,4 +1,4 @@
-// The Annex B stream of a still in one call. What lies between the steps stands in local arrays, so that only the output is lent.
+// The Annex B stream of a still in one call (SCOPE 4.7). Intermediate results are in local arrays, so only the output is lent.
 use access_unit::Target;
 use compact::CompactRead;
 use compact::CompactVvcConfig;
@@ -21,7 +21,7 @@ ghost use Rattle.access_unit.specs.Answers.{tolsOf};
 ghost use Rattle.still.specs.Stills.{stillStream};
 ghost use Rattle.still.specs.inner.Steps.{ReadFrom, ExpandedFrom, streamExpanded, streamFrom};
 
-// The stream of an expanded head and list. Refusals: 3, 22; with the flag clear 6, 23, else in byte order 1 and 5; 20.
+// Writes the stream of an expanded head and list. Refusals: 3, 22; with the flag clear 6, 23, else in byte order 1 and 5; 20.
 fn put_expanded(
     config: CompactVvcConfig,
     head: VvcConfig,
@@ -44,7 +44,8 @@ fn put_expanded(
     }
 }
 
-// The stream of a compact record's fields and list. Refusals: those of expansion; 3, 22; with the flag clear 6, 23, else in byte order 1 and 5; 20.
+// Writes the stream of a configuration and a list.
+// Refusals: those of expansion; 3, 22; with the flag clear 6, 23, else in byte order 1 and 5; 20.
 fn put_stream(
     config: CompactVvcConfig,
     list: &[u8],
@@ -65,8 +66,9 @@ fn put_stream(
     }
 }
 
-// The stream of a still. Refusals: 23, 1, 7; with the flag set 16 and the VPS's; 17, the SPS's, 18, the VPS's; 3, 22; with the flag clear 6 and
-// 23, an item above 2^30 bytes, else in byte order 1 and 5; 20.
+// Writes the stream of a compact record and stored bytes, with the caller's target or none.
+// Refusals: 23, 1, 7; with the flag set 16 and the VPS's; 17, the SPS's, 18, the VPS's; 3, 22; with the flag clear 6 and 23 (an item above 2^30
+// bytes), else in byte order 1 and 5; 20.
 pub fn still_stream(record: &[u8], stored: &[u8], tols: Target, out: &mut [u8]) -> Written
     ensures { λ r. ⌜ (writtenOf r, now (out .exit)) ≡ lentOutput (counted (stillStream (now («record» .entry)) (now (stored .entry)) (tolsOf tols))) (now (out .entry)) ⌝ }
 {

@@ -1,23 +1,23 @@
-// The worked bytes of document 01 that are run: each line says what is asked and what the calls answer. The others are proved in `path`.
+// The worked bytes of SCOPE 7 that are run: each line says which call is made and what it returns. The others are proved in `path`.
 use bit_reader::BitsRead;
 use bit_reader::FIRST_BIT;
 use compact::CompactVvcConfig;
 use error::Written;
 use replay_text::text;
 
-// Writes a line.
+// Writes a line to standard output.
 fn show(line: &mut [u8], end: usize) {
     let next = text::put(line, end, b'\n');
     io::write_all(1, text::front(line, next));
 }
 
-// A refusal's number.
+// Puts a refusal's number.
 fn put_refused(line: &mut [u8], at: usize, n: u32) -> usize {
     let next = text::put_all(line, at, b" refused with");
     text::put_number(line, next, n as u64)
 }
 
-// How many bytes a call wrote and which they are, or its refusal.
+// Puts the number of bytes that a call wrote and the bytes, or its refusal.
 fn put_written(line: &mut [u8], at: usize, r: Written, out: &[u8]) -> usize {
     match r {
         Written::Bytes(n) => {
@@ -29,7 +29,7 @@ fn put_written(line: &mut [u8], at: usize, r: Written, out: &[u8]) -> usize {
     }
 }
 
-// Restores the item of stored bytes, prefix size 1.
+// Restores the item of stored bytes, flag clear, prefix size 1.
 fn restore(stored: &[u8]) {
     let config = CompactVvcConfig {
         multi_layer_flag: false,
@@ -48,7 +48,7 @@ fn restore(stored: &[u8]) {
     show(&mut line, end);
 }
 
-// Strips an item, prefix size 4.
+// Strips an item, flag clear, prefix size 4.
 fn strip(item: &[u8]) {
     let config = CompactVvcConfig {
         multi_layer_flag: false,
@@ -63,7 +63,7 @@ fn strip(item: &[u8]) {
     show(&mut line, end);
 }
 
-// The value of an Exp-Golomb code and the bits that it takes, or the refusal.
+// Puts the value of an Exp-Golomb code and the number of its bits, or the refusal.
 fn put_code(line: &mut [u8], at: usize, r: BitsRead) -> usize {
     match r {
         BitsRead::Value(v, p) => {
@@ -74,7 +74,7 @@ fn put_code(line: &mut [u8], at: usize, r: BitsRead) -> usize {
     }
 }
 
-// Reads bytes as an Exp-Golomb code.
+// Reads an Exp-Golomb code (SCOPE 3.5).
 fn code(s: &[u8]) {
     if 1024 < s.len() {
         return;

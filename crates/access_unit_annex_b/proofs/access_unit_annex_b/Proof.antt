@@ -1,4 +1,4 @@
--- `access_unit_annex_b` stores the stream of the access unit, or gives the refusal that comes first.
+-- `access_unit_annex_b` writes the stream of the access unit, or returns the first refusal.
 use mathlib.Core.Path.{_≡_, sym, ap, _∙_}
 use lib.Seq.{sets}
 use Rattle.access_unit.specs.AccessUnit.{assemble}

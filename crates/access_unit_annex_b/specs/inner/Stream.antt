@@ -1,4 +1,4 @@
--- What the functions inside this crate say: units found in a list or an item, stored as a stream.
+-- Internal: units found in a list or an item and stored as a stream.
 use Prim.Native.Nat.{ℕ, _+_, _≤_}
 use mathlib.Core.Path.{_≡_}
 use mathlib.Core.List.{List}
@@ -12,14 +12,14 @@ use Rattle.access_unit.specs.declared.sizes.Sizes.{Sizes}
 use Rattle.access_unit_annex_b.specs.declared.stream.Places.{Places}
 use Rattle.parse.specs.inner.Stores.{bytesOf}
 
--- the first n of those that were found, and those after them
+-- the first n of the units found, and those after them
 abbrev pub firstUnits : ℕ → Outcome (List Span) → Outcome (List Span)
 firstUnits n o = andThen o (λ us. accept (take n us))
 
 abbrev pub restUnits : ℕ → Outcome (List Span) → Outcome (List Span)
 restUnits n o = andThen o (λ us. accept (drop n us))
 
--- there are n kept units from a place of an item on, and room for their stream
+-- there are n kept units from place p of an item on, and the output has room for their stream
 pub record PutsFirst (size : ℕ) (target : Option ℕ) (item : List ℕ) (p n : ℕ) (out : List ℕ) (to : ℕ) : Type 0 where
   pub walks : Walks size item p
   pub units : List Span
@@ -27,14 +27,14 @@ pub record PutsFirst (size : ℕ) (target : Option ℕ) (item : List ℕ) (p n :
   pub enough : n ≤ length units
   pub room : to + length (bytesAt item (take n units)) ≤ length out
 
--- the stream of the first n kept units from a place of an item on was stored, and the places follow them
+-- the stream of the first n kept units was stored; r has the places after them in the item and in the output
 pub record FirstPut (size : ℕ) (target : Option ℕ) (item : List ℕ) (p n : ℕ) (out : List ℕ) (to : ℕ) (r : Places) (after : List ℕ) : Type 0 where
   pub within : r .item ≤ length item
   pub next : keptLeft size target item (r .item) ≡ restUnits n (keptLeft size target item p)
   pub ends : r .out ≡ to + length (bytesOf (bytesAt item) (firstUnits n (keptLeft size target item p)))
   pub stored : after ≡ sets out to (bytesOf (bytesAt item) (firstUnits n (keptLeft size target item p)))
 
--- an access unit was measured, and there is room for its stream
+-- an access unit was measured, and the output has room for its stream
 pub record PutsStream (size : ℕ) (target : Option ℕ) (list item : List ℕ) (sizes : Sizes) (out : List ℕ) : Type 0 where
   pub parts : Gathered
   pub found : gather size target list item ≡ accept parts

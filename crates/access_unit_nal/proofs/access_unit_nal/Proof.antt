@@ -1,4 +1,4 @@
--- `access_unit_nal` is the part of the list or of the item where unit k of the access unit lies.
+-- `access_unit_nal` returns the part of the list or of the item where unit k of the access unit lies.
 use mathlib.Core.Path.{subst}
 use Rattle.boxes.specs.Places.{PlaceFits}
 use Rattle.access_unit.specs.AccessUnit.{accessUnit}

@@ -1,4 +1,4 @@
--- `access_unit_nal_at` says where unit k of the access unit lies.
+-- `access_unit_nal_at` returns where unit k of the access unit lies.
 use mathlib.Core.Path.{ap, _∙_}
 use mathlib.Core.List.{List}
 use Rattle.parse.specs.Outcome.{Outcome}

@@ -1,4 +1,4 @@
--- `parse` reads a record and leaves the list of its units, or gives the refusal that comes first.
+-- `parse` reads a record and writes the list of its units, or returns the first refusal.
 use Prim.Native.Nat.{_+_}
 use mathlib.Core.Path.{refl, ap, _∙_, subst}
 use mathlib.Core.List.{map}

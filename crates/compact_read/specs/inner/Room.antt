@@ -1,4 +1,4 @@
--- What the functions inside this crate say: the units of a record, measured and stored as a list.
+-- Internal: the units of a compact record measured and stored as a unit list.
 use Prim.Native.Nat.{ℕ, _+_, _%_, _^_, _≤_}
 use mathlib.Core.Path.{_≡_}
 use mathlib.Core.List.{List, [], map}
@@ -16,21 +16,22 @@ use Rattle.compact_read.specs.declared.record_units.RecordRoom.{RecordRo
 use Rattle.compact_read.specs.declared.record_units.RecordRoom.the-variants as M
 use Rattle.unit_list.specs.inner.Written.{unitBytes}
 
--- how many bytes units that were read take in a list, n more before them, and the place after the units
+-- n plus the bytes that the units read take in a list, and the place after them in the record
 abbrev pub measured : List ℕ → ℕ → Parsed (List Span) → Parsed ℕ
 measured s n (value us p) = value (n + length (unitBytes 4 s us)) p
 measured s n (refused e) = refused e
 
+-- what a measurement of units means
 abbrev pub unitsRoomOf : UnitsRoom → Parsed ℕ
 unitsRoomOf (R.Room n p) = value n p
 unitsRoomOf R.Short = refused 1
 
--- it is small
+-- the measured length is at most 2^32
 abbrev pub RoomSmall : UnitsRoom → Type 0
 RoomSmall (R.Room n p) = n ≤ 2 ^ 32
 RoomSmall R.Short = Unit {0}
 
--- a record that was measured: its units, the place after them, and how many bytes they take in a list
+-- a record that was measured: its units, the place after them, and the bytes that they take in a list
 pub record RoomRead (s : List ℕ) (count room : ℕ) : Type 0 where
   pub lent : length s ≤ 2 ^ 30
   pub some : 1 ≤ length s
@@ -42,12 +43,12 @@ pub record RoomRead (s : List ℕ) (count room : ℕ) : Type 0 where
   pub long : room ≡ length (unitBytes 4 s units)
   pub few : room ≤ 2 ^ 32
 
--- the answer of measuring: 23, 1, 7
+-- what measuring a record says. Refusals: 23, 1, 7
 abbrev pub RoomSays : List ℕ → RecordRoom → Type 0
 RoomSays s (M.Room count room) = RoomRead s count room
 RoomSays s (M.Refused e) = parseCompact s ≡ refuse (numberOf e)
 
--- the list of units that were found
+-- the list of units that were found; empty on a refusal
 abbrev pub foundList : List ℕ → Outcome (List Span) → List ℕ
 foundList s (accept us) = oneArray (map (held s) us)
 foundList s (refuse e) = []

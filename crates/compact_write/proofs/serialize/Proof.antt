@@ -1,4 +1,4 @@
--- `serialize` gives the record of the units after the list's start, or the refusal of the start.
+-- `serialize` writes the record of the units of a list, or returns the refusal of the list.
 use Prim.Native.Nat.{ℕ}
 use mathlib.Core.Path.{ap, _∙_, subst}
 use mathlib.Core.List.{List}

@@ -1,4 +1,4 @@
--- `expand_units` takes the PTL of the parameter sets, and the list of the units.
+-- `expand_units` takes the PTL of the parameter sets, and writes the list of the units.
 use Prim.Native.Nat.{ℕ}
 use mathlib.Core.Path.{sym, ap, _∙_}
 use mathlib.Core.List.{List}

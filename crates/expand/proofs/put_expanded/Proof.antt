@@ -1,4 +1,4 @@
--- `put_expanded` stores the list where it fits.
+-- `put_expanded` stores the list if it fits.
 use mathlib.Core.Path.{ap, _∙_}
 use native.Mathlib.Omega.{arith}
 use borrow.Author.Needs.{needs}

@@ -1,4 +1,4 @@
--- `refused` is a refusal beside a head of zeros.
+-- `refused` returns a refusal with a head of zeros.
 use borrow.Author.Needs.{needs}
 use Rattle.expand.proofs.refused.Statement.{statement}
 use Rattle.expand.proofs.refused.Tie as tie

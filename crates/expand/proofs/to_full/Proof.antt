@@ -1,4 +1,4 @@
--- `to_full` expands the units after the list's start, or gives its refusal.
+-- `to_full` expands the units of a list, or returns the refusal of the list.
 use Prim.Native.Nat.{ℕ}
 use mathlib.Core.Path.{sym, ap, _∙_, subst}
 use mathlib.Core.List.{List}

@@ -1,4 +1,4 @@
--- What the functions inside this crate say: the PTL of the parameter sets.
+-- Internal: the PTL of the parameter sets.
 use Prim.Native.Nat.{ℕ}
 use mathlib.Core.Bool.{Bool}
 use mathlib.Core.List.{List}
@@ -13,19 +13,19 @@ use Rattle.grouping.specs.Grouping.{havingType, firstElement, grouped}
 use Rattle.full.specs.declared.VvcConfig.{VvcConfig}
 use Rattle.expand.specs.Expand.{multiLayerVps, ptlOfSets, FullHead, withList}
 
--- a PTL, with zeros beside a refusal
+-- a PTL, with zeros on a refusal
 abbrev pub ptlOrZeros : Outcome VvcPtlRecord → Outcome VvcPtlRecord × VvcPtlRecord
 ptlOrZeros o = handsBack (λ p. p) zeroPtl o
 
--- the firstElement PTL of the firstElement VPS, and n where there is no VPS
+-- the PTL of the first VPS; refusal n if there is no VPS
 abbrev pub firstVpsPtl : ℕ → List (List ℕ) → Outcome VvcPtlRecord
 firstVpsPtl n us = andThen (orRefuse n (firstElement (havingType 14 us))) vpsFirstPtl
 
--- the PTL of the firstElement SPS or else of the firstElement VPS
+-- the PTL of the first SPS, or else of the first VPS
 abbrev pub firstSpsPtl : List (List ℕ) → Outcome VvcPtlRecord
 firstSpsPtl us = andThen (orRefuse 17 (firstElement (havingType 15 us))) (λ unit. andThen (parseSps unit) (λ sps. ptlOfSets sps us))
 
--- the PTL that the parameter sets give, after the VPS's test
+-- the PTL of the parameter sets, after the VPS of step 1
 abbrev pub setsPtl : Bool → List (List ℕ) → Outcome VvcPtlRecord
 setsPtl multiLayer us = andThen (multiLayerVps multiLayer us) (λ _. firstSpsPtl us)
 

@@ -1,4 +1,4 @@
--- A head without the PTL flag has zeros for every field under it.
+-- `plain_head` returns a head whose fields under the PTL flag are 0.
 use borrow.Author.Needs.{needs}
 use Rattle.full.proofs.plain_head.Statement.{statement}
 use Rattle.full.proofs.plain_head.Tie as tie

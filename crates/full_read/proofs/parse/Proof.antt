@@ -1,4 +1,4 @@
--- `parse` gives what the definition gives: 23, the refusals of the head, or what its arrays give beside it.
+-- `parse` returns what the definition says: 23, the refusals of the head, or the answer of the arrays with the head.
 use borrow.Author.Needs.{needs}
 use Rattle.full.specs.Read.{vvcHead}
 use Rattle.full_read.proofs.Heads.{head-read, head-refused}

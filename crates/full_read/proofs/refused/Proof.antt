@@ -1,4 +1,4 @@
--- A refusal has its number, and a head of zeros beside it.
+-- `refused` returns the refusal with a head of zeros.
 use borrow.Author.Needs.{needs}
 use Rattle.full_read.proofs.refused.Statement.{statement}
 use Rattle.full_read.proofs.refused.Tie as tie

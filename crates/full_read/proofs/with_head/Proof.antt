@@ -1,4 +1,4 @@
--- What the arrays gave stands beside the head, a refusal beside zeros.
+-- `with_head` joins the answer of the arrays with the head, a refusal with zeros.
 use mathlib.Core.Path.{sym, ap, _∙_}
 use borrow.Author.Needs.{needs}
 use Rattle.record_arrays_read.specs.inner.Arrays.{listOf}

@@ -1,4 +1,4 @@
--- What the functions inside this crate say: the head read, and the arrays beside it.
+-- Internal: the head of a full record read, and the answer of the arrays joined with it.
 use Prim.Native.Nat.{ℕ}
 use Rattle.parse.specs.Outcome.{Outcome, accept, refuse}
 use Rattle.parse.specs.Parse.{Parsed, value, refused, Parser, _>>=_, give}
@@ -11,24 +11,25 @@ use Rattle.full_read.specs.declared.head.HeadAnswer.{HeadAnswer}
 use Rattle.full_read.specs.declared.head.HeadAnswer.the-variants as H
 use Rattle.full_read.specs.declared.head.HeadRead.{HeadRead}
 
--- what the arrays gave, the head beside it
+-- the answer of the arrays, with the head
 abbrev pub besideHead : VvcConfig → Outcome (ℕ × ℕ) → Outcome FullParsed × VvcConfig
 besideHead h (accept (p, n)) = (accept (record { head = h; consumed = p; listLength = n }), h)
 besideHead h (refuse e) = (refuse e, zeroHead)
 
--- a refusal with a head of zeros
+-- a refusal, with a head of zeros
 abbrev pub refusedWith : ℕ → Outcome FullParsed × VvcConfig
 refusedWith e = (refuse e, zeroHead)
 
--- the head that was read, and what stands in the struct, on a refusal too
+-- the head that was read, or the refusal
 abbrev pub headAnswerOf : HeadAnswer → VvcConfig → Parsed VvcConfig
 headAnswerOf (H.Read q) h = value h q
 headAnswerOf (H.Refused e) h = refused (numberOf e)
 
+-- the same, with the head beside it, which is also there on a refusal
 abbrev pub headReadOf : HeadRead → Parsed VvcConfig × VvcConfig
 headReadOf r = (headAnswerOf (r .answer) (r .head), r .head)
 
--- the rest of a head after its PTL
+-- the three fields after the PTL
 unfoldable pub sizesAfter : ℕ → ℕ → ℕ → VvcPtlRecord → Parser VvcConfig
 sizesAfter size w d ptl = do
   width ← uint 2

@@ -1,4 +1,4 @@
--- 20 where there is no room, else the record stored part by part.
+-- `put_full` returns 20 if the output is too short, else it stores the record part by part.
 use native.Mathlib.Omega.{arith}
 use borrow.Author.Needs.{needs}
 use Rattle.unit_list.specs.UnitList.{heldArrays}
@@ -14,7 +14,7 @@ returns c =
     let a = b .args in
     written-short (serializeFull (a .head) (a .list .now)) (a .out .now) (fullBytes (a .head) (heldArrays (a .list .now) (b .pre .arrays))) (b .pre .bytes) (omega (arith, c .if1 .taken, b .pre .long))
 
--- the head has room
+-- the output has room for the head
 put-head-requires : tie.Need-put-head-requires
 put-head-requires c κs =
     let b = c .before .before .before .before in

@@ -1,4 +1,4 @@
--- The length of a record whose size is known, or its refusal.
+-- `record_len` returns the length of a record, or its refusal.
 use mathlib.Core.Path.{sym, ap}
 use borrow.Author.Needs.{needs}
 use Rattle.boxes.specs.Walk.{countFound}

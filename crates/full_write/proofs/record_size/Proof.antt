@@ -1,4 +1,4 @@
--- The size of the arrays after the version, or the refusal of the list.
+-- `record_size` returns the length of the record of the arrays after the version, or the refusal of the list.
 use Prim.Native.Nat.{ℕ}
 use mathlib.Core.Path.{sym, ap, subst, _∙_}
 use mathlib.Core.List.{List}

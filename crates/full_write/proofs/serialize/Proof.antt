@@ -1,4 +1,4 @@
--- A record whose size is known is stored; its refusal leaves the output as it is.
+-- `serialize` stores a record whose length is known; a refusal leaves the output unchanged.
 use borrow.Author.Needs.{needs}
 use Rattle.parse.proofs.Output.{written-refused}
 use Rattle.full.specs.Write.{serializeFull}

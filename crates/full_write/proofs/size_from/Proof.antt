@@ -1,4 +1,4 @@
--- The refusals in the order of their tests, and the size of a record that has none.
+-- `size_from` returns the refusals in the order of their tests, or the length of the record.
 use mathlib.Core.Path.{_≡_, sym, _∙_}
 use mathlib.Core.Bool.{_&&_, true}
 use native.Mathlib.Omega.{arith}
@@ -43,7 +43,7 @@ returns-3 c =
     record-wide (b .args .head) (b .args .list .now) (b .args .c) (b .pre) (m .result) (m .ensures) (g .0 .0) (g .1) (c .before .before .if1 .left)
     (sym (c .before .record-fits .ensures) ∙ not-true (c .before .record-fits .result) (c .if2 .taken))
 
--- every field fits
+-- every value fits its field
 all-fit : (c : tie.Else2) → headFits (c .before .before .before .before .before .before .before .before .before .args .head) && (leb (c .before .before .before .before .before .arrays .given .0 .0 .count) 255 && c .before .before .before .before .before .arrays .given .0 .0 .fits) ≡ true
 all-fit c = sym (c .before .record-fits .ensures) ∙ not-false (c .before .record-fits .result) (c .if2 .left)
 

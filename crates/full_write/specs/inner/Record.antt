@@ -1,4 +1,4 @@
--- What the functions inside this crate say: the size of a record, or why it is refused.
+-- Internal: the length of a full record, or its refusal.
 use Prim.Native.Nat.{ℕ, _≤_}
 use mathlib.Core.Path.{_≡_}
 use mathlib.Core.Bool.{true}
@@ -15,11 +15,11 @@ use Rattle.full.specs.declared.VvcConfig.{VvcConfig}
 use Rattle.full_write.specs.declared.RecordSize.{RecordSize}
 use Rattle.full_write.specs.declared.RecordSize.the-variants as R
 
--- the record of a head and of arrays that were found in a list
+-- the record of a head and of arrays found in a list
 abbrev pub fullRecordOf : VvcConfig → List ℕ → Outcome (List (Array Span)) → Outcome (List ℕ)
 fullRecordOf h s o = andThen o (λ xs. writeFull h (heldArrays s xs))
 
--- o is a record of len bytes that can be written: its n arrays follow the end of c
+-- o is a record of len bytes that can be written; its n arrays follow the end of c
 pub record Writable (h : VvcConfig) (s : List ℕ) (o : Outcome (List ℕ)) (c : ListCursor) (n len : ℕ) : Type 0 where
   pub fits : Fits s c
   pub arrays : List (Array Span)

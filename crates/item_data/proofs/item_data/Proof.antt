@@ -1,4 +1,4 @@
--- `item_data` restores the item of stored bytes, or gives the refusal that comes first.
+-- `item_data` writes the item of stored bytes, or returns the first refusal.
 use mathlib.Core.Path.{sym, ap, _∙_}
 use native.Mathlib.Omega.{arith}
 use borrow.Author.Needs.{needs}

@@ -1,4 +1,4 @@
--- `strip_item_data` gives the bytes to store for an item: 23, a copy, or what follows its one unit's header.
+-- `strip_item_data` writes the bytes to store for an item, or returns the first refusal.
 use Prim.Native.Nat.{ℕ}
 use mathlib.Core.Path.{_≡_, sym, ap, _∙_, subst}
 use mathlib.Core.List.{List}

@@ -1,4 +1,4 @@
--- What reading the arrays of a full record into a unit list says: their heads, the room that they take in a list, and what is stored.
+-- Internal: the arrays of a full record read into a unit list: their heads, the bytes that they take in a list, and what is stored.
 use Prim.Native.Nat.{ℕ, _+_, _*_, _/_, _%_, _≤_}
 use mathlib.Core.Path.{_≡_}
 use mathlib.Core.List.{List}
@@ -23,39 +23,40 @@ use Rattle.record_arrays_read.specs.declared.list.Stored.{Stored}
 use Rattle.parse.specs.inner.Stores.{bytesOf}
 use Rattle.unit_list.specs.inner.Written.{unitBytes}
 
--- the arrays of a record, after their count
+-- num_of_arrays and the arrays
 unfoldable pub countedArrays : Parser (List (Array Span))
 countedArrays = do
   n ← uint 1  -- num_of_arrays
   times n recordArray
 
--- what reading them gives: the place after them in the record, the length of their list, and the list
+-- what reading them returns: the place after them in the record, the length of the list, and the list
 abbrev pub listGiven : List ℕ → Parsed (List (Array Span)) → Outcome ((ℕ × ℕ) × List ℕ)
 listGiven s (value xs p) = accept ((p, length (encode (heldArrays s xs))), encode (heldArrays s xs))
 listGiven s (refused e) = refuse e
 
--- what the answer says
+-- the outcome that the answer means
 abbrev pub listOf : ListRead → Outcome (ℕ × ℕ)
 listOf (L.Read consumed len) = accept (consumed, len)
 listOf (L.Refused e) = refuse (numberOf e)
 
--- what comes before the units of an array
+-- what comes before the units of an array: array_completeness, NAL_unit_type and the count of units
 unfoldable pub arrayHead : Parser ArrayHead
 arrayHead = do
   b ← uint 1
   n ← if holdsOne (b % 32) then give 1 else uint 2
   give (record { complete = b / 128; «unit_type» = b % 32; count = n })
 
+-- what reading that returns
 abbrev pub arrayHeadOf : ArrayHeadRead → Parsed ArrayHead
 arrayHeadOf (A.Head h q) = value h q
 arrayHeadOf A.Short = refused 1
 
--- the units of an array start after its head, in the record
+-- the units of an array start after its head, and the head lies in the record
 abbrev pub ArrayHeadFits : List ℕ → ℕ → ArrayHeadRead → Type 0
 ArrayHeadFits s p (A.Head h q) = (p + 1 ≤ q) × (q ≤ length s)
 ArrayHeadFits s p A.Short = Unit {0}
 
--- the bytes of units in a list, and those of one array and of arrays
+-- the bytes of units in a list, of one array, and of arrays
 abbrev pub unitsInList : List ℕ → List Span → List ℕ
 unitsInList s us = unitBytes listWidth s us
 
@@ -65,21 +66,22 @@ arrayInList s a = encodeArray listWidth (heldArray s a)
 abbrev pub arraysInList : List ℕ → List (Array Span) → List ℕ
 arraysInList s xs = encodeArrays listWidth (heldArrays s xs)
 
--- how many bytes what was read takes in a list, n more before them, and the place after it in the record
+-- n plus the bytes that what was read takes in a list, and the place after it in the record
 abbrev pub roomTaken : {A : Type 0} → (List ℕ → A → List ℕ) → List ℕ → ℕ → Parsed A → Parsed ℕ
 roomTaken f s n (value a p) = value (n + length (f s a)) p
 roomTaken f s n (refused e) = refused e
 
+-- what a measurement means
 abbrev pub listRoomOf : ListRoom → Parsed ℕ
 listRoomOf (M.Room n p) = value n p
 listRoomOf M.Short = refused 1
 
--- what is measured lies in the record, where a byte stands for at most six of the list: those before an array's units
+-- what is measured lies in the record, and takes at most 6 bytes of the list for each byte of the record
 abbrev pub RoomFits : List ℕ → ℕ → ListRoom → Type 0
 RoomFits s p (M.Room room q) = (q ≤ length s) × (p * 6 + room ≤ q * 6)
 RoomFits s p M.Short = Unit {0}
 
--- the bytes of what was read
+-- the bytes of what was read; empty on a refusal
 abbrev pub storedBytes : {A : Type 0} → (List ℕ → A → List ℕ) → List ℕ → Parsed A → List ℕ
 storedBytes f s x = bytesOf (f s) (outcome x)
 
@@ -88,7 +90,7 @@ abbrev pub placeAfter : {A : Type 0} → Parsed A → ℕ
 placeAfter (value a p) = p
 placeAfter (refused e) = 0
 
--- its bytes were stored from a place of the output on, and r says where reading and storing go on
+-- the bytes were stored from place `start` of the output on; r has the places where reading and storing continue
 pub record StoredAt {A : Type 0} (f : List ℕ → A → List ℕ) (s : List ℕ) (x : Parsed A) (out : List ℕ) (start : ℕ) (exit : List ℕ) (r : Stored) : Type 0 where
   pub written : exit ≡ sets out start (storedBytes f s x)
   pub from : r .from ≡ placeAfter x

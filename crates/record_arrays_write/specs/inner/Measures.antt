@@ -1,4 +1,4 @@
--- What writing the arrays of a list as those of a full record says: units and arrays measured, and stored.
+-- Internal: the arrays of a list written as those of a full record: units and arrays measured and stored.
 use Prim.Native.Nat.{ℕ, _+_, _≤_, _<_}
 use mathlib.Core.Path.{_≡_}
 use mathlib.Core.Bool.{Bool, true, _&&_}
@@ -22,10 +22,11 @@ use Rattle.record_arrays_write.specs.declared.measure.ArrayMeasured.{Arr
 use Rattle.record_arrays_write.specs.declared.measure.ArrayMeasured.the-variants as A
 use Rattle.record_arrays.specs.inner.Counts.{countLen}
 
--- both together
+-- the sum of two measures
 abbrev pub joined : Measure → Measure → Measure
 joined a b = record { count = a .count + b .count; len = a .len + b .len; fits = a .fits && b .fits }
 
+-- the measure of nothing
 abbrev pub nothing : Measure
 nothing = record { count = 0; len = 0; fits = true }
 
@@ -33,76 +34,79 @@ nothing = record { count = 0; len = 0; fits = true }
 abbrev pub unitMeasure : ℕ → Measure
 unitMeasure n = record { count = 1; len = 2 + n; fits = leb n 65535 }
 
--- units by their bytes
+-- the measure of units
 abbrev pub ofUnits : List (List ℕ) → Measure
 ofUnits us = record { count = length us; len = length (encodeUnits 2 us); fits = unitsFit us }
 
--- an array of a type, by the measure of its units
+-- whether an array of type t fits, by the measure of its units
 abbrev pub arrayFitsBy : ℕ → Measure → Bool
 arrayFitsBy t u = leb (u .count) 65535 && (u .fits && (if holdsOne t then eqb (u .count) 1 else true))
 
+-- the measure of an array of type t, by that of its units
 abbrev pub arrayBy : ℕ → Measure → Measure
 arrayBy t u = record { count = 1; len = 1 + countLen t + u .len; fits = arrayFitsBy t u }
 
--- arrays by their bytes
+-- the measure of arrays
 abbrev pub ofArrays : List (Array (List ℕ)) → Measure
 ofArrays xs = record { count = length xs; len = length (arraysBytes xs); fits = arraysFit xs }
 
--- the same of what lies in s
+-- the same for units and arrays at spans of s
 abbrev pub unitsMeasure : List ℕ → List Span → Measure
 unitsMeasure s us = ofUnits (map (held s) us)
 
 abbrev pub arraysMeasure : List ℕ → List (Array Span) → Measure
 arraysMeasure s xs = ofArrays (heldArrays s xs)
 
--- and of what was found
+-- and for what was found
 abbrev pub measuredBy : {A : Type 0} → (A → Measure) → Outcome A → Outcome Measure
 measuredBy f o = andThen o (λ a. accept (f a))
 
+-- the outcome that a measurement means
 abbrev pub measureOf : RecordMeasure → Outcome Measure
 measureOf (M.Is m) = accept m
 measureOf M.Malformed = refuse 21
 
--- units take no more than what stands afterMeasured the cursor
+-- units take no more bytes in a record than in the list
 abbrev pub UnitsWithin : ListCursor → RecordMeasure → Type 0
 UnitsWithin c (M.Is m) = (c .at + m .len ≤ c .end) × (c .at + m .count ≤ c .end)
 UnitsWithin c M.Malformed = Unit {0}
 
--- arrays take no more than their list
+-- arrays take no more bytes in a record than in the list
 abbrev pub ArraysWithin : List ℕ → RecordMeasure → Type 0
 ArraysWithin s (M.Is m) = (m .len ≤ length s) × (m .count ≤ length s)
 ArraysWithin s M.Malformed = Unit {0}
 
--- what is left, afterMeasured what is measured
+-- m added to the measure of what is left
 abbrev pub afterMeasured : Measure → Outcome Measure → Outcome Measure
 afterMeasured m o = measuredBy (joined m) o
 
--- what the first array says of all afterMeasured a cursor's end
+-- the measure of all arrays after a cursor's end, by that of the first
 abbrev pub arrayMeasured : List ℕ → ArrayMeasured → Outcome Measure
 arrayMeasured s (A.Array m d) = afterMeasured m (measuredBy (arraysMeasure s) (arraysFrom s d))
 arrayMeasured s A.End = accept nothing
 arrayMeasured s A.Malformed = refuse 21
 
--- it takes no more than what it takes in the list, from the end of c to that of d
+-- an array takes no more bytes in a record than in the list, where it lies from the end of c to the end of d
 pub record Takes (s : List ℕ) (c : ListCursor) (m : Measure) (d : ListCursor) : Type 0 where
   pub one : m .count ≡ 1
   pub len : c .end + m .len ≤ d .end
   pub on : c .end < d .end
   pub fits : Fits s d
 
+-- the same for an answer
 abbrev pub ArrayWithin : List ℕ → ListCursor → ArrayMeasured → Type 0
 ArrayWithin s c (A.Array m d) = Takes s c m d
 ArrayWithin s c A.End = Unit {0}
 ArrayWithin s c A.Malformed = Unit {0}
 
--- the count of units in an array of a type
+-- the count of units in an array of type t
 abbrev pub countBytes : List ℕ → ℕ → List Span → List ℕ
 countBytes s t us = if holdsOne t then [] else toBe 2 (length (map (held s) us))
 
--- an array of a type whose units lie in s
+-- an array of type t with units at spans of s
 abbrev pub arrayInRecord : List ℕ → ℕ → ℕ → List Span → List ℕ
 arrayInRecord s complete t us = arrayBytes (heldArray s (record { complete = complete; unitType = t; units = us }))
 
--- arrays whose units lie in s
+-- arrays with units at spans of s
 abbrev pub arraysInRecord : List ℕ → List (Array Span) → List ℕ
 arraysInRecord s xs = arraysBytes (heldArrays s xs)

@@ -1,4 +1,4 @@
--- `head_format` gives the head's format, or the refusal of its bit depth.
+-- `head_format` returns the format of the head, or the refusal of its bit depth.
 use Rattle.sample_format.proofs.Formats.{head-given, head-refused}
 use borrow.Author.Needs.{needs}
 use Rattle.sample_format.proofs.head_format.Statement.{statement}

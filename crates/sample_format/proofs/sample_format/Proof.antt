@@ -1,4 +1,4 @@
--- `sample_format` gives the format of the head or of the first SPS, by where that lies.
+-- `sample_format` returns the format of the head or that of the first SPS.
 use mathlib.Core.Path.{ap, _∙_}
 use denote.Ref.{now}
 use Rattle.sample_format.specs.Format.{spsFormatOf}

@@ -1,4 +1,4 @@
--- `sps_format` gives the format of an SPS, or its refusal.
+-- `sps_format` returns the format of an SPS, or its refusal.
 use denote.Ref.{now}
 use Rattle.sample_format.proofs.Formats.{sps-read, sps-refused}
 use borrow.Author.Needs.{needs}

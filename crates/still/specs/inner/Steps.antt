@@ -1,4 +1,4 @@
--- What the functions inside this crate say: the path from the list of a compact record on, and from the expanded list on.
+-- Internal: the path from the list of a compact record on, and from the expanded list on.
 use Prim.Native.Nat.{ℕ, _≤_}
 use mathlib.Core.Path.{_≡_}
 use mathlib.Core.List.{List, [], _∷_, _++_, map}
@@ -21,7 +21,7 @@ use Rattle.expand.specs.Expand.{Picture, FullHead, toFull}
 use Rattle.access_unit.specs.AccessUnit.{startCode, assemble}
 use Rattle.still.specs.Stills.{anyPicture}
 
--- fields and a list that compact read gave
+-- a configuration and a list that compact read returned
 pub record ReadFrom (c : CompactVvcConfig) (list : List ℕ) : Type 0 where
   pub compact : List ℕ
   pub bytes : AllBytes compact
@@ -29,7 +29,7 @@ pub record ReadFrom (c : CompactVvcConfig) (list : List ℕ) : Type 0 where
   pub reads : parseCompact compact ≡ accept (read, list)
   pub config : read .config ≡ c
 
--- a head and a list that they expand to
+-- a head and a list to which they expand
 pub record ExpandedFrom (c : CompactVvcConfig) (h : VvcConfig) (list : List ℕ) : Type 0 where
   pub compact-list : List ℕ
   pub from : ReadFrom c compact-list
@@ -38,7 +38,7 @@ pub record ExpandedFrom (c : CompactVvcConfig) (h : VvcConfig) (list : List ℕ)
   pub expands : toFull c picture compact-list ≡ accept (full, list)
   pub head : full .head ≡ h
 
--- the record of what compact read gave
+-- the record of what compact read returned
 abbrev pub recordFrom : CompactVvcConfig → Picture → List ℕ → Outcome (List ℕ)
 recordFrom c pic list = do
   full ← toFull c pic list
@@ -52,29 +52,29 @@ streamExpanded c h list S tols = do
   item ← restore c S
   assemble (back .0 .head) (back .1) item tols
 
--- the stream of what compact read gave
+-- the stream of what compact read returned
 abbrev pub streamFrom : CompactVvcConfig → List ℕ → List ℕ → Option ℕ → Outcome (List ℕ)
 streamFrom c list S tols = do
   full ← toFull c anyPicture list
   streamExpanded c (full .0 .head) (full .1) S tols
 
--- the item that stored bytes are restored to, once full write accepts the record
+-- the item of the stored bytes, if full write accepts the record
 abbrev pub itemAfter : CompactVvcConfig → VvcConfig → List ℕ → List ℕ → Outcome (List ℕ)
 itemAfter c h list S = do
   serializeFull h list
   restore c S
 
--- the list's units and the one unit of S, each after a start code
+-- the units of the list and the one unit of S, each after a start code
 abbrev pub unitsStream : List ℕ → List ℕ → Outcome (List ℕ)
 unitsStream list S = do
   us ← listUnits list
   accept (annexB startCode (map (held list) us ++ (stillUnit S ∷ [])))
 
--- the same, with 23 of the item that S is restored to
+-- the same, with 23 for the item of S
 abbrev pub plainStream : ℕ → List ℕ → List ℕ → Outcome (List ℕ)
 plainStream size list S = lentInput (toChunk size (stillUnit S)) (unitsStream list S)
 
--- a prefix size, and a list that has units
+-- a prefix size of 1 to 4, and a list with units
 pub record Plain (size : ℕ) (list : List ℕ) : Type 0 where
   pub low : 1 ≤ size
   pub high : size ≤ 4

@@ -1,4 +1,4 @@
--- What the functions inside this crate say: the stream of a still with the flag clear, measured without an item.
+-- Internal: the stream of a still with the flag clear, measured without an item.
 use Prim.Native.Nat.{ℕ}
 use mathlib.Core.Path.{_≡_}
 use mathlib.Core.List.{List, []}
@@ -23,11 +23,11 @@ pub record Listed (size : ℕ) (list : List ℕ) (sizes : Sizes) : Type 0 where
   pub gathered : gather size none list [] ≡ accept (record { units = units; kept = [] })
   pub sized : sizes ≡ sizesOf list [] (record { units = units; kept = [] })
 
--- the length of the item that stored bytes are restored to with the flag clear
+-- n is the length of the item of stored bytes S with the flag clear
 abbrev pub ItemLong : ℕ → List ℕ → ℕ → Type 0
 ItemLong size S n = n ≡ length (toChunk size (stillUnit S))
 
--- the measured list whose units make the stream, or the stream's refusal
+-- the sizes of the list whose units are in the stream, or the refusal of the stream
 abbrev pub PlainSizes : ℕ → List ℕ → List ℕ → SizesAnswer → Type 0
 PlainSizes size list S (M.Sized v) = Listed size list v × (plainStream size list S ≡ unitsStream list S)
 PlainSizes size list S (M.Refused e) = plainStream size list S ≡ refuse (numberOf e)

@@ -1,4 +1,4 @@
--- `put_expanded` gives the refusal of full write or restore, and otherwise the stream: of the stored item, or of its one unit.
+-- `put_expanded` returns the refusal of full write or restore, else it writes the stream of the item.
 use mathlib.Core.Path.{sym, ap, _∙_}
 use Rattle.parse.specs.Answers.{countOf}
 use Rattle.access_unit.specs.Answers.{tolsOf}

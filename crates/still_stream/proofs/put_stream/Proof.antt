@@ -1,4 +1,4 @@
--- `put_stream` expands into a local array that is long enough, and gives the stream of what stands there.
+-- `put_stream` expands into a local array that is long enough, and writes the stream of the result.
 use native.Mathlib.Omega.{arith}
 use mathlib.Core.Path.{sym, ap, _∙_}
 use Rattle.expand.specs.Answers.{expandAnswerOf}
@@ -28,7 +28,7 @@ to-full-requires c κs = tt
 enum-known-answer : tie.Need-enum-known-answer
 enum-known-answer c = search needs
 
--- what expansion gave stands at the front of the array
+-- the result of expansion is at the front of the array
 expanded-at : (c : tie.After-known-told)
     → let tf = after-to-full c in let a = start tf .args in Expanded (a .config) anyPicture (a .list .now)
     (tf .to-full .result .head) (c .before .answer .given .0 .0) (tf .to-full .last .1 .1 .1 .1 .1 .1 .0)

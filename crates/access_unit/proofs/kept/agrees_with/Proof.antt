@@ -1,4 +1,4 @@
--- `kept::agrees_with` compares an operating point with the target, where there is one.
+-- `kept::agrees_with` compares an operating point with the target, if there is one.
 use mathlib.Core.Path.{sym, ap}
 use mathlib.Core.Option.{some}
 use Rattle.access_unit.specs.AccessUnit.{agrees}

@@ -1,4 +1,4 @@
--- `kept::is_opi` tells OPI units by their kind.
+-- `kept::is_opi` returns whether a kind is that of OPI units.
 use mathlib.Core.Path.{sym, ap}
 use Rattle.nal.specs.Kinds.{isRecordOf}
 use Rattle.nal.proofs.UnitKinds.{not-record}

@@ -1,4 +1,4 @@
--- `kept::kept_at` tells whether the unit at a span of the item is kept.
+-- `kept::kept_at` returns whether the unit at a span of the item is kept.
 use mathlib.Core.Path.{sym, ap, _∙_}
 use borrow.Author.Needs.{needs}
 use Rattle.boxes.specs.Parts.{held}

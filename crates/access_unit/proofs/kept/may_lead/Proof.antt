@@ -1,4 +1,4 @@
--- `kept::may_lead` tells by its kind whether a unit may lead.
+-- `kept::may_lead` returns whether a unit of a kind may lead.
 use mathlib.Core.Path.{sym, ap}
 use borrow.Author.Needs.{needs}
 use Rattle.access_unit.specs.AccessUnit.{leadingKind}

@@ -1,4 +1,4 @@
--- `kept::opi_kept` tells whether an OPI unit of the item is kept.
+-- `kept::opi_kept` returns whether an OPI unit of the item is kept.
 use mathlib.Core.Path.{_∙_}
 use Rattle.access_unit.proofs.Targets.{keeps-present, keeps-absent, keeps-never}
 use borrow.Author.Needs.{needs}

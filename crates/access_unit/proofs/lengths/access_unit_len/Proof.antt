@@ -1,4 +1,4 @@
--- `lengths::access_unit_len` measures the stream of the access unit.
+-- `lengths::access_unit_len` returns the length of the stream of the access unit.
 use mathlib.Core.Path.{_≡_, sym, ap, _∙_}
 use Rattle.access_unit.specs.Answers.{tolsOf}
 use Rattle.access_unit.specs.inner.Gathered.{sizesAnswerOf}

@@ -1,4 +1,4 @@
--- `sizes::add` counts one unit more.
+-- `sizes::add` adds one unit.
 use mathlib.Core.Logic.{⊎-elim}
 use Rattle.access_unit.proofs.Sums.{add-leads, add-last, add-after}
 use borrow.Author.Needs.{needs}

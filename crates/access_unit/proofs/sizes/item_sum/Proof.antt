@@ -1,4 +1,4 @@
--- `sizes::item_sum` sums the kept units of an item. The loop's invariant: the sum is that of the units passed, and those left come after them.
+-- `sizes::item_sum` sums the kept units of an item. Invariant: the sum is that of the units passed, and those left follow them.
 use Prim.Native.Nat.{_-_, _≤_}
 use lib.ListN.{length}
 use Rattle.split.proofs.Items.{Turn, found-unit, found-end, found-refusal}

@@ -1,4 +1,4 @@
--- `sizes::measure` measures an access unit, or gives the refusal that comes first.
+-- `sizes::measure` measures an access unit, or returns the first refusal.
 use Prim.Native.Nat.{_≤_, _^_}
 use mathlib.Core.Path.{_≡_, sym, ap, _∙_}
 use lib.ListN.{length}
@@ -22,7 +22,7 @@ returns c =
 list-sum-requires : tie.Need-list-sum-requires
 list-sum-requires c κs = search needs
 
--- the item is not too long; the list's sum
+-- the item has at most 2^30 bytes; the sum over the list
 lent : (d : tie.After-list-sum) → length (d .before .before .before .before .args .item .now) ≤ 2 ^ 30
 lent d = omega arith
 

@@ -1,4 +1,4 @@
--- `sizes::measure_item` measures an access unit whose list is measured, or gives the refusal that comes first.
+-- `sizes::measure_item` measures an access unit whose list is measured, or returns the first refusal.
 use Prim.Native.Nat.{_+_, _≤_, _^_}
 use mathlib.Core.Path.{_≡_, sym, ap, _∙_}
 use Rattle.parse.specs.Outcome.{accept, andThen}
@@ -21,7 +21,7 @@ start c = c .before .before .before .before .before
 abbrev after-item-sum : (c : tie.After-summed) → tie.After-item-sum
 after-item-sum c = c .before .before
 
--- the prefix size
+-- the prefix size is 1 to 4
 sized : (c : tie.Else1) → (1 ≤ c .before .before .before .args .length-size) × (c .before .before .before .args .length-size ≤ 4)
 sized c = size-inside _ (sym (c .before .outside .ensures) ∙ c .if1 .left)
 
@@ -41,7 +41,7 @@ item-sum-requires c κs =
     let z = sized (c .before) in
     rw (c .wide .ensures .0) (record { some = z .0; four = z .1; within = omega arith; lent = c .before .before .before .before .pre .0 })
 
--- what the item's sum says
+-- what the sum over the item says
 sums : (d : tie.After-item-sum)
     → let a = start d .args in summedOf (d .item-sum .result) ≡ andThen (keptLeft (a .length-size) (tolsOf (a .target)) (a .item .now) 0) (λ ks. accept (itemSum (a .item .now) ks))
 sums d = rw (d .before .wide .ensures .0) at (d .item-sum .ensures)

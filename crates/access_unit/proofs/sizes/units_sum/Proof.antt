@@ -1,4 +1,4 @@
--- `sizes::units_sum` sums the units of a list after a cursor. The loop's invariant: the sum is that of the units passed, and those left come after them.
+-- `sizes::units_sum` sums the units of a list after a cursor. Invariant: the sum is that of the units passed, and those left follow them.
 use Prim.Native.Nat.{_-_}
 use mathlib.Core.Bool.{false}
 use lib.ListN.{length}

@@ -1,4 +1,4 @@
--- `stream::put_kept` stores the first kept units from a place of the item on. The loop's invariant: what is stored and what is left of them make the whole.
+-- `stream::put_kept` stores the first kept units from a place of the item on. Invariant: those stored and those left are the whole.
 use Prim.Native.Nat.{_+_, _-_, _≤_}
 use mathlib.Core.Path.{sym, _∙_}
 use lib.ListN.{length}
@@ -54,7 +54,7 @@ turn-at : (c : tie.After-known-told Inv-loop μ-loop)
     (st .before .before .before .before .loop .at) (st .step .given .0 .0) (st .step .given .0 .1 .0)
 turn-at c = found-unit _ _ _ _ (c .before .before .before .item-step .ensures) _ _ (c .before .step .given .1)
 
--- it lies inside the item
+-- it lies in the item
 inside-at : (c : tie.After-known-told Inv-loop μ-loop)
     → c .before .step .given .0 .0 .start + c .before .step .given .0 .0 .len ≤ length (start (c .before) .args .item .now)
 inside-at c = let t = turn-at c in omega (arith, t .here)

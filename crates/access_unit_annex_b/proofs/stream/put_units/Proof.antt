@@ -1,4 +1,4 @@
--- `stream::put_units` stores the units of a list after a cursor. The loop's invariant: what is stored and what is left make the whole.
+-- `stream::put_units` stores the units of a list after a cursor. Invariant: those stored and those left are the whole.
 use Prim.Native.Nat.{_-_}
 use lib.ListN.{length}
 use Rattle.unit_list.specs.inner.Walk.{Fits}

@@ -1,4 +1,4 @@
--- `source::kept_unit` finds kept unit k of an item. The loop's invariant: what is left has more than `skip` units, and unit `skip` of it is unit k.
+-- `source::kept_unit` finds kept unit k of an item. Invariant: more than `skip` units are left, and unit `skip` of them is unit k.
 use Prim.Native.Nat.{_-_, _≤_, _<_}
 use mathlib.Core.Path.{_≡_, refl, ap}
 use lib.ListN.{length}

@@ -1,4 +1,4 @@
--- `source::next_kept` walks to the next unit that is kept. The loop's invariant: the kept units from `at` on are those from `from` on.
+-- `source::next_kept` finds the next kept unit. Invariant: the kept units from `at` on are those from `from` on.
 use Prim.Native.Nat.{_-_, _≤_}
 use mathlib.Core.Path.{_≡_, refl, sym, _∙_}
 use lib.ListN.{length}

@@ -1,4 +1,4 @@
--- `source::number_of` tells which unit stands as number k.
+-- `source::number_of` returns which unit is unit k.
 use mathlib.Core.Path.{refl}
 use mathlib.Core.Logic.{inl, inr}
 use borrow.Author.Needs.{needs}

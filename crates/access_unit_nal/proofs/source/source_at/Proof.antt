@@ -1,4 +1,4 @@
--- `source::source_at` says where unit k of the access unit lies, by its number among the kept units or the list's.
+-- `source::source_at` returns where unit k of the access unit lies, by its number among the kept units or the list's.
 use Prim.Native.Nat.{ℕ}
 use mathlib.Core.Path.{refl, sym, ap, _∙_, subst}
 use Rattle.boxes.specs.Places.{inFirst, placeFound}
@@ -25,7 +25,7 @@ known-at : (c : tie.After-known-told)
     → let a = start c .args in Known (a .length-size) (tolsOf (a .target)) (a .list .now) (a .item .now) (c .before .measured .given .0 .0)
 known-at c = known _ _ _ _ _ (ap sizesAnswerOf (sym (c .before .measured .given .1)) ∙ c .before .before .before .measure .ensures)
 
--- the kept unit that stands as number k
+-- the kept unit that is unit k
 kept-at : (c : tie.After-wide)
     → let kt = after-known-told c in let a = start kt .args in KeptAt (a .length-size) (tolsOf (a .target)) (a .list .now) (a .item .now) (a .k) (kt .before .measured .given .0 .0) (known-at kt) (c .wide .result) (c .wide .ensures .0) (c .before .before .n .given .0 .0)
 kept-at c = kept-number _ _ _ _ _ _ (known-at (c .before .before .before .before .before)) _ (c .wide .ensures .0) _ (subst (Numbered _ _) (c .before .before .n .given .1) (c .before .before .before .before .number-of .ensures))

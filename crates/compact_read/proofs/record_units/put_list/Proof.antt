@@ -1,4 +1,4 @@
--- `record_units::put_list` leaves the list from the front on.
+-- `record_units::put_list` writes the list at the front of the output.
 use Prim.Native.Nat.{_+_, _≤_}
 use mathlib.Core.Path.{_∙_}
 use native.Mathlib.Omega.{arith}
@@ -19,7 +19,7 @@ start c = c .before .before .before .before
 abbrev after-put : (c : tie.After-put-array-head) → tie.After-put
 after-put c = c .before .before .before .before
 
--- there is room for all of it
+-- the output has room for the whole list
 room-at : (c : tie.Start) → 7 + c .args .room ≤ length (c .args .out .now)
 room-at c =
     let a = c .args in

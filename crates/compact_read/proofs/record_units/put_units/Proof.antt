@@ -1,4 +1,4 @@
--- `record_units::put_units` stores the units of a record. The loop's invariant: those stored and those left make the whole.
+-- `record_units::put_units` stores the units of a record. Invariant: those stored and those left are the whole.
 use Prim.Native.Nat.{_+_, _-_, _≤_}
 use mathlib.Core.Path.{ap}
 use mathlib.Core.List.{List}
@@ -58,7 +58,7 @@ unit-at c =
     let k = c .before .before .before .chunk in
     turn _ _ _ (c .before .before .before .before .loop-test .taken) (k .result) (k .ensures) _ (c .before .a .given .1)
 
--- what is left after it
+-- the units after it
 abbrev left-at : (c : tie.After-known-told Inv-loop μ-loop) → Outcome (List Span)
 left-at c =
     let lo = at-loop c in

@@ -1,4 +1,4 @@
--- `record_units::record_room` measures the units of a whole record, or gives the refusal that comes first.
+-- `record_units::record_room` measures the units of a whole record, or returns the first refusal.
 use Prim.Native.Nat.{ℕ, _+_, _%_}
 use mathlib.Core.Path.{_≡_, sym, ap, _∙_, subst}
 use native.Mathlib.Omega.{arith}
@@ -18,7 +18,7 @@ start c = c .before .before .before .before .before
 abbrev after-wide : (c : tie.After-known-told) → tie.After-wide
 after-wide c = c .before .before .before .before
 
--- the unit count, by the record's first byte
+-- the unit count is that of the first byte
 count-at : (c : tie.After-wide) → c .wide .result % 32 + 2 ≡ getD (start c .args .«record» .now) 0 0 % 32 + 2
 count-at c = ap (λ (b : ℕ). b % 32 + 2) (c .wide .ensures .0 ∙ c .before .before .byte .ensures)
 

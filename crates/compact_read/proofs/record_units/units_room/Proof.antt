@@ -1,4 +1,4 @@
--- `record_units::units_room` measures the units of a record. The loop's invariant: those passed and those left make the whole.
+-- `record_units::units_room` measures the units of a record. Invariant: those passed and those left are the whole.
 use Prim.Native.Nat.{_*_, _≤_}
 use mathlib.Core.Path.{_≡_, refl, sym, ap, _∙_}
 use native.Mathlib.Omega.{arith}

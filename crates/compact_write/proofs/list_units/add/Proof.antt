@@ -1,4 +1,4 @@
--- `list_units::add` adds one unit to those seen.
+-- `list_units::add` adds one unit to the sum.
 use mathlib.Core.Bool.{and-true, and-false}
 use borrow.Author.Needs.{needs}
 use borrow.Author.Tests.{le-leb, lt-leb}

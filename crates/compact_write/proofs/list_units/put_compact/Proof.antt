@@ -1,4 +1,4 @@
--- `list_units::put_compact` gives the record of the units after a cursor, or the refusal that comes first.
+-- `list_units::put_compact` writes the record of the units after a cursor, or returns the first refusal.
 use mathlib.Core.Path.{sym, ap, _∙_, subst}
 use native.Mathlib.Omega.{arith}
 use borrow.Author.Needs.{needs}

@@ -1,4 +1,4 @@
--- `list_units::put_units` stores the units after a cursor. The loop's invariant: those stored and those left make the whole.
+-- `list_units::put_units` stores the units after a cursor. Invariant: those stored and those left are the whole.
 use Prim.Native.Nat.{_+_, _-_, _≤_}
 use mathlib.Core.Logic.{⊎-elim}
 use native.Mathlib.Omega.{arith}

@@ -1,4 +1,4 @@
--- `list_units::record_len` gives the length of the record of units that are measured, or the refusal that comes first.
+-- `list_units::record_len` returns the length of the record, or the first refusal.
 use Prim.Native.Nat.{_≤_}
 use mathlib.Core.Path.{sym, _∙_}
 use mathlib.Core.Logic.{⊎-elim, inl, inr}
@@ -16,7 +16,7 @@ start c = c .before .before
 abbrev at-else1 : (c : tie.Else3) → tie.Else1
 at-else1 c = c .before .before .before .before
 
--- the count was tested
+-- the count is 2 to 33
 counted : (c : tie.Else3) → let a = start (at-else1 c) .args in (2 ≤ a .sum .count) × (a .sum .count ≤ 33)
 counted c = (omega (arith, c .before .before .if2 .left), ltb-false 33 (start (at-else1 c) .args .sum .count) (c .if3 .left))
 

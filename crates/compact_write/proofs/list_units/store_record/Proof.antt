@@ -1,4 +1,4 @@
--- `list_units::store_record` leaves the first byte and the units from the front on.
+-- `list_units::store_record` writes the first byte and the units at the front of the output.
 use borrow.Author.Needs.{needs}
 use Rattle.unit_list.specs.inner.Find.{unitsLeft}
 use Rattle.parse.proofs.Stores.{puts-on}

@@ -1,4 +1,4 @@
--- `list_units::units_sum` measures the units after a cursor. The loop's invariant: those passed and those left make the whole.
+-- `list_units::units_sum` measures the units after a cursor. Invariant: those passed and those left are the whole.
 use Prim.Native.Nat.{_-_}
 use mathlib.Core.Path.{sym, subst}
 use borrow.Author.Needs.{needs}

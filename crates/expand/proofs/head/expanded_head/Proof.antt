@@ -1,4 +1,4 @@
--- `head::expanded_head` fills in the fields.
+-- `head::expanded_head` returns the head of SCOPE 3.8.
 use borrow.Author.Needs.{needs}
 use Rattle.expand.proofs.head.expanded_head.Statement.{statement}
 use Rattle.expand.proofs.head.expanded_head.Tie as tie

@@ -1,4 +1,4 @@
--- `parameter_sets::multi_layer_vps` reads the first VPS where the flag is set.
+-- `parameter_sets::multi_layer_vps` reads the first VPS if the flag is set.
 use borrow.Author.Needs.{needs}
 use borrow.Author.Tests.{not-true, not-false}
 use Rattle.expand.proofs.SetsRead.{single-layer, multi-layer}

@@ -1,4 +1,4 @@
--- `parameter_sets::ptl_of_sets` takes the SPS's PTL where it has one, else the VPS's.
+-- `parameter_sets::ptl_of_sets` returns the PTL of the SPS if it has one, else that of the VPS.
 use mathlib.Core.Path.{sym, ap, _∙_}
 use borrow.Author.Needs.{needs}
 use borrow.Author.Tests.{not-true, not-false}

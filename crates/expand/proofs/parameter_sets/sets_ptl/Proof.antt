@@ -1,4 +1,4 @@
--- `parameter_sets::sets_ptl` tests the VPS, and then takes the PTL of the SPS.
+-- `parameter_sets::sets_ptl` tests the VPS, then returns the PTL of the SPS.
 use mathlib.Core.Path.{sym, ap, _∙_}
 use borrow.Author.Needs.{needs}
 use Rattle.parse.specs.Outcome.{Outcome, andThen}

@@ -1,4 +1,4 @@
--- `parameter_sets::sps_ptl` reads the first SPS, where there is one, and takes the PTL that goes with it.
+-- `parameter_sets::sps_ptl` reads the first SPS, if there is one, and returns its PTL or that of the VPS.
 use mathlib.Core.Path.{sym, ap, _∙_, subst}
 use borrow.Author.Needs.{needs}
 use Rattle.boxes.specs.Parts.{held}

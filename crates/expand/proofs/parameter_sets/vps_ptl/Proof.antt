@@ -1,4 +1,4 @@
--- `parameter_sets::vps_ptl` reads the first VPS, where there is one.
+-- `parameter_sets::vps_ptl` reads the first VPS, if there is one.
 use mathlib.Core.Path.{sym, ap, _∙_, subst}
 use borrow.Author.Needs.{needs}
 use Rattle.vps.specs.Answers.{ptlGiven}

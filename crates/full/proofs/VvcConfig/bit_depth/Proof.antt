@@ -1,4 +1,4 @@
--- `bit_depth` adds 8 where a byte holds that.
+-- `bit_depth` adds 8 where the sum fits a byte.
 use borrow.Author.Needs.{needs}
 use borrow.Author.Tests.{lt-ltb, le-ltb}
 use Rattle.full.specs.Answers.{bitDepth}

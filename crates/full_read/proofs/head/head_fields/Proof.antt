@@ -1,4 +1,4 @@
--- The fields are those of the five numbers.
+-- `head_fields` returns the fields of the five numbers.
 use borrow.Author.Needs.{needs}
 use Rattle.full_read.proofs.head.head_fields.Statement.{statement}
 use Rattle.full_read.proofs.head.head_fields.Tie as tie

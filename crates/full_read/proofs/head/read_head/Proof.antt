@@ -1,4 +1,4 @@
--- The first byte decides: 1 for none, 3 for size 3, then whether the fields under the PTL flag are read.
+-- `read_head` tests the first byte: 1 if there is none, 3 for prefix size 3; then it reads the fields under the PTL flag if it is set.
 use Prim.Native.Nat.{_<_}
 use mathlib.Core.Path.{sym, ap, _∙_}
 use native.Mathlib.Omega.{arith}

@@ -1,4 +1,4 @@
--- Where three numbers of two bytes follow the PTL the fields are read, else it is refusal 1.
+-- `read_sizes` reads three numbers of two bytes after the PTL, or returns 1.
 use borrow.Author.Tests.{ltb-true, ltb-false}
 use Prim.Native.Nat.{_+_, _<_}
 use mathlib.Core.Path.{sym, ap, _∙_}

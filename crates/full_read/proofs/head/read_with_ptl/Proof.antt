@@ -1,4 +1,4 @@
--- What the PTL flag announces is read in byte order: the first refusal, or what follows the PTL.
+-- `read_with_ptl` reads the fields under the PTL flag in byte order and returns the first refusal.
 use Prim.Native.Nat.{_≤_}
 use mathlib.Core.Path.{sym, ap, _∙_}
 use native.Mathlib.Omega.{arith}

@@ -1,4 +1,4 @@
--- The tests are those of the definition, in its order; without the PTL flag no field under it is looked at.
+-- `head_fits` makes the tests of the definition in its order; without the PTL flag the fields under it are not tested.
 use borrow.Author.Needs.{needs}
 use mathlib.Core.Path.{sym, _∙_}
 use Rattle.full.specs.Write.{headFits}

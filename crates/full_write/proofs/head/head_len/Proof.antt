@@ -1,4 +1,4 @@
--- One byte, and with the PTL flag nine and the PTL.
+-- `head_len` returns 1, or with the PTL flag 10 plus the length of the PTL.
 use mathlib.Core.Path.{ap}
 use native.Mathlib.Omega.{arith}
 use lib.ListN.{length}

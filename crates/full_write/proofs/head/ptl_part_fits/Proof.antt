@@ -1,4 +1,4 @@
--- The tests are those of the definition, in its order.
+-- `ptl_part_fits` makes the tests of the definition in its order.
 use borrow.Author.Needs.{needs}
 use borrow.Author.Tests.{le-leb, lt-leb}
 use Rattle.full.specs.Write.{ptlPartFits}

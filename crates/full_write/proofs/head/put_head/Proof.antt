@@ -1,4 +1,4 @@
--- The first byte, and with the PTL flag what stands under it.
+-- `put_head` stores the first byte, and with the PTL flag the fields under it.
 use mathlib.Core.Path.{ap, _∙_}
 use native.Mathlib.Omega.{arith}
 use lib.ListN.{length, length-set}

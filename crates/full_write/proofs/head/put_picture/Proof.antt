@@ -1,4 +1,4 @@
--- Three numbers of two bytes, stored one after the other.
+-- `put_picture` stores three numbers of two bytes, one after the other.
 use borrow.Author.Needs.{needs}
 use Rattle.full_write.proofs.Heads.{picture-stored}
 use Rattle.full_write.proofs.head.put_picture.Statement.{statement}

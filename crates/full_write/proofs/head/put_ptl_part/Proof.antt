@@ -1,4 +1,4 @@
--- The parts under the PTL flag, stored one after the other.
+-- `put_ptl_part` stores the fields under the PTL flag, one after the other.
 use native.Mathlib.Omega.{arith}
 use borrow.Author.Needs.{needs}
 use Rattle.full.proofs.HeadRoundTrip.{small, length-part}

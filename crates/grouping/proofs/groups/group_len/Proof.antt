@@ -1,4 +1,4 @@
--- `group_len` measures the units of a type. The loop's invariant: those passed and those left make the whole.
+-- `group_len` returns the length of the units of a type. Invariant: those passed and those left are the whole.
 use Prim.Native.Nat.{_-_}
 use mathlib.Core.Path.{sym, _∙_}
 use native.Mathlib.Omega.{arith}

@@ -1,4 +1,4 @@
--- `groups_len` measures the arrays, each at the first unit of its type. The loop's invariant: those measured and those to come make the whole.
+-- `groups_len` returns the length of the arrays. Invariant: those measured and those left are the whole.
 use Prim.Native.Nat.{_-_}
 use native.Mathlib.Omega.{arith}
 use borrow.Author.Needs.{needs}

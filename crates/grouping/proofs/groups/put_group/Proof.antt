@@ -1,4 +1,4 @@
--- `groups::put_group` stores the units of a type, and before them the array's length, complete and type.
+-- `groups::put_group` stores the units of a type, then the array's length, complete and type before them.
 use Prim.Native.Nat.{_+_, _-_}
 use mathlib.Core.Path.{ap, _∙_}
 use native.Mathlib.Omega.{arith}

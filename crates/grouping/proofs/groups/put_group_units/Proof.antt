@@ -1,4 +1,4 @@
--- `put_group_units` stores the units of a type. The loop's invariant: those stored and those left make the whole.
+-- `put_group_units` stores the units of a type. Invariant: those stored and those left are the whole.
 use Prim.Native.Nat.{_-_, _+_, _≤_}
 use mathlib.Core.Path.{sym, _∙_}
 use native.Mathlib.Omega.{arith}
@@ -39,7 +39,7 @@ step-here : (c : tie.After-known-told Inv-loop μ-loop)
     → UnitStepped (c .before .before .before .before .before .before .before .args .list .now) (c .before .before .before .before .loop .here) (c .before .a .given .0 .0) (c .before .a .given .0 .1 .0) (c .before .a .given .0 .1 .1 .0)
 step-here c = stepped-to _ _ _ (c .before .before .before .next-unit .ensures) _ _ _ (c .before .a .given .1)
 
--- there is room for it where it is of the type
+-- the output has room for it if it is of the type
 room-here : (c : tie.Then1 Inv-loop μ-loop) → c .before .before .before .before .before .loop .to + 4 + c .before .before .a .given .0 .0 .len ≤ length (c .before .before .before .before .before .loop .out)
 room-here c =
     let u = step-here (c .before) in

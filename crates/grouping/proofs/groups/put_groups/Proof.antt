@@ -1,4 +1,4 @@
--- `put_groups` stores the arrays, each at the first unit of its type. The loop's invariant: those stored and those to come make the whole.
+-- `put_groups` stores the arrays, each at the first unit of its type. Invariant: those stored and those left are the whole.
 use Prim.Native.Nat.{_-_}
 use native.Mathlib.Omega.{arith}
 use borrow.Author.Needs.{needs}

@@ -1,4 +1,4 @@
--- `groups::put_list` stores the list's first byte, and the arrays after it.
+-- `groups::put_list` stores the version and the arrays after it.
 use Prim.Native.Nat.{ℕ}
 use mathlib.Core.Path.{ap, _∙_}
 use mathlib.Core.List.{List}

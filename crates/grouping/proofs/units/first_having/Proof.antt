@@ -1,4 +1,4 @@
--- `units::first_having` finds the firstElement unit of a record kind. The loop's invariant: those of the type that are left are all of them.
+-- `units::first_having` finds the first unit of a type. Invariant: all units of that type are still to come.
 use Prim.Native.Nat.{_-_}
 use mathlib.Core.Path.{_≡_, refl, sym, ap, _∙_}
 use borrow.Author.Needs.{needs}
@@ -45,7 +45,7 @@ step-here c = stepped-to _ _ _ (c .before .before .before .next-unit .ensures) _
 is-record-of-requires : tie.Need-is-record-of-requires Inv-loop μ-loop
 is-record-of-requires c κs = search needs
 
--- the test of the kind is that of the type
+-- the test of the kind is the test of the type
 tested : (c : tie.After-is-record-of Inv-loop μ-loop) → c .is-record-of .result ≡ eqb (c .before .before .a .given .0 .1 .0) (c .before .before .before .before .before .before .before .args .t)
 tested c = c .is-record-of .ensures ∙ record-of _ _ (c .before .before .before .before .before .before .before .pre .1)
 

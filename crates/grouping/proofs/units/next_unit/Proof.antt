@@ -1,4 +1,4 @@
--- `units::next_unit` gives the list's next unit with the type in its header, and the end where no unit is left.
+-- `units::next_unit` returns the next unit of the list with the type in its header, or the end.
 use borrow.Author.Needs.{needs}
 use Rattle.grouping.proofs.Walks.{none-left, found-inside, found-step}
 use Rattle.grouping.proofs.units.next_unit.Statement.{statement}

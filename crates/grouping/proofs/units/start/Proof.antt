@@ -1,4 +1,4 @@
--- `units::start` gives the start of the walk where all units read, or the refusal.
+-- `units::start` returns the start of the walk if all units read, or the refusal.
 use mathlib.Core.Path.{ap, _∙_, subst}
 use borrow.Author.Needs.{needs}
 use Rattle.unit_list.specs.inner.Walk.{StartFits}

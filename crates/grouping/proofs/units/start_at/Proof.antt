@@ -1,4 +1,4 @@
--- `units::start_at` gives the cursor where the units after it can be counted, and their refusal where not.
+-- `units::start_at` returns the cursor if the units after it can be counted, else their refusal.
 use mathlib.Core.Path.{sym, ap, _∙_}
 use borrow.Author.Needs.{needs}
 use Rattle.parse.specs.Answers.{countOf}

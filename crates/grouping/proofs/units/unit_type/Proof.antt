@@ -1,4 +1,4 @@
--- `units::unit_type` takes the type from the bytes at the span.
+-- `units::unit_type` returns the type of the unit at a span.
 use mathlib.Core.Path.{ap, _∙_}
 use borrow.Author.Needs.{needs}
 use Rattle.nal.specs.Header.{typeOr31}

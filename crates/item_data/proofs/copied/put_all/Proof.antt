@@ -1,4 +1,4 @@
--- `copied::put_all` gives the bytes of a slice as the result, or 20.
+-- `copied::put_all` writes a copy of a slice, or returns 20.
 use mathlib.Core.Path.{refl}
 use native.Mathlib.Omega.{arith}
 use borrow.Author.Needs.{needs}

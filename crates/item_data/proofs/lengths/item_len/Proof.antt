@@ -1,4 +1,4 @@
--- `lengths::item_len` measures the item of stored bytes: 23, a copy, or their unit.
+-- `lengths::item_len` returns the length of the item: 23, that of a copy, or that of the unit with its prefix.
 use mathlib.Core.Path.{sym, ap, _∙_}
 use borrow.Author.Needs.{needs}
 use Rattle.boxes.specs.Walk.{countFound}

@@ -1,4 +1,4 @@
--- `lengths::prefix_limit` is the number of values of a prefix.
+-- `lengths::prefix_limit` is 256^size.
 use mathlib.Core.Path.{_≡_}
 use native.Mathlib.Omega.{arith}
 use Rattle.item_data.proofs.lengths.prefix_limit.Statement.{statement}

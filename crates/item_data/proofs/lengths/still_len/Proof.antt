@@ -1,4 +1,4 @@
--- `lengths::still_len` measures the unit of stored bytes after its length, or gives the refusal that comes first.
+-- `lengths::still_len` returns the length of the unit with its prefix, or the first refusal.
 use Prim.Native.Nat.{_^_, _≤_}
 use mathlib.Core.Path.{_≡_, sym, ap, _∙_}
 use native.Mathlib.Omega.{arith}
@@ -10,7 +10,7 @@ use Rattle.item_data.proofs.lengths.still_len.Statement.{statement}
 use Rattle.item_data.proofs.lengths.still_len.Tie as tie
 use Rattle.boxes.proofs.PrefixSizes.{size-inside}
 
--- the prefix size
+-- the prefix size is 1 to 4
 sized : (c : tie.Else1) → (1 ≤ c .before .before .before .args .length-size) × (c .before .before .before .args .length-size ≤ 4)
 sized c = size-inside _ (sym (c .before .outside .ensures) ∙ c .if1 .left)
 
@@ -31,7 +31,7 @@ add-len c = search needs
 prefix-limit-requires : tie.Need-prefix-limit-requires
 prefix-limit-requires c κs = rw (c .wide .ensures .0) (sized (c .before))
 
--- the first length that the prefix does not hold
+-- the limit is 256^size
 limit-at : (c : tie.After-prefix-limit) → c .prefix-limit .result ≡ 256 ^ (c .before .before .before .before .before .args .length-size)
 limit-at c = c .prefix-limit .ensures ∙ rw (c .before .wide .ensures .0)
 

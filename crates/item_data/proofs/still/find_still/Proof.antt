@@ -1,4 +1,4 @@
--- `still::find_still` finds what follows the header of an item's one unit, if there is one and it is a still.
+-- `still::find_still` finds the payload of an item's one unit, if the unit is a still.
 use Prim.Native.Nat.{ℕ, _≤_}
 use mathlib.Core.Path.{_≡_, sym, ap, _∙_}
 use mathlib.Core.List.{[]}
@@ -22,11 +22,11 @@ start c = c .before .before .before .before
 abbrev after-wide : (c : tie.After-known-told) → tie.After-wide
 after-wide c = c .before .before .before .before
 
--- the prefix size
+-- the prefix size is 1 to 4
 sized : (c : tie.After-wide) → (1 ≤ c .wide .result) × (c .wide .result ≤ 4)
 sized c = rw (c .wide .ensures .0) (size-inside _ (sym (c .before .before .outside .ensures) ∙ c .before .if1 .left))
 
--- the units of the item are those left from its start
+-- the units of the item are those from place 0 on
 left-at : (c : tie.After-wide) → itemUnitsFrom (c .wide .result) (c .before .before .before .before .args .item .now) 0 ≡ itemUnits (c .before .before .before .before .args .length-size) (c .before .before .before .before .args .item .now)
 left-at c =
     let z = sized c in

@@ -1,4 +1,4 @@
--- `still::still_of` finds what follows the header of the unit at a span, if that is the header of a still.
+-- `still::still_of` finds the payload of the unit at a span, if its header is that of a still.
 use Prim.Native.Nat.{_+_, _/_}
 use mathlib.Core.Path.{_≡_, sym, _∙_}
 use native.Mathlib.Omega.{arith}
@@ -37,7 +37,7 @@ returns-2 c =
 is-picture-data-of-requires : tie.Need-is-picture-data-of-requires
 is-picture-data-of-requires c κs = search needs
 
--- the test of the kind is that of the type
+-- the test of the kind is the test of the type
 tested : (c : tie.After-is-picture-data-of) → let a = start c .args in c .is-picture-data-of .result ≡ eqb (getD (a .item .now) (a .a .start + 1) 0 / 8) 8
 tested c = c .is-picture-data-of .ensures ∙ picture-data-of 8 _ (omega arith)
 

@@ -1,4 +1,4 @@
--- `still::store_item` leaves the item of stored bytes from the front on: a copy, or their unit.
+-- `still::store_item` writes the item of stored bytes at the front of the output: a copy, or the unit with its prefix.
 use mathlib.Core.Path.{ap}
 use native.Mathlib.Omega.{arith}
 use borrow.Author.Needs.{needs}

@@ -1,4 +1,4 @@
--- `still::store_still` leaves the length, the header and the stored bytes from the front on.
+-- `still::store_still` writes the length, the header and the stored bytes at the front of the output.
 use borrow.Author.Needs.{needs}
 use Rattle.item_data.proofs.Stills.{still-stored}
 use Rattle.item_data.proofs.still.store_still.Statement.{statement}

@@ -1,4 +1,4 @@
--- The count takes two bytes, but for a type that holds one.
+-- `count_len` returns 2, or 0 for an array without a count.
 use mathlib.Core.Path.{sym, refl, _∙_}
 use native.Mathlib.Omega.{arith}
 use borrow.Author.Needs.{needs}

@@ -1,4 +1,4 @@
--- `holds_one` tests for the two types.
+-- `holds_one` tests for types 12 and 13.
 use borrow.Author.Tests.{eq-eqb, ne-eqb}
 use Rattle.record_arrays.proofs.array.holds_one.Statement.{statement}
 use Rattle.record_arrays.proofs.array.holds_one.Tie as tie

@@ -1,4 +1,4 @@
--- The head of an array: 1 where its first byte or its count is not there.
+-- `array_head` reads the head of an array: 1 if its first byte or its count runs past the end.
 use Prim.Native.Nat.{_+_, _%_, _≤_}
 use mathlib.Core.Path.{_≡_, sym, ap, _∙_}
 use native.Mathlib.Omega.{arith}
@@ -34,7 +34,7 @@ count-len-requires c κs = search needs
 add-units-2 : tie.Need-add-units-2
 add-units-2 c = search needs
 
--- the count takes what the type in the first byte says
+-- the count has the length for the type in the first byte
 count-at : (c : tie.After-count-len) → let a = start c .args in c .count-len .result ≡ countLen (getD (a .«record» .now) (a .at) 0 % 32)
 count-at c = c .count-len .ensures .0 ∙ ap countLen (c .before .unit-type-of .ensures)
 

@@ -1,4 +1,4 @@
--- The arrays after their count: 1 where they are not all there, 20 where their list is too long, else the list at the front of the output.
+-- `read_list` returns 1 if the arrays run past the end, 20 if their list is longer than the output, else it writes the list.
 use Prim.Native.Nat.{_+_, _<_}
 use native.Mathlib.Omega.{arith}
 use lib.ListN.{length}

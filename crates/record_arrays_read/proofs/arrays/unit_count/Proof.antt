@@ -1,4 +1,4 @@
--- The count of units, or one for a type that has no count.
+-- `unit_count` returns the count of units, or 1 for a type without a count.
 use Prim.Native.Nat.{_+_, _≤_}
 use mathlib.Core.Path.{_≡_, sym, _∙_}
 use mathlib.Core.Bool.{false}

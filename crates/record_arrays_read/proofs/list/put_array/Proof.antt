@@ -1,4 +1,4 @@
--- An array's units, stored first, and what comes before them make its bytes.
+-- `put_array` stores an array: its units first, then its length, complete and type before them.
 use Prim.Native.Nat.{ℕ}
 use mathlib.Core.Path.{_≡_, ap}
 use native.Mathlib.Omega.{arith}
@@ -32,7 +32,7 @@ returns c =
     let f = a .pre .1 .found in
     absurd (let z : _≡_ {A = ℕ} 0 1 = cc in omega arith)
 
--- what comes before the units
+-- the head of the array
 found : (c : tie.After-known-told) → let a = start c .args in HeadAt (a .«record» .now) (a .at) (c .before .head .given .0 .0) (c .before .head .given .0 .1 .0)
 found c =
     let h = c .before .before .before .array-head in

@@ -1,4 +1,4 @@
--- The arrays of a record, stored. The loop's invariant: those stored and those left make the whole.
+-- `put_arrays` stores the arrays of a record. Invariant: those stored and those left are the whole.
 use native.Mathlib.Omega.{arith}
 use borrow.Author.Needs.{needs}
 use Rattle.parse.specs.Parse.{times}

@@ -1,4 +1,4 @@
--- The units of an array, stored. The loop's invariant: those stored and those left make the whole.
+-- `put_units` stores the units of an array. Invariant: those stored and those left are the whole.
 use Prim.Native.Nat.{_+_, _≤_}
 use native.Mathlib.Omega.{arith}
 use borrow.Author.Needs.{needs}
@@ -65,7 +65,7 @@ put-unit-requires c κs =
     let h = storing-room (chunk 2) unitInList unitsInList units-none units-more _ _ _ _ (l .left) (l .at) (l .out) (l .next) (l .inv .1) (kt .before .before .before .before .loop-test .taken) _ _ (t .read) in
     (t .inside, omega arith, omega arith)
 
--- and the room for it
+-- the output has room for it
 room : (c : tie.After-put-unit-arg Inv-loop μ-loop) → let lo = at-loop (c .before) in lo .loop .next + (4 + c .before .before .a .given .0 .0 .len) ≤ length (lo .loop .out)
 room c =
     let kt = c .before in

@@ -1,4 +1,4 @@
--- An array takes six bytes in a list, and those of its units.
+-- `array_room` measures an array: 6 bytes and those of its units.
 use mathlib.Core.Path.{sym, ap}
 use native.Mathlib.Omega.{arith}
 use borrow.Author.Needs.{needs}
@@ -29,7 +29,7 @@ returns c =
     let h = c .before .before .array-head in
     (sym (ap (roomTaken arrayInList (a .«record» .now) 0) (array-refused (a .«record» .now) (a .at) 1 (head-short (a .«record» .now) (a .at) (h .result) (h .ensures) (c .enum-told .given .1)))), tt)
 
--- what comes before the units
+-- the head of the array
 found : (c : tie.After-known-told) → let a = start c .args in HeadAt (a .«record» .now) (a .at) (c .before .head .given .0 .0) (c .before .head .given .0 .1 .0)
 found c =
     let h = c .before .before .before .array-head in

@@ -1,4 +1,4 @@
--- The arrays of a record, measured. The loop's invariant: those passed and those left make the whole.
+-- `arrays_room` measures the arrays of a record. Invariant: those passed and those left are the whole.
 use Prim.Native.Nat.{_+_, _*_, _≤_}
 use mathlib.Core.Path.{_≡_, refl, sym, ap, _∙_}
 use native.Mathlib.Omega.{arith}

@@ -1,4 +1,4 @@
--- The units of an array, measured. The loop's invariant: those passed and those left make the whole.
+-- `units_room` measures the units of an array. Invariant: those passed and those left are the whole.
 use Prim.Native.Nat.{_+_, _*_, _≤_}
 use mathlib.Core.Path.{_≡_, refl, sym, ap, _∙_}
 use native.Mathlib.Omega.{arith}

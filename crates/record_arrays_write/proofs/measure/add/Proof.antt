@@ -1,4 +1,4 @@
--- `measure::add` joins two measures.
+-- `measure::add` returns the sum of two measures.
 use borrow.Author.Needs.{needs}
 use borrow.Author.Tests.{not-true, not-false}
 use Rattle.record_arrays_write.proofs.measure.add.Statement.{statement}

@@ -1,4 +1,4 @@
--- One array: its units are measured after its head.
+-- `measure_array` measures one array: its head, then its units.
 use mathlib.Core.Path.{sym, ap, _∙_, subst}
 use borrow.Author.Needs.{needs}
 use Rattle.record_arrays_write.specs.inner.Measures.{measureOf, UnitsWithin}

@@ -1,4 +1,4 @@
--- The loop's invariant: the arrays measured and those left make the whole.
+-- `measure_arrays` measures the arrays after a cursor's end. Invariant: those measured and those left are the whole.
 use Prim.Native.Nat.{_-_}
 use borrow.Author.Needs.{needs}
 use lib.ListN.{length}

@@ -1,4 +1,4 @@
--- The loop's invariant: the units measured and those left make the whole.
+-- `measure_units` measures the units after a cursor. Invariant: those measured and those left are the whole.
 use Prim.Native.Nat.{_-_}
 use borrow.Author.Needs.{needs}
 use lib.ListN.{length}

@@ -1,4 +1,4 @@
--- An array: its first byte, its count, its units.
+-- `of_array` returns the measure of an array: first byte, count and units.
 use borrow.Author.Needs.{needs}
 use Rattle.record_arrays_write.proofs.measure.of_array.Statement.{statement}
 use Rattle.record_arrays_write.proofs.measure.of_array.Tie as tie

@@ -1,4 +1,4 @@
--- The first byte of an array, its count, its units, stored one after the other.
+-- `put_array` stores the first byte of an array, its count and its units, one after the other.
 use borrow.Author.Needs.{needs}
 use Rattle.unit_list.specs.inner.Walk.{arrayUnitsFrom}
 use Rattle.record_arrays_write.proofs.Stores.{count-puts, units-puts, array-stored}

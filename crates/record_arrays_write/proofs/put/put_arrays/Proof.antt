@@ -1,4 +1,4 @@
--- The loop's invariant: the arrays stored and those left make the whole.
+-- `put_arrays` stores the arrays after a cursor's end. Invariant: those stored and those left are the whole.
 use Prim.Native.Nat.{_-_}
 use borrow.Author.Needs.{needs}
 use lib.ListN.{length}

@@ -1,4 +1,4 @@
--- The count of the units, or nothing for a type that holds one.
+-- `put_count` stores the count of units, or nothing for a type without a count.
 use mathlib.Core.Path.{sym, ap, refl, _∙_}
 use native.Mathlib.Omega.{arith}
 use borrow.Author.Needs.{needs}

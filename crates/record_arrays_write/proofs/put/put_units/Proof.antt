@@ -1,4 +1,4 @@
--- The loop's invariant: the units stored and those left make the whole.
+-- `put_units` stores the units after a cursor. Invariant: those stored and those left are the whole.
 use Prim.Native.Nat.{_-_}
 use native.Mathlib.Omega.{arith}
 use borrow.Author.Needs.{needs}

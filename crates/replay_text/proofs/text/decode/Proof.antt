@@ -1,4 +1,4 @@
--- `decode` stores one byte a turn; the measure is what is left of the bytes.
+-- `decode` stores one byte in each turn; the measure is the number of bytes left.
 use Prim.Native.Nat.{_-_}
 use mathlib.Core.Path.{_≡_}
 use borrow.Author.Needs.{needs}

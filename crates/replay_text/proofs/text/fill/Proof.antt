@@ -1,4 +1,4 @@
--- `fill` sets the bytes up to `i`; the measure is what is left of them.
+-- `fill` sets the bytes up to `i`; the measure is the number of bytes left.
 use Prim.Native.Nat.{_-_}
 use mathlib.Core.Path.{_≡_}
 use borrow.Author.Needs.{needs}

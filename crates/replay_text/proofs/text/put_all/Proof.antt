@@ -1,4 +1,4 @@
--- `put_all` puts one character a turn; the measure is what is left of the characters.
+-- `put_all` puts one character in each turn; the measure is the number of characters left.
 use Prim.Native.Nat.{_-_}
 use mathlib.Core.Path.{_≡_}
 use borrow.Author.Needs.{needs}

@@ -1,4 +1,4 @@
--- `put_digits` puts one byte a turn; the measure is what is left of the bytes.
+-- `put_digits` puts one byte in each turn; the measure is the number of bytes left.
 use Prim.Native.Nat.{_-_}
 use mathlib.Core.Path.{_≡_}
 use borrow.Author.Needs.{needs}

@@ -1,4 +1,4 @@
--- `record_len` expands into a local array that is long enough, and measures the record of what stands there.
+-- `record_len` expands into a local array that is long enough, and measures the record of the result.
 use native.Mathlib.Omega.{arith}
 use mathlib.Core.Path.{sym, ap, _∙_}
 use borrow.Author.Needs.{needs}
@@ -26,13 +26,13 @@ to-full-requires c κs = tt
 enum-known-answer : tie.Need-enum-known-answer
 enum-known-answer c = search needs
 
--- the picture, as the caller knows it
+-- the caller's picture
 abbrev pic : (c : tie.After-known-told) → Picture
 pic c =
     let a = start (after-to-full c) .args in
     record { chroma = a .chroma-format-idc; depth = a .bit-depth; width = a .width; height = a .height }
 
--- what expansion gave stands at the front of the array
+-- the result of expansion is at the front of the array
 expanded-at : (c : tie.After-known-told)
     → let tf = after-to-full c in let a = start tf .args in Expanded (a .config) (pic c) (a .list .now)
     (tf .to-full .result .head) (c .before .answer .given .0 .0) (tf .to-full .last .1 .1 .1 .1 .1 .1 .0)

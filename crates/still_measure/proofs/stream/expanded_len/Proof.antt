@@ -1,4 +1,4 @@
--- `expanded_len` gives the refusal of full write or restore, and otherwise the length of the stream: of the stored item, or of its one unit.
+-- `expanded_len` returns the refusal of full write or restore, else the length of the stream.
 use mathlib.Core.Path.{sym, ap, _∙_}
 use Rattle.parse.specs.Answers.{countOf}
 use Rattle.access_unit.specs.Answers.{tolsOf}

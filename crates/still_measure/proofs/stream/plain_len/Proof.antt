@@ -1,4 +1,4 @@
--- `plain_len` adds the picture's unit to the list's stream, or gives the refusal of the item.
+-- `plain_len` adds the unit of the stored bytes to the stream of the list, or returns the refusal of the item.
 use native.Mathlib.Omega.{arith}
 use Rattle.still.proofs.LocalArrays.{counted-refused}
 use Rattle.still_measure.specs.inner.Plain.{Listed}

@@ -1,4 +1,4 @@
--- `plain_sizes` refuses an item that would be too long, and measures the list without it.
+-- `plain_sizes` refuses an item that is too long, and measures the list without it.
 use native.Mathlib.Omega.{arith}
 use Rattle.still_measure.proofs.Streams.{plain-too-long, plain-measured}
 use borrow.Author.Needs.{needs}

@@ -1,4 +1,4 @@
--- `restored_len` measures the item once the record's length is known, and gives the first refusal.
+-- `restored_len` returns the length of the item if the record has a length, or the first refusal.
 use mathlib.Core.Path.{sym, ap, _∙_}
 use Rattle.parse.specs.Answers.{countOf}
 use Rattle.still.proofs.Steps.{item-counted, item-refused}

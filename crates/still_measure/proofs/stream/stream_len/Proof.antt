@@ -1,4 +1,4 @@
--- `stream_len` expands into a local array that is long enough, and measures the stream of what stands there.
+-- `stream_len` expands into a local array that is long enough, and measures the stream of the result.
 use native.Mathlib.Omega.{arith}
 use mathlib.Core.Path.{sym, ap, _∙_}
 use Rattle.expand.specs.Answers.{expandAnswerOf}
@@ -27,7 +27,7 @@ to-full-requires c κs = tt
 enum-known-answer : tie.Need-enum-known-answer
 enum-known-answer c = search needs
 
--- what expansion gave stands at the front of the array
+-- the result of expansion is at the front of the array
 expanded-at : (c : tie.After-known-told)
     → let tf = after-to-full c in let a = start tf .args in Expanded (a .config) anyPicture (a .list .now)
     (tf .to-full .result .head) (c .before .answer .given .0 .0) (tf .to-full .last .1 .1 .1 .1 .1 .1 .0)

@@ -1,4 +1,4 @@
--- `put_plain` stores the stream of the list and the picture, or gives the refusal of the item.
+-- `put_plain` writes the stream of the list and the stored bytes, or returns the refusal of the item.
 use Rattle.parse.proofs.Output.{written-refused}
 use Rattle.still.specs.inner.Steps.{plainStream}
 use Rattle.still.proofs.LocalArrays.{given-as}

@@ -1,4 +1,4 @@
--- `put_sized` stores the list's stream and the picture's unit after it, where there is room for both.
+-- `put_sized` stores the stream of the list and then the unit of the stored bytes, if the output has room for both.
 use native.Mathlib.Omega.{arith}
 use Rattle.parse.proofs.Output.{written-short, written-fits}
 use Rattle.still.specs.inner.Steps.{unitsStream}

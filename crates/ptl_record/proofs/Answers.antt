@@ -38,7 +38,7 @@ module _ (x : Parsed VvcPtlRecord) (r : PtlRecordRead) (says : ptlRecordOf r ≡
   pub told-read : (q : ℕ) → r .answer ≡ A.Read q → x ≡ value (r .ptl) q
   told-read q e = sym told ∙ ap (λ a. ptlRecordRead a (r .ptl)) e
 
-  -- it was refused, and zeros stand beside that
+  -- it was refused, and there are zeros beside that
   pub told-refused : (e : Refusal) → r .answer ≡ A.Refused e → x ≡ refused (numberOf e)
   told-refused e h = sym told ∙ ap (λ a. ptlRecordRead a (r .ptl)) h
 

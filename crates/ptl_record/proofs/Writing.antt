@@ -1,4 +1,4 @@
--- Laws of the bytes of a PTL record: their parts one by one, and their lengths.
+-- Laws of the bytes of a PTL record: field by field, and their lengths.
 use Prim.Native.Nat.{ℕ, zero, suc, _+_, _-_, _*_, _%_, _≤_, _<_}
 use mathlib.Core.Path.{_≡_, refl}
 use mathlib.Core.Bool.{Bool, true, false, _&&_}

@@ -1,4 +1,4 @@
--- `walk::outside` tells a prefix size outside 1 to 4: 0 first, then above 4.
+-- `walk::outside` tells whether a prefix size is outside 1 to 4: 0 first, then above 4.
 use borrow.Author.Tests.{eq-eqb, ne-eqb}
 use Rattle.split.proofs.walk.outside.Statement.{statement}
 use Rattle.split.proofs.walk.outside.Tie as tie

@@ -38,7 +38,7 @@ constraintBits = do
   n ← u 8  -- gci_num_additional_bits
   skip n
 
--- 7.3.3.2, general_constraints_info( )
+-- general_constraints_info( ) (H.266 7.3.3.2)
 unfoldable pub generalConstraintsInfo : Parser (Unit {0})
 generalConstraintsInfo = do
   present ← u 1  -- gci_present_flag

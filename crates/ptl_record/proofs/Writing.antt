@@ -16,7 +16,7 @@ use Rattle.ptl.specs.declared.VvcPtlRecord.{VvcPtlRecord}
 use Rattle.ptl_record.specs.Write.{constraintInfo, withFlags, hasLevel, flagByte, levelBytes, levelPart, subProfileBytes, ptlBytes, ptlFits}
 use Rattle.ptl_record.specs.inner.Places.{oneLevel, frontBytes}
 
--- one run after another, its place given
+-- one run of stores after another, at the place where the first ends
 pub sets-then : (d : List ℕ) (i k : ℕ) (xs ys : List ℕ) → k ≡ i + length xs → sets (sets d i xs) k ys ≡ sets d i (xs ++ ys)
 sets-then d i k xs ys e = rw e (sets-append d i xs ys)
 

@@ -167,7 +167,7 @@ fn read_after(s: &[u8], at: usize, n: usize, sublayers: u8) -> PtlRecordRead
     }
 }
 
-// Reads the PTL record at a place, for so many sublayers. Refusals in byte order: 1, 2 for a constraint length of 0.
+// Reads the PTL record at a place, for a number of sublayers. Refusals in byte order: 1, 2 for a constraint length of 0.
 pub fn read_ptl(s: &[u8], at: usize, sublayers: u8) -> PtlRecordRead
     requires { ⌜ (length (now s) ≤ 2 ^ 30) × (sublayers ≤ 7) ⌝ }
     ensures { λ r. ⌜ ptlRecordOf r ≡ orZeroPtl (vvcPtlRecord sublayers (now (s .entry)) at) ⌝ }

@@ -81,7 +81,7 @@ fn level_part_len(p: VvcPtlRecord, sublayers: u8) -> usize
     1 + levels_len(p, ptl_record::levels::level_count(sublayers))
 }
 
-// The length of a PTL record for so many sublayers.
+// The length of a PTL record for a number of sublayers.
 pub fn ptl_len(p: VvcPtlRecord, sublayers: u8) -> usize
     requires { ⌜ (ptlFits p ≡ true) × (sublayers ≤ 7) ⌝ }
     ensures { λ r. ⌜ (r ≡ length (ptlBytes p sublayers)) × (r ≤ 1094) ⌝ }
@@ -198,7 +198,7 @@ fn put_sub_profiles(out: &mut [u8], at: usize, a: [u32; 255], n: usize)
     }
 }
 
-// Stores the bytes of a PTL record for so many sublayers from a place on, and returns the place after them.
+// Stores the bytes of a PTL record for a number of sublayers from a place on, and returns the place after them.
 pub fn put_ptl(out: &mut [u8], at: usize, p: VvcPtlRecord, sublayers: u8) -> usize
     requires { ⌜ (ptlFits p ≡ true) × (sublayers ≤ 7) × (at + length (ptlBytes p sublayers) ≤ length (now out)) ⌝ }
     ensures { λ r. ⌜ (r ≡ at + length (ptlBytes p sublayers)) × (now (out .exit) ≡ sets (now (out .entry)) at (ptlBytes p sublayers)) × (r ≤ at + 1094) ⌝ }

@@ -15,7 +15,7 @@ drops zeros b = leb 2 zeros && eqb b 3
 unfoldable pub nextZeros : ℕ → ℕ → ℕ
 nextZeros zeros b = if eqb b 0 then zeros + 1 else 0
 
--- what is kept of bytes that come after so many zeros
+-- what is kept of bytes that come directly after `zeros` zeros
 unfoldable pub unescape : ℕ → List ℕ → List ℕ
 unescape zeros [] = []
 unescape zeros (b ∷ bs) =

@@ -16,7 +16,7 @@ use Rattle.split.specs.Item.{splitItem, toItem}
 use Rattle.split.proofs.Items.{left-more, left-end, items-left, split-lent}
 use Rattle.split.specs.inner.Walk.{itemUnitsFrom}
 
--- no unit is empty, and the length of each fits so many bytes
+-- no unit is empty, and the length of each fits `size` bytes
 abbrev pub AllFit : ℕ → List (List ℕ) → Type 0
 AllFit size us = (k : ℕ) → k < length us → (0 < length (getD us k [])) × (length (getD us k []) < 256 ^ size)
 

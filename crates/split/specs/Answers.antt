@@ -20,6 +20,7 @@ pub record Next : Type 0 where
   pub unit : Span
   pub next : ℕ
 
+-- the answer of a step, none at the end
 abbrev pub nextOf : NextUnit → Outcome (Option Next)
 nextOf (N.Unit a next) = accept (some (record { unit = a; next = next }))
 nextOf N.End = accept none

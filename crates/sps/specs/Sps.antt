@@ -26,6 +26,7 @@ window = do
   bottom ← ue
   give (record { left = left; right = right; top = top; bottom = bottom })
 
+-- the offsets without the window flag
 abbrev pub noWindow : Window
 noWindow = record { left = 0; right = 0; top = 0; bottom = 0 }
 

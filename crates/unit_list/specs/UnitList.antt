@@ -75,6 +75,7 @@ unfoldable pub encodeUnits : ℕ → List (List ℕ) → List ℕ
 encodeUnits w [] = []
 encodeUnits w (u ∷ us) = toChunk w u ++ encodeUnits w us
 
+-- an array after its length
 unfoldable pub encodeArray : ℕ → Array (List ℕ) → List ℕ
 encodeArray w a = toChunk w (a .complete ∷ a .unitType ∷ encodeUnits w (a .units))
 
@@ -82,5 +83,6 @@ unfoldable pub encodeArrays : ℕ → List (Array (List ℕ)) → List ℕ
 encodeArrays w [] = []
 encodeArrays w (a ∷ xs) = encodeArray w a ++ encodeArrays w xs
 
+-- a list: the version, then the arrays
 unfoldable pub encode : List (Array (List ℕ)) → List ℕ
 encode xs = 1 ∷ encodeArrays listWidth xs

@@ -16,7 +16,7 @@ unfoldable pub words : ℕ → List ℕ → ℕ → List ℕ
 words zero s p = []
 words (suc n) s p = be s p 4 ∷ words n s (p + 4)
 
--- how many of the top m flags of a byte are set: so many levels follow it
+-- how many of the top m flags of a byte are set: that many levels follow it
 unfoldable pub levelsLen : ℕ → ℕ → ℕ
 levelsLen zero flags = 0
 levelsLen (suc m) flags = flags / 128 + levelsLen m (flags % 128 * 2)
@@ -30,10 +30,11 @@ unfoldable pub levelsAt : ℕ → ℕ → List ℕ → ℕ → List ℕ
 levelsAt zero flags s p = []
 levelsAt (suc m) flags s p = levelsAt m (flags % 128 * 2) s (p + flags / 128) ++ (levelIf (flags / 128) s p ∷ [])
 
--- above one sublayer a byte of flags comes before the levels
+-- the byte of flags before the levels, 0 for at most one sublayer
 abbrev pub flagsAt : ℕ → List ℕ → ℕ → ℕ
 flagsAt sublayers s p = if ltb 1 sublayers then getD s p 0 else 0
 
+-- where the levels start when that byte is at p
 abbrev pub levelsStart : ℕ → ℕ → ℕ
 levelsStart sublayers p = if ltb 1 sublayers then p + 1 else p
 

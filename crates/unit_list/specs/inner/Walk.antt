@@ -25,6 +25,7 @@ pub record TypedUnit : Type 0 where
   pub unit : Span
   pub unitType : ℕ
 
+-- units with the type of their array
 unfoldable pub typed : ℕ → List Span → List TypedUnit
 typed t [] = []
 typed t (a ∷ us) = record { unit = a; unitType = t } ∷ typed t us

@@ -1,4 +1,4 @@
--- Reads one after the other: what an answer of a read says of the definition's chain.
+-- Laws of reads one after another: what an answer of a read says of the definition's chain.
 use mathlib.Core.Path.{_≡_, ap, sym, _∙_, refl}
 use mathlib.Core.Bool.{Bool, true, false}
 use mathlib.Core.List.{List}
@@ -28,7 +28,7 @@ answer-value h e = sym h ∙ ap parsed e
 pub answer-refused : {x : Parsed ℕ} {r : BitsRead} {e : Refusal} → parsed r ≡ x → r ≡ Refused e → x ≡ refused (numberOf e)
 answer-refused h e = sym h ∙ ap parsed e
 
--- the read gave a value, and the chain goes bind-number after it
+-- the read returned a value, and the chain goes on after it
 pub bind-value : {B : Type 0} {x : Parsed ℕ} {r : BitsRead} {v : ℕ} {q : BitPosition} (f : ℕ → ℕ → Parsed B) → parsed r ≡ x → r ≡ Value v q → bind x f ≡ f v (q .0)
 bind-value f h e = ap (λ y. bind y f) (answer-value h e)
 
@@ -36,9 +36,9 @@ bind-value f h e = ap (λ y. bind y f) (answer-value h e)
 pub bind-refused : {B : Type 0} {x : Parsed ℕ} {r : BitsRead} {e n : Refusal} (f : ℕ → ℕ → Parsed B) → parsed r ≡ x → r ≡ Refused e → n ≡ refusalOf r → bind x f ≡ refused (numberOf n)
 bind-refused f h e g = ap (λ y. bind y f) (answer-refused h e) ∙ ap (λ m. refused (numberOf m)) (sym (g ∙ ap refusalOf e))
 
--- ---- a chain that branches nowhere: each read is after the answer before it
+-- ---- a chain without branches: each read comes after the answer before it
 
--- the answer before gave a value, and the read is after it
+-- the answer before is a value, and the read comes after it
 pub read-after : {before : BitsRead} {v : ℕ} {q : BitPosition} (P : ℕ → Parsed ℕ) (r : BitsRead) → before ≡ Value v q → parsed r ≡ P (q .0) → parsed r ≡ bind (parsed before) (λ _ t. P t)
 read-after P r e h = h ∙ sym (ap (λ y. bind (parsed y) (λ _ t. P t)) e)
 
@@ -51,7 +51,7 @@ passed-after {q = q} P r e h = ap (λ y. bind y (λ _ t. value tt t)) h ∙ go (
     go (value a t) = refl
     go (refused n) = refl
 
--- the chain goes bind-number after the first read's answer, with its number
+-- the chain goes on after the first read's answer, with its number
 pub bind-number : {B : Type 0} {x : Parsed ℕ} (r : BitsRead) (f : ℕ → ℕ → Parsed B) → parsed r ≡ x → bind x f ≡ bind (parsed r) (λ _ q. f (numberIn r) q)
 bind-number {B} r f h = ap (λ y. bind y f) (sym h) ∙ go r
   where
@@ -70,7 +70,7 @@ bind-next {B} before r P f h = go before ∙ bind-number r f h
 
 -- ---- sections of such a chain, each with what was read beside its last answer
 
--- the chain goes bind-number after the first section's last read, with its part
+-- the chain goes on after the first section's last read, with what the section holds
 pub bind-part : {A B : Type 0} {x : Parsed A} (r : BitsRead) (a : A) (f : A → ℕ → Parsed B) → partAfter r a ≡ x → bind x f ≡ bind (parsed r) (λ _ q. f a q)
 bind-part {A} {B} r a f h = ap (λ y. bind y f) (sym h) ∙ go r
   where
@@ -87,16 +87,16 @@ bind-next-part {A} {B} prior r P a f h = go prior ∙ bind-part r a f h
     go (Value v q) = refl
     go (Refused e) = refl
 
--- an answer beside what the part stands in
+-- an answer beside a value that holds what the section read
 pub part-in : {A B : Type 0} (g : A → B) (r : BitsRead) (a : A) → partAfter r (g a) ≡ bind (partAfter r a) (λ x q. value (g x) q)
 part-in g (Value v q) a = refl
 part-in g (Refused e) a = refl
 
--- a section whose last read was refused, with anything beside it
+-- a section whose last read was refused, with any value beside it
 pub part-refused : {A : Type 0} {x : Parsed A} {i d : BitsRead} {e : Refusal} (f : ℕ → ℕ → Parsed A) (a : A) → x ≡ bind (parsed i) f → d ≡ i → i ≡ Refused e → partAfter d a ≡ x
 part-refused f a chain h k = ap (λ y. partAfter y a) (h ∙ k) ∙ sym (chain ∙ ap (λ y. bind (parsed y) f) k)
 
--- the number of an answer has no more bits than were read; of a refused one it is 0
+-- the number of an answer has no more bits than were read; it is 0 for a refused one
 pub number-low : (n : ℕ) (s : List ℕ) (p : ℕ) (r : BitsRead) → parsed r ≡ u n s p → numberIn r < 2 ^ n
 number-low n s p (Value v q) h = u-read n s p v (q .0) (sym h) .low
 number-low n s p (Refused e) h = pow-pos n
@@ -106,19 +106,19 @@ number-low-after n s (Value v q) r h = number-low n s (q .0) r h
 number-low-after n s (Refused e) (Value v q) h = let z : _≡_ {A = ℕ} 0 1 = cc in absurd (omega arith)
 number-low-after n s (Refused e) (Refused d) h = pow-pos n
 
--- the same of a number that is left out, and 0, where a test fails
+-- the same of a number that is not read, and 0, where a test fails
 pub number-low-if : (b : Bool) (n : ℕ) (s : List ℕ) (prior r : BitsRead) → parsed r ≡ bind (parsed prior) (λ _ q. (if b then u n else give 0) s q) → numberIn r < 2 ^ n
 number-low-if true n s prior r h = number-low-after n s prior r h
 number-low-if false n s (Value w p) (Value v q) h = let z : v ≡ 0 = cc in omega (arith, pow-pos n)
 number-low-if false n s (Refused d) (Value v q) h = let z : _≡_ {A = ℕ} 0 1 = cc in absurd (omega arith)
 number-low-if false n s prior (Refused e) h = pow-pos n
 
--- the position after a read that gave a value
+-- the position after a read that returned a value
 pub place-told : (r : BitsRead) {v p : ℕ} → parsed r ≡ value v p → placeIn r ≡ p
 place-told (Value v q) h = cc
 place-told (Refused e) h = let z : _≡_ {A = ℕ} 0 1 = cc in absurd (omega arith)
 
--- a number that nothing needs may as well be passed over
+-- a number that is not used can be passed over
 pub passed-for-read : {B : Type 0} (n : ℕ) (s : List ℕ) (p : ℕ) (f : ℕ → Parsed B) → bind (u n s p) (λ _ q. f q) ≡ bind (skipping n s p) (λ _ q. f q)
 unfolding u skip
 passed-for-read {B} n s p f = go (leb (p + n) (8 * length s))

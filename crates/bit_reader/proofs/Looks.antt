@@ -1,4 +1,4 @@
--- A parser that looks at no more than its next n bits does the same on the first bytes of a list as on the list, where these hold as many bits.
+-- A parser that reads no more than its next n bits returns the same on the first bytes of a list as on the list, where these hold as many bits.
 use mathlib.Core.Path.{_≡_, refl}
 use mathlib.Core.Bool.{Bool, true, false}
 use mathlib.Core.List.{List, [], _∷_}
@@ -14,7 +14,7 @@ use Rattle.bit_reader.specs.Bits.{bitAt, bitsAt, u, isSet, skip, align, 
 use Rattle.bit_reader.proofs.Numbers.{u-read, skip-read, align-read, zeros-read}
 use Rattle.parse.proofs.General.{leb-same}
 
--- same: cut after m bytes, of which the n bits from p on are part, the list gives the same answer, refusals among them.
+-- same: the list cut after m bytes, which contain the n bits from p on, has the same answer, also where that is a refusal.
 -- near: the next position is at most n bits on.
 pub record LooksWithin {A : Type 0} (n : ℕ) (P : Parser A) : Type 0 where
   pub same : (m : ℕ) (s : List ℕ) (p : ℕ) → p + n ≤ 8 * m → P (take m s) p ≡ P s p
@@ -29,7 +29,7 @@ unfolding bitsAt
 bits-take m s p zero h = refl
 bits-take m s p (suc n) h = rw (bits-take m s p n (omega arith), bit-take m s (p + n) (omega arith))
 
--- a bound that the first m bytes keep is the list's: so 11 is said of both or of neither
+-- a bound within the first m bytes is one within the list, so both are refused with 11 or neither is
 leb-take : (m : ℕ) (s : List ℕ) (k : ℕ) → k ≤ 8 * m → leb k (8 * length (take m s)) ≡ leb k (8 * length s)
 leb-take m s k h = leb-same k (8 * length (take m s)) k (8 * length s) (λ e. omega (arith, length-take m s)) (λ e. omega (arith, length-take m s))
 
@@ -87,7 +87,7 @@ local-if n false l g = g
 pub local-refuse-if : (b : Bool) (r : ℕ) → LooksWithin 0 (refuseIf b r)
 local-refuse-if b r = local-if 0 b (local-refusing r) (local-give tt)
 
--- One after the other; the second may look as far as the first one's value says.
+-- One after another; how far the second reads may depend on the first one's value.
 module _ {A B : Type 0} (n k : ℕ) (P : Parser A) (Q : A → Parser B) (l : LooksWithin n P)
     (g : (a : A) → (s : List ℕ) (p q : ℕ) → P s p ≡ value a q → LooksWithin k (Q a)) where
   bind-same : (m : ℕ) (s : List ℕ) (p : ℕ) → p + (n + k) ≤ 8 * m → (r : Parsed A) → P s p ≡ r
@@ -105,7 +105,7 @@ module _ {A B : Type 0} (n k : ℕ) (P : Parser A) (Q : A → Parser B) (l : Loo
     near = λ s p b t e. bind-near s p b t (P s p) refl e;
   }
 
--- the same where the value does not matter; it serves P >> Q too
+-- the same where the value does not matter, also for P >> Q
 pub local-bind : {A B : Type 0} (n k : ℕ) {P : Parser A} {Q : A → Parser B} → LooksWithin n P → ((a : A) → LooksWithin k (Q a)) → LooksWithin (n + k) (P >>= Q)
 local-bind n k {P} {Q} l g = local-bind-of n k P Q l (λ a s p q e. g a)
 

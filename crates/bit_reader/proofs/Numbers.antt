@@ -1,4 +1,4 @@
--- Numbers read from bits: what each read gives, how large its value is, and where it ends.
+-- Laws of numbers read from bits: what each read returns, how large its value is, and where it ends.
 use mathlib.Core.Path.{_≡_, refl, sym}
 use mathlib.Core.Bool.{Bool, true, false}
 use mathlib.Core.List.{List}
@@ -19,7 +19,7 @@ unfolding bitsAt
 bits-lt s p zero = lit< tt
 bits-lt s p (suc n) = omega (arith, bits-lt s p n, pow-suc 2 n)
 
--- one bit more still fits 32 bits
+-- one more bit still fits 32 bits
 pub bits-fit : (s : List ℕ) (p n : ℕ) → n < 32 → bitsAt s p n * 2 + 1 < 2 ^ 32
 bits-fit s p n h = omega (arith, bits-lt s p n, pow-suc 2 n, pow-mono h)
 

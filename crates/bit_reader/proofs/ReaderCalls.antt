@@ -1,5 +1,5 @@
--- The calls of the bit reader's functions from a function that reads through it: of each the contract, what it is passed, what it asks and
--- what it says. κ is the lifetime of the bytes, q the share of its token that the caller has.
+-- Calls of the bit reader's functions from a function that reads through it: of each the contract, its arguments, what it requires and
+-- what it ensures. κ is the lifetime of the bytes, q the share of its token that the caller has.
 use mathlib.Core.Path.{_≡_, refl, ap, subst⁻¹}
 use mathlib.Core.List.{List, [], _∷_}
 use Prim.Native.Nat.{ℕ, _≤_, _<_, _^_}

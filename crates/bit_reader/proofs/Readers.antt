@@ -1,5 +1,5 @@
--- What a bit reader and a step of it own, taken apart and put together, for the walks of the functions over them. The slice is
--- shared, so what a reader owns can be had twice; the rest of it is facts on numbers.
+-- What a bit reader and a step of it own, taken apart and put together, for the proofs of the functions over them. The slice is
+-- shared, so what a reader owns can be had twice; the rest of it is facts about numbers.
 use mathlib.Core.Path.{_≡_, ap, _∙_, refl}
 use mathlib.Core.Bool.{Bool, true, false, _&&_}
 use mathlib.Core.List.{[], _∷_}
@@ -160,7 +160,7 @@ module _ {M : Type 1} (𝓤 : URA M) (H : Heap 𝓤) (A : Atoms 𝓤) (W : Given
         let answer = answer-typed 𝓤 H A W a (answerVal a) is in
         (holds-and (hasTy Answer′.mir (answerVal a)) (answer .0), (answer .1, ((wt .1 .0, (position-typed 𝓤 H A W p (Position′.lowered p) is′ .1, tt)), tt)))
 
-  -- the reader that a step hands on
+  -- the reader that a step returns
   pub hands-on : (t : ReaderStep) → ent 𝓤 (sem 𝓤 H A (OwnStep ℓ t)) (sem 𝓤 H A (OwnReader ℓ (t .reader)))
   hands-on t =
       qed W (‵ (OwnStep ℓ t) ∷ []) ∵

@@ -1,6 +1,6 @@
--- A function of the bit reader that takes n bits: it takes the reader apart, calls another on slice, position and n, finds its next place by `after`,
--- and puts the step together. The walk of its MIR is the same whatever it calls: X is what that reads, R what it asks of n and the bytes.
--- What the reader owns is kept for the exit and, moved on, for the step.
+-- A function of the bit reader that takes n bits: it takes the reader apart, calls another on slice, position and n, finds the next position by
+-- `after`, and puts the step together. The walk of its MIR is the same whatever it calls: X is what that reads, R what it requires of n and
+-- the bytes. What the reader owns is kept for the exit and, at the next position, for the step.
 use mathlib.Core.Path.{_≡_, refl}
 use mathlib.Core.List.{List, [], _∷_}
 use Prim.Native.Nat.{ℕ, _<_, _^_}
@@ -111,7 +111,7 @@ module _ (X : ℕ → Parser ℕ) (R : ℕ → List ℕ → Type 0) (#read : Nam
         abbrev Post : Val → SProp 𝓤
         Post = walkOf 𝓤 H A f.ended stayed (stepClauses 𝓤) .post (((κ, tt), (q, tt), tt, (d, (n, tt)), at), tt)
 
-        -- the call: what it is passed, what it asks, what it says
+        -- the call: its arguments, what it requires, what it ensures
         abbrev passed : Vals read.signature (κ, tt)
         passed = (sliceOf d ∷ [], (Position′.lowered (d .pos) ∷ [], (vint w64 n ∷ [], tt)))
 
@@ -160,7 +160,7 @@ module _ (X : ℕ → Parser ℕ) (R : ℕ → List ℕ → Type 0) (#read : Nam
             calls-at ! (fmOf 𝓤 H (W .laws) 𝓣) (After 𝓤 H A mem run) known-after (to-after 𝓤 H A mem run a (d .pos)) (and-then ! (load ! (from ! (stop !)) (look ! 8 refl)) (and-then ! (load ! (from ! (stop !)) (look ! 10 refl)) (no-more !))) (λ w. gave ! (‵ ftrue) Position.the-row Position′.lowered position-val _ _ (after-says 𝓤 H A mem run a (d .pos)) (id⊢ 𝓤 _) (λ p left is′.
             -- [the position; true; the answer; the token; what the reader owns; _7; …]
             land ! (from ! (stop !)) (init ! 7 refl (position-typed 𝓤 H A W p _ is′)) $
-            -- the reader at its next place, and the step
+            -- the reader at its next position, and the step
             assigns ! (agg ! (and-then ! (load ! (from ! (stop !)) (look ! 13 refl)) (and-then ! (load ! (from ! (stop !)) (look ! 7 refl)) (no-more !)))) (from ! (stop !)) (init ! 5 refl (tt, step-typed 𝓤 H A W ℓ d a p is is′ wt .1 .1 .0)) $
             assigns ! (agg ! (and-then ! (load ! (from ! (stop !)) (look ! 9 refl)) (and-then ! (load ! (from ! (stop !)) (look ! 5 refl)) (no-more !)))) (from ! (stop !)) (init ! 19 refl (step-typed 𝓤 H A W ℓ d a p is is′ wt)) $
             returns ! (look ! 19 refl) $ move ! (19 ∷ 20 ∷ 17 ∷ 18 ∷ 15 ∷ 16 ∷ 13 ∷ 14 ∷ 11 ∷ 12 ∷ 9 ∷ 10 ∷ 7 ∷ 8 ∷ 5 ∷ 6 ∷ []) $

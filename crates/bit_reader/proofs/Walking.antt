@@ -1,4 +1,4 @@
--- Two rules for walks: what a call gave, heard and seen in one step, and the end of a local.
+-- Two rules for walks of MIR: the result of a call, in one step, and the end of a local.
 use mathlib.Core.Path.{_≡_, refl, sym, subst}
 use mathlib.Core.List.{List, [], _∷_}
 use Prim.Native.Nat.{ℕ, zero}
@@ -18,7 +18,7 @@ use denote.Laws.{Is, shows}
 use denote.Steps.{peeks, heard}
 
 module _ {M : Type 1} {𝓤 : URA M} {H : Heap 𝓤} {A : Atoms 𝓤} {K : Type 0} {W : Given 𝓤 H A} {Γ : List (Item 𝓤)} where
-  -- a call's result x, with its machine value for the one that the call gave, what it owns, and what the contract says of it
+  -- a call's result x, with the machine value that the call returned, what it owns, and what the contract says of it
   pub gave : K → {C : Calls 𝓤 H} {Λ : Loops 𝓤 H} {E : Env 𝓤 H} {d : Place} {rest : Body} {q : Post 𝓤 H} {w : Val} {Q : SProp 𝓤}
       → (T : Item 𝓤) (R : RattleType) (val : R .Denot → Val) → ((x : R .Denot) (z : Val) → Is R x (z ∷ []) → z ≡ val x)
       → (P : R .Denot → SProp 𝓤) (φ : R .Denot → Type 0) → ((x : R .Denot) → ent 𝓤 (P x) (fact 𝓤 (φ x)))

@@ -1,4 +1,4 @@
-// Internal: bits at a position, where the bytes are few enough that their bits can be counted.
+// Internal: reads bits at a position of at most 2^30 bytes.
 use super::BitPosition;
 use super::BitsRead;
 use super::ByteOffset;
@@ -107,7 +107,7 @@ pub fn exp_golomb(s: &[u8], at: BitPosition) -> BitsRead
     BitsRead::Value((1u32 << z) - 1 + v, next)
 }
 
-// On to the next whole byte, which is the position itself where it is one.
+// The position of the next whole byte; the position itself where it is at one.
 pub fn align(at: BitPosition) -> BitPosition
     requires { ⌜ at .0 ≤ 2 ^ 60 ⌝ }
     ensures { λ r. ⌜ ((s : List ℕ) → align s (at .0) ≡ value tt (r .0)) ⌝ }
@@ -123,7 +123,7 @@ pub fn byte_offset(at: BitPosition) -> ByteOffset
     ByteOffset(at.0 / 8)
 }
 
-// How many bytes stand between two offsets.
+// How many bytes lie between two offsets.
 pub fn bytes_between(from: ByteOffset, to: ByteOffset) -> usize
     requires { ⌜ from .0 ≤ to .0 ⌝ }
     ensures { λ r. ⌜ r ≡ to .0 - from .0 ⌝ }
@@ -140,7 +140,7 @@ pub fn byte_after(s: &[u8], from: ByteOffset, k: usize) -> u8
     s[start + k]
 }
 
-// The refusal of a refused read; of a value, which no caller asks for, 11.
+// The refusal of a refused read; 11 for a value, for which no caller asks.
 pub fn refusal(r: BitsRead) -> Refusal
     ensures { λ e. ⌜ e ≡ refusalOf r ⌝ }
 {

@@ -1,4 +1,4 @@
-// Internal: bits read from an RBSP.
+// Internal: reads bits of an RBSP (SCOPE 3.5): at a position, one read after another, or through a reader that keeps the position.
 pub mod bits;
 pub mod reader;
 pub mod then;
@@ -11,10 +11,10 @@ pub struct BitPosition(pub usize);
 // The position of the first bit.
 pub const FIRST_BIT: BitPosition = BitPosition(0);
 
-// A count of bytes. It and a bit position are different counts, converted only at whole bytes.
+// A count of bytes. It differs from a bit position, and the two are converted only at whole bytes.
 pub struct ByteOffset(pub usize);
 
-// A number of bits and the position after them, or a refusal.
+// The number that was read and the position after its bits, or a refusal.
 pub enum BitsRead {
     Value(u32, BitPosition),
     Refused(Refusal),

@@ -16,7 +16,7 @@ pub struct BitReader<'a> {
     pub pos: BitPosition,
 }
 
-// What a read gives, and the reader at its next place.
+// The answer of a read, and the reader at its next position.
 pub struct ReaderStep<'a> {
     pub answer: BitsRead,
     pub reader: BitReader<'a>,
@@ -95,7 +95,7 @@ impl<'a> BitReader<'a> {
         }
     }
 
-    // The reader at the next whole byte, which is where it is if that is one.
+    // The reader at the next whole byte; where it is, if that is at one.
     pub fn align(self) -> BitReader<'a>
         requires { ⌜ self .pos .0 ≤ 2 ^ 60 ⌝ }
         ensures { λ r. ⌜ AlignedFrom (self .entry) r ⌝ }

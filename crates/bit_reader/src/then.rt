@@ -1,4 +1,4 @@
-// Internal: what follows a read, or that read's refusal, so that reads one after the other branch nowhere.
+// Internal: reads that follow another read and pass on its refusal, so that a chain of reads has no branches.
 use super::BitPosition;
 use super::BitsRead;
 use super::FIRST_BIT;
@@ -34,7 +34,7 @@ pub fn exp_golomb(s: &[u8], prior: BitsRead) -> BitsRead
     bits::exp_golomb(s, at)
 }
 
-// The same where the bits are there; where not no bits, and the number 0. Refusals: the read's before, then 11.
+// The number of the `n` bits after a read where they are present; else no bits are read, and the number is 0. Refusals: that read's, then 11.
 pub fn read_bits_if(s: &[u8], prior: BitsRead, n: usize, present: bool) -> BitsRead
     requires { ⌜ (n ≤ 32) × (length (now s) ≤ 2 ^ 30) ⌝ }
     ensures { λ r. ⌜ parsed r ≡ bind (parsed prior) (λ _ q. (if present then u n else give 0) (now (s .entry)) q) ⌝ }
@@ -59,7 +59,7 @@ pub fn skip_bits(s: &[u8], prior: BitsRead, n: usize) -> BitsRead
     bits::skip_bits(s, at, n)
 }
 
-// On to the whole byte after a read. Refusals: that read's.
+// The position of the next whole byte after a read. Refusals: that read's.
 pub fn align(prior: BitsRead) -> BitsRead
     requires { ⌜ placeIn prior ≤ 2 ^ 60 ⌝ }
     ensures { λ r. ⌜ ((s : List ℕ) → partAfter r tt ≡ bind (parsed prior) (λ _ q. align s q)) ⌝ }
@@ -70,7 +70,7 @@ pub fn align(prior: BitsRead) -> BitsRead
     BitsRead::Value(v, bits::align(at))
 }
 
-// The number of a read; of a refused one 0.
+// The number of a read; 0 for a refused one.
 pub fn number(r: BitsRead) -> u32
     ensures { λ v. ⌜ v ≡ numberIn r ⌝ }
 {
@@ -80,7 +80,7 @@ pub fn number(r: BitsRead) -> u32
     }
 }
 
-// The position after a read; of a refused one 0.
+// The position after a read; 0 for a refused one.
 pub fn position(r: BitsRead) -> BitPosition
     ensures { λ p. ⌜ p .0 ≡ placeIn r ⌝ }
 {

@@ -1,4 +1,4 @@
--- Laws of the fields: a number, bytes and a chunk where they are there, where they run past the end, and after writing.
+-- Laws of fields: a number, bytes and a chunk that are inside the bytes, that run past the end, and that were written.
 use Prim.Native.Nat.{ℕ, _+_, _^_, _≤_, _<_}
 use mathlib.Core.Path.{_≡_, refl, sym, ap, _∙_}
 use mathlib.Core.List.{List, _++_, append-assoc}
@@ -76,7 +76,7 @@ module _ (w : ℕ) (s : List ℕ) (p : ℕ) where
 pub chunk-advances : (w : ℕ) (s : List ℕ) → 1 ≤ w → Advances (chunk w) s
 chunk-advances w s h p a q e = let c = chunk-read w s p a q e in omega arith
 
--- a chunk that was written, after other bytes and in front of others: its span, and what it holds
+-- a chunk that was written between other bytes: its span, and what it holds
 module _ (w : ℕ) (s u t : List ℕ) (fits : length u < 256 ^ w) where
   pub chunk-toChunk : chunk w (s ++ (toChunk w u ++ t)) (length s) ≡ value (record { start = length s + w; len = length u }) (length s + w + length u)
   unfolding toChunk

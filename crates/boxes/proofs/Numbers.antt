@@ -1,4 +1,4 @@
--- Laws of big-endian numbers, one over every width: read where they stand, and read back after writing.
+-- Laws of big-endian numbers of every width: read where they lie, and read after writing.
 use Prim.Native.Nat.{ℕ, zero, suc, _+_, _*_, _/_, _%_, _^_, _≤_, _<_}
 use mathlib.Core.Path.{_≡_, refl, _∙_}
 use mathlib.Core.List.{List, [], _∷_, _++_, append-assoc}
@@ -33,7 +33,7 @@ be-same s t p q (suc w) h =
     let b : getD s (p + w) 0 ≡ getD t (q + w) 0 = h w (omega arith) in
     omega arith
 
--- a number in front of what ends the list, in the first of two lists, and in the second
+-- a number before the end of a list, in the first of two lists, and in the second
 pub be-take : (s : List ℕ) (e p w : ℕ) → p + w ≤ e → be (take e s) p w ≡ be s p w
 be-take s e p w h = be-same (take e s) s p p w (λ i k. getD-take e s (p + i) 0 (omega arith))
 

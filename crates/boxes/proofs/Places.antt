@@ -1,4 +1,4 @@
--- Laws of the place of unit k: by the count and the one found, and of the part that is returned for it.
+-- Laws of the place of unit k: by the count and the unit found, and of the part that is returned for it.
 use Prim.Native.Nat.{ℕ, zero, suc, _-_, _≤_, _<_}
 use mathlib.Core.Path.{_≡_, refl, sym, ap, _∙_}
 use mathlib.Core.List.{List, [], _∷_, map}
@@ -18,7 +18,7 @@ use Rattle.boxes.specs.declared.UnitPlace.the-variants as U
 use Rattle.boxes.proofs.UnitPlace.{the-type}
 use Rattle.boxes.specs.inner.Places.{lying, spanInFirst}
 
--- the one found as number k, d where there is none
+-- element k, d where there is none
 abbrev pub foundOr : {A : Type 0} → A → Outcome (List A) → ℕ → A
 foundOr d (accept xs) k = getD xs k d
 foundOr d (refuse e) k = d
@@ -36,7 +36,7 @@ module _ {A : Type 0} (lies : A → Place) where
   nth-there d (x ∷ xs) zero h = refl
   nth-there d (x ∷ xs) (suc k) h = nth-there d xs k (omega arith)
 
-  -- with x in front
+  -- with x first
   pub nth-here : (x : A) (xs : List A) (k : ℕ) → k ≡ 0 → some (lies x) ≡ nth (map lies (x ∷ xs)) k
   unfolding nth
   nth-here x xs zero z = refl
@@ -56,7 +56,7 @@ module _ {A : Type 0} (lies : A → Place) where
   place-past (accept xs) k n e h = let l : length xs ≡ n = cc in ap accept (nth-past xs k (omega arith))
   place-past (refuse m) k n e h = let z : _≡_ {A = ℕ} 0 1 = cc in absurd (omega arith)
 
-  -- the part that is returned is at the one found
+  -- the part that is returned lies where the unit was found
   module _ (d : A) (front : lies d ≡ inFirst nowhere) where
     nth-lying : (xs : List A) (k : ℕ) → lying (accept (nth (map lies xs) k)) ≡ lies (getD xs k d)
     unfolding nth
@@ -72,7 +72,7 @@ pub place-there : (o : Outcome (List Span)) (k n : ℕ) → countFound o ≡ acc
 place-there (accept xs) k n e h a f = let l : length xs ≡ n = cc in ap (λ (b : Span). accept (some (inFirst b))) f ∙ ap accept (nth-there inFirst nowhere xs k (omega arith))
 place-there (refuse m) k n e h a f = let z : _≡_ {A = ℕ} 0 1 = cc in absurd (omega arith)
 
--- a call that is lent one slice returns the part of the one found
+-- a call that is lent one slice returns the part at the unit found
 found-lies : (o : Outcome (List Span)) (k : ℕ) → spanInFirst (lying (placeFound inFirst o k)) ≡ found o k
 found-lies (accept xs) k = ap spanInFirst (place-lies inFirst nowhere refl (accept xs) k)
 found-lies (refuse e) k = refl

@@ -19,7 +19,7 @@ sets-copied d u ys i h e =
     let z : drop (length d - i) (drop i d) ≡ [] = drop-of-length-le (drop i d) {i = length d - i} (omega arith) in
     rw (e, t, z, take-length u, drop-drop (length u) i d, append-nil) (sym (append-assoc (take i d) u (drop (i + length u) d)) ∙ sym (sets-eq u d i h))
 
--- the same of bytes that came by way of a block: what its front holds is the source
+-- the same of bytes copied through a block: its front holds the source
 pub sets-by-block : (d s z b ys : List ℕ) (n i : ℕ) → n ≡ length s → b ≡ take (length s) s ++ drop (length s) z → i + length s ≤ length d
     → ys ≡ take (length (take n b)) (take n b) ++ drop (length (take n b)) (take (length d - i) (drop i d)) → putMid i (length d - i) d ys ≡ sets d i s
 sets-by-block d s z b ys n i l e h f =

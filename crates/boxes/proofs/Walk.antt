@@ -1,4 +1,4 @@
--- What one step of a walk does to the count and to the one found as number k. One set of laws for lists, items and streams.
+-- What one step of a walk does to the count and to the unit found as number k. One set of laws for lists, items and streams.
 use Prim.Native.Nat.{ℕ, suc, _+_, _≤_, _<_}
 use native.Mathlib.Omega.{arith}
 use native.Mathlib.Decide.{decLe}

@@ -1,4 +1,4 @@
--- What the answers of this crate say.
+-- The answers of the calls that read a field (SCOPE 3.1).
 use Prim.Native.Nat.{ℕ}
 use mathlib.Core.List.{List}
 use Rattle.parse.specs.Outcome.{Outcome, accept, refuse, lentInput}
@@ -13,10 +13,11 @@ abbrev pub fieldOf : Field → Outcome (ℕ × ℕ)
 fieldOf (Value v p) = accept (v, p)
 fieldOf (Refused e) = refuse (numberOf e)
 
+-- what was read and the place after it, as an outcome
 abbrev pub placed : {A : Type 0} → Parsed A → Outcome (A × ℕ)
 placed (value a p) = accept (a, p)
 placed (refused e) = refuse e
 
--- a field of w bytes, `Reader::u8`, `u16` and `u32`: 23, 1
+-- a field of w bytes at place p (`u8_at`, `u16_at`, `u32_at`; the original's `Reader`): 23, 1
 unfoldable pub fieldAt : ℕ → List ℕ → ℕ → Outcome (ℕ × ℕ)
 fieldAt w s p = lentInput s (placed (uint w s p))

@@ -1,4 +1,4 @@
--- Big-endian numbers of whole bytes, read from a place and written.
+-- Big-endian numbers of whole bytes, read at a place and written (SCOPE 3.1).
 use Prim.Native.Nat.{ℕ, zero, suc, _+_, _*_, _/_, _%_, _<_}
 use mathlib.Core.List.{List, [], _∷_, _++_}
 use lib.Dec.{leb, ltb, eqb}
@@ -18,25 +18,25 @@ unfoldable pub toBe : ℕ → ℕ → List ℕ
 toBe zero n = []
 toBe (suc w) n = toBe w (n / 256) ++ (n % 256 ∷ [])
 
--- a field of w bytes: "A field that runs past the end is 1."
+-- a field of w bytes at place p: 1 where p + w is above the length
 unfoldable pub uint : ℕ → Parser ℕ
 uint w s p = if leb (p + w) (length s) then value (be s p w) (p + w) else refused 1
 
--- the next n bytes, as the place where they lie
+-- the next n bytes, as a span: 1 where p + n is above the length
 unfoldable pub bytes : ℕ → Parser Span
 bytes n s p = if leb (p + n) (length s) then value (record { start = p; len = n }) (p + n) else refused 1
 
--- a length of w bytes and that many bytes
+-- a length n of w bytes, then n bytes
 unfoldable pub chunk : ℕ → Parser Span
 chunk w = do
   n ← uint w
   bytes n
 
--- the same, written
+-- the same, written: |u| in w bytes, then u
 unfoldable pub toChunk : ℕ → List ℕ → List ℕ
 toChunk w u = toBe w (length u) ++ u
 
--- what P reads of the bytes of a span alone, whose places stay those of the whole
+-- P on the bytes of a span alone; places remain those of the whole
 unfoldable pub inside : {A : Type 0} → Span → Parser A → Parser A
 inside a P s p = P (take (a .start + a .len) s) (a .start)
 
@@ -44,6 +44,6 @@ inside a P s p = P (take (a .start + a .len) s) (a .start)
 abbrev pub outside : ℕ → Bool
 outside size = eqb size 0 || ltb 4 size
 
--- a list of bytes
+-- every element is a byte
 abbrev pub AllBytes : List ℕ → Type 0
 AllBytes s = (i : ℕ) → getD s i 0 < 256

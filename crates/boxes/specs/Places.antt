@@ -1,4 +1,4 @@
--- Where unit k of a list, an item, a stream or an access unit lies, that there is none, or the refusal.
+-- Unit k (SCOPE 1): where it lies in a list, an item, a stream or an access unit, that there is none, or the refusal.
 use Prim.Native.Nat.{ℕ, zero, suc, _+_, _≤_}
 use mathlib.Core.List.{List, [], _∷_, map}
 use mathlib.Core.Option.{Option, none, some}
@@ -21,18 +21,18 @@ placeOf (U.Second a) = accept (some (inSecond a))
 placeOf U.Past = accept none
 placeOf (U.Refused e) = refuse (numberOf e)
 
--- number k, from 0 on, if there is one
+-- element k, counted from 0, if there is one
 unfoldable pub nth : {A : Type 0} → List A → ℕ → Option A
 nth [] k = none
 nth (x ∷ xs) zero = some x
 nth (x ∷ xs) (suc k) = nth xs k
 
--- unit k of those found, each lying where `lies` says: none past the last
+-- unit k of those found, which lie where `lies` says; none past the last
 abbrev pub placeFound : {A : Type 0} → (A → Place) → Outcome (List A) → ℕ → Outcome (Option Place)
 placeFound lies (accept xs) k = accept (nth (map lies xs) k)
 placeFound lies (refuse e) k = refuse e
 
--- a unit lies inside the slice that it is of: s is the first, t the second, empty where a call is lent one slice
+-- a unit lies inside its slice: s is the first, t the second, empty where a call is lent one slice
 abbrev pub PlaceFits : List ℕ → List ℕ → UnitPlace → Type 0
 PlaceFits s t (U.First a) = a .start + a .len ≤ length s
 PlaceFits s t (U.Second a) = a .start + a .len ≤ length t

@@ -1,4 +1,4 @@
--- Walks over the units of a list, an item or a stream: what is found, or the refusal.
+-- The number of units and unit k of a list (SCOPE 4.5), an item (SCOPE 3.12) or a stream (SCOPE 3.13), from what a walk finds.
 use Prim.Native.Nat.{ℕ}
 use mathlib.Core.List.{List}
 use lib.ListN.{length, getD}
@@ -11,7 +11,7 @@ abbrev pub countFound : {A : Type 0} → Outcome (List A) → Outcome ℕ
 countFound (accept xs) = accept (length xs)
 countFound (refuse e) = refuse e
 
--- the one found as number k, from 0 on: "past the last unit the part is empty", and so it is on a refusal
+-- element k, counted from 0; the empty part past the last one and on a refusal
 abbrev pub found : Outcome (List Span) → ℕ → Span
 found (accept xs) k = getD xs k nowhere
 found (refuse e) k = nowhere

@@ -1,4 +1,4 @@
-// Big-endian fields at a place of lent bytes, after the original's `Reader`.
+// Big-endian fields at a place of lent bytes (the original's `Reader`); spans and places of units in lent memory.
 pub mod place;
 pub mod reader;
 
@@ -6,14 +6,14 @@ use error::Refusal;
 ghost use mathlib.Core.Path.{_≡_};
 ghost use Rattle.boxes.specs.Answers.{fieldOf, fieldAt};
 
-// Where bytes lie in lent memory: from `start` on, `len` of them.
+// Where bytes lie in a slice: `len` bytes from place `start` on.
 pub struct Span {
     pub start: usize,
     pub len: usize,
 }
 
-// Where unit k of a list, an item, a stream or an access unit lies: at a span of the first or of the second slice that the call was lent; past
-// the last unit; or a refusal.
+// Where unit k of a list, an item, a stream or an access unit lies: at a span of the first or of the second slice that the call was lent;
+// that k is past the last unit; or a refusal.
 pub enum UnitPlace {
     First(Span),
     Second(Span),
@@ -27,21 +27,21 @@ pub enum Field {
     Refused(Refusal),
 }
 
-// A byte. Refusals: 23, 1.
+// The byte at a place, and the place after it. Refusals: 23, 1.
 pub fn u8_at(s: &[u8], at: usize) -> Field
     ensures { λ r. ⌜ fieldOf r ≡ fieldAt 1 (now (s .entry)) at ⌝ }
 {
     reader::uint_at(s, at, 1)
 }
 
-// A number of two bytes. Refusals: 23, 1.
+// The number of the two bytes at a place, and the place after them. Refusals: 23, 1.
 pub fn u16_at(s: &[u8], at: usize) -> Field
     ensures { λ r. ⌜ fieldOf r ≡ fieldAt 2 (now (s .entry)) at ⌝ }
 {
     reader::uint_at(s, at, 2)
 }
 
-// A number of four bytes. Refusals: 23, 1.
+// The number of the four bytes at a place, and the place after them. Refusals: 23, 1.
 pub fn u32_at(s: &[u8], at: usize) -> Field
     ensures { λ r. ⌜ fieldOf r ≡ fieldAt 4 (now (s .entry)) at ⌝ }
 {

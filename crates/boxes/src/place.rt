@@ -1,4 +1,4 @@
-// Internal: bytes and numbers at a place that is known to be there, read and written.
+// Internal: reads, writes and copies bytes and numbers at places that a caller has tested, and cuts parts out of lent memory.
 use super::Span;
 use super::UnitPlace;
 ghost use mathlib.Core.Path.{_≡_};
@@ -11,7 +11,7 @@ ghost use Rattle.boxes.specs.Parts.{PartOf};
 ghost use Rattle.boxes.specs.Places.{placeOf, PlaceFits};
 ghost use Rattle.boxes.specs.inner.Places.{lying, spanInFirst};
 
-// A byte as a number of its own width.
+// A byte as a usize.
 pub fn wide(x: u8) -> usize
     ensures { λ r. ⌜ (r ≡ x) × (r < 256) ⌝ }
 {
@@ -32,7 +32,7 @@ pub fn byte(s: &[u8], at: usize) -> u8
     if at < s.len() { s[at] } else { 0 }
 }
 
-// The number of the four bytes from a place on, which the compiler reads at once.
+// The number of the four bytes from a place on. The compiler reads them at once.
 fn number_of_four(s: &[u8], at: usize) -> usize
     requires { ⌜ at + 4 ≤ length (now s) ⌝ }
     ensures { λ r. ⌜ (r ≡ be (now (s .entry)) at 4) × (r < 256 ^ 4) ⌝ }
@@ -81,7 +81,7 @@ pub fn part_at(s: &[u8], unit: UnitPlace) -> &[u8]
     part(s, a)
 }
 
-// Stores a byte; past the end there is nothing to store to.
+// Stores a byte at a place; past the end nothing is stored.
 pub fn put(out: &mut [u8], at: usize, b: u8)
     ensures { λ _. ⌜ now (out .exit) ≡ set (now (out .entry)) at b ⌝ }
 {
@@ -108,14 +108,14 @@ pub fn put_number(out: &mut [u8], at: usize, width: usize, v: usize)
 // How many bytes are copied at a time.
 pub const BLOCK: usize = 16384;
 
-// Of so many bytes those that are copied next.
+// How many of the bytes that are left are copied next.
 fn block_len(left: usize) -> usize
     ensures { λ r. ⌜ (r ≤ left) × (r ≤ 16384) × (0 < left → 0 < r) ⌝ }
 {
     if BLOCK < left { BLOCK } else { left }
 }
 
-// Copies a block by way of an array of its own: that overlaps neither slice, so the compiler moves the block in one go, past the array.
+// Copies a block through a local array. The array overlaps neither slice, so the compiler moves the block at once and leaves the array out.
 fn copy_block(src: &[u8], out: &mut [u8], at: usize)
     requires { ⌜ (length (now src) ≤ 16384) × (at + length (now src) ≤ length (now out)) ⌝ }
     ensures { λ _. ⌜ now (out .exit) ≡ sets (now (out .entry)) at (now (src .entry)) ⌝ }

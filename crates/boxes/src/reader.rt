@@ -1,4 +1,4 @@
-// Internal: a field of lent bytes, which may not be there.
+// Internal: reads a field of lent bytes, or refuses where it runs past the end.
 use super::Field;
 use super::place;
 use error::LARGEST_INPUT;
@@ -7,7 +7,7 @@ ghost use mathlib.Core.Path.{_≡_};
 ghost use Prim.Native.Nat.{_≤_};
 ghost use Rattle.boxes.specs.Answers.{fieldOf, fieldAt};
 
-// An unsigned number of 1 to 4 bytes. Refusals: 23, 1.
+// The number of the 1 to 4 bytes at a place, and the place after them. Refusals: 23, 1.
 pub fn uint_at(s: &[u8], at: usize, width: usize) -> Field
     requires { ⌜ (1 ≤ width) × (width ≤ 4) ⌝ }
     ensures { λ r. ⌜ fieldOf r ≡ fieldAt width (now (s .entry)) at ⌝ }

@@ -1,4 +1,4 @@
--- The size inside the conformance window, step by step.
+-- Laws of the size inside the conformance window, step by step.
 use mathlib.Core.Path.{_≡_}
 use mathlib.Core.Bool.{true, false}
 use Prim.Native.Nat.{ℕ, _+_, _*_, _-_, _^_, _≤_, _<_}

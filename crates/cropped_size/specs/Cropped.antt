@@ -1,4 +1,4 @@
--- The size inside the conformance window (H.266 7.4.3.4, sps_conf_win offsets in units of SubWidthC and SubHeightC).
+-- The size inside the conformance window (SCOPE 4.4; H.266 7.4.3.4, sps_conf_win offsets in units of SubWidthC and SubHeightC).
 use Prim.Native.Nat.{ℕ, _+_, _*_, _-_, _^_, min, max}
 use mathlib.Core.Bool.{_||_}
 use lib.Dec.{eqb}
@@ -6,7 +6,7 @@ use Rattle.parse.specs.Logic.{if_then_else_}
 use Rattle.sps.specs.declared.SpsHead.{SpsHead}
 use Rattle.cropped_size.specs.declared.PictureSize.{PictureSize}
 
--- "each step held within 0 to 2^32 - 1" (a difference of numbers is 0 where it would be below)
+-- min(n, 2^32 - 1)
 abbrev pub clamp32 : ℕ → ℕ
 clamp32 n = min n (2 ^ 32 - 1)
 
@@ -17,11 +17,11 @@ subWidth chroma = if eqb chroma 1 || eqb chroma 2 then 2 else 1
 abbrev pub subHeight : ℕ → ℕ
 subHeight chroma = if eqb chroma 1 then 2 else 1
 
--- a side less so many units of both offsets, "and the end at least 1"
+-- a side less unit * (a + b), at least 1; a difference below 0 counts as 0
 abbrev pub croppedSide : ℕ → ℕ → ℕ → ℕ → ℕ
 croppedSide side unit a b = max (side - clamp32 (unit * clamp32 (a + b))) 1
 
--- `cropped_size`: "without a window the size itself"
+-- `cropped_size`: without the window flag the width and the height themselves
 unfoldable pub croppedSize : SpsHead → PictureSize
 croppedSize h =
     if h .«conformance_window_flag»

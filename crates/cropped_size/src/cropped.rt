@@ -1,4 +1,4 @@
-// For this crate's call: the arithmetic of the conformance window, each step held within 32 bits.
+// Internal: the arithmetic of the conformance window, each step at most 2^32 - 1.
 ghost use mathlib.Core.Path.{_≡_};
 ghost use Prim.Native.Nat.{_+_, _*_};
 ghost use Rattle.cropped_size.specs.Cropped.{clamp32, subWidth, subHeight, croppedSide};
@@ -46,7 +46,7 @@ pub fn sub_height(chroma_format_idc: u8) -> u32
     }
 }
 
-// A side less so many units of both offsets, and at least 1.
+// A side less unit * (a + b), at least 1.
 pub fn cropped_side(side: u32, unit: u32, a: u32, b: u32) -> u32
     ensures { λ r. ⌜ r ≡ croppedSide side unit a b ⌝ }
 {

@@ -1,4 +1,4 @@
-// A picture's size inside the conformance window of its SPS.
+// The size of a picture inside the conformance window of its SPS (SCOPE 4.4).
 pub mod cropped;
 
 use sps::SpsHead;
@@ -11,7 +11,7 @@ pub struct PictureSize {
     pub height: u32,
 }
 
-// The size inside the conformance window.
+// The size inside the conformance window; without the window flag the width and the height of the SPS.
 pub fn cropped_size(head: SpsHead) -> PictureSize
     ensures { λ r. ⌜ r ≡ croppedSize head ⌝ }
 {

@@ -1,4 +1,4 @@
--- The number of each refusal (document 01, "Refusals, operation by operation").
+-- The number of each refusal (SCOPE 6.2).
 use Prim.Native.Nat.{ℕ}
 use Rattle.error.specs.declared.Refusal.{Refusal}
 use Rattle.error.specs.declared.Refusal.the-variants as R

@@ -1,59 +1,59 @@
-// Refusals: the grounds on which a call is refused, by the numbers of the project's scope.
+// Refusals: the grounds on which a call is refused, with their numbers (SCOPE 6.2); the answers of calls that count and of calls that write.
 ghost use mathlib.Core.Path.{_≡_};
 ghost use Rattle.error.specs.Refusals.{numberOf};
 
-// The largest lent input, in bytes: 2^30.
+// The largest input that a call accepts, in bytes: 2^30. A longer one is 23.
 pub const LARGEST_INPUT: usize = 0x4000_0000;
 
-// One ground each; the number beside it is the one that the scope gives the ground.
+// One variant for each ground, with its number in SCOPE 6.2.
 pub enum Refusal {
-    // a field runs past the end
+    // a field, a length or the bytes that it announces run past the end
     Truncated = 1,
     // the constraint length of a full record is 0
     ConstraintLengthZero = 2,
-    // a full record's prefix size is 3
+    // the prefix size of a full record is 3
     PrefixSizeThree = 3,
     // a prefix size outside 1 to 4
     PrefixSize = 4,
     // a unit of an item has length 0
     ZeroLengthUnit = 5,
-    // a unit is too long for its prefix
+    // a restored unit has 256^p bytes or more, for prefix size p
     UnitTooLongForPrefix = 6,
-    // bytes are left over after a compact record
+    // bytes follow the last unit of a compact record
     BytesLeftOver = 7,
-    // a compact record holds 2 to 33 units
+    // fewer than 2 or more than 33 units for a compact record
     CompactUnitCount = 8,
-    // a unit of a compact record is above 255 bytes
+    // a unit above 255 bytes for a compact record
     CompactUnitTooLong = 9,
-    // a unit of another type than the one to be read
+    // the unit is not of the type that is read
     WrongUnitType = 10,
-    // the bits run out
+    // the bits of an RBSP run out
     BitsRunOut = 11,
-    // an Exp-Golomb code with 32 zeros
+    // an Exp-Golomb code has 32 zeros
     CodeTooLong = 12,
-    // the SPS has subpictures
+    // the SPS has subpicture information
     Subpictures = 13,
-    // the SPS's bit depth minus 8 is above 8
+    // the bit depth minus 8 of the SPS is above 8
     BitDepth = 14,
     // the VPS has several layers
     SeveralLayers = 15,
-    // multi-layer, and no VPS
+    // the multi-layer flag is set and there is no VPS
     NoVps = 16,
-    // no SPS
+    // there is no SPS
     NoSps = 17,
-    // the SPS has no PTL, and there is no VPS
+    // the SPS has no PTL and there is no VPS
     NoPtl = 18,
-    // nothing to write
+    // the access unit has no units
     NothingToWrite = 19,
-    // the result is longer than the buffer
+    // the result is longer than the output
     BufferTooShort = 20,
-    // the unit list is malformed
+    // the unit list is malformed (SCOPE 2)
     UnitList = 21,
-    // a field is wider than its place
+    // a value does not fit its field (SCOPE 3.9), or the bit depth does not fit a byte (SCOPE 4.3)
     FieldTooWide = 22,
-    // a lent input is above 2^30 bytes
+    // an input has more than 2^30 bytes
     InputTooLong = 23,
-    // an item that is not one plain still
+    // the item is not one plain still (SCOPE 4.1)
     NotOneStill = 24,
 }
 
@@ -64,13 +64,13 @@ pub fn number(r: Refusal) -> u32
     r as u32
 }
 
-// The answer of a call that counts.
+// The answer of a call that counts: the count, or the refusal.
 pub enum Counted {
     Count(usize),
     Refused(Refusal),
 }
 
-// The answer of a call that writes: so many bytes now stand at the front of the output.
+// The answer of a call that writes: how many bytes are now at the front of the output, or the refusal.
 pub enum Written {
     Bytes(usize),
     Refused(Refusal),

@@ -1,4 +1,4 @@
--- The unit check in plain terms: non-empty, no start code at any place, and a last byte that is not 00.
+-- The unit check in plain terms: not empty, no start code at any place, and a last byte that is not 00.
 use Prim.Native.Nat.{ℕ, suc, _-_, _<_}
 use mathlib.Core.Path.{_≡_, refl, sym, ap, _∙_}
 use mathlib.Core.Bool.{true, false, not, _&&_}

@@ -1,4 +1,4 @@
--- The parts of a header by the places of their bytes.
+-- The fields of a header, by the places of their bytes.
 use Prim.Native.Nat.{ℕ, _/_, _%_, _≤_, _<_}
 use mathlib.Core.Path.{_≡_, refl}
 use mathlib.Core.Option.{none, some}

@@ -1,4 +1,4 @@
--- What the scan for start codes gives, in plain terms, and how it goes on from place to place.
+-- What the scan for start codes finds, in plain terms, and how it goes on from place to place.
 use Prim.Native.Nat.{ℕ, zero, suc, _+_, _-_, _≤_, _<_, zero-le}
 use mathlib.Core.Path.{_≡_, refl, sym, ap, _∙_}
 use mathlib.Core.Bool.{Bool, true, false, _&&_}
@@ -14,7 +14,7 @@ use Rattle.parse.specs.Logic.{if_then_else_}
 use Rattle.nal.specs.StartCode.{isStartCode, scan}
 use Rattle.parse.proofs.General.{both-true}
 
--- the bytes 00 00 01 stand in s from place i on
+-- the bytes 00 00 01 are in s from place i on
 pub record CodeAt (s : List ℕ) (i : ℕ) : Type 0 where
   pub inside : i + 2 < length s
   pub first : getD s i 0 ≡ 0
@@ -87,7 +87,7 @@ scan-le (x ∷ y ∷ z ∷ r) = go (isStartCode x y z) (scan-le (y ∷ z ∷ r))
     go true h = zero-le
     go false h = omega arith
 
--- below the length there is a start code at the place that the scan gives
+-- below the length there is a start code at the place that the scan finds
 pub scan-found : (s : List ℕ) → scan s < length s → CodeAt s (scan s)
 unfolding scan
 scan-found [] h = absurd (omega arith)
@@ -116,7 +116,7 @@ scan-first [] i h c = let k = c .inside in omega arith
 scan-first (x ∷ s) zero h c = let e = scan-code (x ∷ s) c in omega arith
 scan-first (x ∷ s) (suc i) h c = let k = scan-suc x s in scan-first s i (omega arith) (code-down x s i c)
 
--- so the scan gives the length exactly where there is no start code
+-- so the scan ends at the length exactly where there is no start code
 pub scan-none : (s : List ℕ) → ((i : ℕ) → CodeAt s i → ⊥) → scan s ≡ length s
 scan-none s none =
     elim (decLe (length s) (scan s)) [
@@ -200,7 +200,7 @@ scan-then-code (x ∷ y ∷ z ∷ u) r h =
     let p = free-tail x y z u h in
     rw (p .0, scan-then-code (y ∷ z ∷ u) r (p .1))
 
--- a zero more makes no start code
+-- one more zero makes no start code
 pub scan-zero : (u : List ℕ) → scan u ≡ length u → scan (u ++ 0 ∷ []) ≡ suc (length u)
 unfolding scan isStartCode
 scan-zero [] h = refl

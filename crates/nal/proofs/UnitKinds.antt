@@ -1,4 +1,4 @@
--- Laws of the kinds of units: as the code tells them apart, by the type and by a variant's number; and that a kind of a type is told by the type.
+-- Laws of the kinds of units: as the code tells them apart, by the type and by a variant's number; the type of a kind is the unit's type.
 use Prim.Native.Nat.{ℕ, _≤_, _<_}
 use mathlib.Core.Path.{_≡_, refl, sym}
 use mathlib.Core.Logic.{⊎-elim}

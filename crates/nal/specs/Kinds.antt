@@ -1,4 +1,4 @@
--- What a unit type stands for (H.266 table 5; ISO/IEC 14496-15 11.2.4.2 for those that may stand in a record).
+-- The kinds of units, by type (SCOPE 3.3; H.266 table 5; ISO/IEC 14496-15 11.2.4.2 for those that a record may have).
 use Prim.Native.Nat.{ℕ}
 use mathlib.Core.Bool.{Bool, true, false, _&&_, _||_}
 use mathlib.Core.List.{List}
@@ -8,11 +8,11 @@ use Rattle.nal.specs.Header.{typeOr31}
 use Rattle.nal.specs.declared.UnitKind.{UnitKind}
 use Rattle.nal.specs.declared.UnitKind.the-variants.{PictureData, Record, Aud, Other}
 
--- "12 to 17 and 23 may stand in a record"
+-- the types that a record may have: 12 to 17 and 23
 abbrev pub isRecordType : ℕ → Bool
 isRecordType t = (leb 12 t && leb t 17) || eqb t 23
 
--- "Types 0 to 11 are picture data; .. AUD is 20."
+-- types 0 to 11 are picture data, 20 is AUD
 unfoldable pub unitKind : ℕ → UnitKind
 unitKind t =
     if leb t 11 then PictureData t
@@ -20,7 +20,7 @@ unitKind t =
     else if eqb t 20 then Aud
     else Other
 
--- the kind of a unit, by its type, 31 where byte 1 is absent
+-- the kind of a unit: that of its type, 31 where byte 1 is absent
 abbrev pub kindOf : List ℕ → UnitKind
 kindOf u = unitKind (typeOr31 u)
 

@@ -1,4 +1,4 @@
--- Start codes 00 00 01 (H.266 annex B), and the unit check.
+-- Start codes 00 00 01 (SCOPE 3.13; H.266 annex B), and the unit check (SCOPE 4.6).
 use Prim.Native.Nat.{ℕ, suc, _+_}
 use mathlib.Core.Bool.{Bool, false, not, _&&_}
 use mathlib.Core.List.{List, [], _∷_}
@@ -16,15 +16,16 @@ scan (x ∷ []) = 1
 scan (x ∷ y ∷ []) = 2
 scan (x ∷ y ∷ z ∷ r) = if isStartCode x y z then 0 else suc (scan (y ∷ z ∷ r))
 
--- "The scan gives the first 00 00 01 at or after a place"; the length where there is none
+-- the place of the first start code at or after place p; the length where there is none
 abbrev pub startCodeFrom : List ℕ → ℕ → ℕ
 startCodeFrom s p = p + scan (drop p s)
 
+-- whether the last byte is 00
 unfoldable pub endsInZero : List ℕ → Bool
 endsInZero [] = false
 endsInZero (x ∷ []) = eqb x 0
 endsInZero (x ∷ y ∷ r) = endsInZero (y ∷ r)
 
--- the unit check: "yes exactly if the unit is non-empty, lacks 00 00 01 and doesn't end in 00"
+-- the unit check: the unit is not empty, has no 00 00 01 in it, and does not end in 00
 unfoldable pub unitChecked : List ℕ → Bool
 unitChecked u = ltb 0 (length u) && (eqb (scan u) (length u) && not (endsInZero u))

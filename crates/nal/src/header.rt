@@ -1,4 +1,4 @@
-// Internal: a unit's type and kind, where the unit is within the bounds already.
+// Internal: the type and the kind of a unit whose length was tested before.
 use super::LARGEST_UNIT_TYPE;
 use super::UnitKind;
 use super::unit_kind;
@@ -25,7 +25,7 @@ pub fn kind_of(nal: &[u8]) -> UnitKind
     unit_kind(type_or_31(nal))
 }
 
-// Whether a type stands for picture data and is `t`.
+// Whether a type is picture data and is `t`.
 pub fn is_picture_data_of(nal_unit_type: u8, t: u8) -> bool
     ensures { λ r. ⌜ r ≡ isPictureDataOf t (unitKind «nal_unit_type») ⌝ }
 {
@@ -36,7 +36,7 @@ pub fn is_picture_data_of(nal_unit_type: u8, t: u8) -> bool
     }
 }
 
-// Whether a type stands for a record kind and is `t`.
+// Whether a type is a record kind and is `t`.
 pub fn is_record_of(nal_unit_type: u8, t: u8) -> bool
     ensures { λ r. ⌜ r ≡ isRecordOf t (unitKind «nal_unit_type») ⌝ }
 {

@@ -1,4 +1,4 @@
-// A unit's header, the kinds of units, and the unit check.
+// A unit's header and the kinds of units (SCOPE 3.3), and the unit check (SCOPE 4.6).
 pub mod header;
 pub mod start_code;
 
@@ -49,21 +49,21 @@ pub const LARGEST_UNIT_TYPE: u8 = 31;
 
 pub const UNIT_TYPES: usize = 32;
 
-// A part of a unit's header; the original's `Option`.
+// A field of a unit's header, or that it is absent (the original's `Option`).
 pub enum HeaderField {
     Present(u8),
     Absent,
     Refused(Refusal),
 }
 
-// Whether a unit may stand in a stream and be split off again.
+// The unit check: whether a stream with this unit in it splits into the same unit.
 pub enum UnitCheck {
     Yes,
     No,
     Refused(Refusal),
 }
 
-// What a unit type stands for; picture data and record kinds with their type.
+// The kind of a unit; picture data and record kinds with their type.
 pub enum UnitKind {
     PictureData(u8),
     Record(u8),
@@ -110,7 +110,7 @@ pub fn nal_temporal_id_plus1(nal: &[u8]) -> HeaderField
     HeaderField::Present(nal[1] % 8)
 }
 
-// The two bytes of a unit's header, each part masked to its width.
+// The two bytes of a unit's header, each field cut to its width.
 pub fn nal_header(nal_unit_type: u8, layer_id: u8, temporal_id_plus1: u8) -> [u8; 2]
     ensures { λ r. ⌜ r ≡ nalHeader «nal_unit_type» «layer_id» «temporal_id_plus1» ⌝ }
 {
@@ -119,7 +119,7 @@ pub fn nal_header(nal_unit_type: u8, layer_id: u8, temporal_id_plus1: u8) -> [u8
     [first, second]
 }
 
-// What a unit type stands for.
+// The kind of a unit type.
 pub fn unit_kind(nal_unit_type: u8) -> UnitKind
     ensures { λ r. ⌜ r ≡ unitKind «nal_unit_type» ⌝ }
 {
@@ -142,7 +142,7 @@ pub fn is_vcl(nal_unit_type: u8) -> bool
     }
 }
 
-// Whether a unit of this type may stand in a record.
+// Whether this type is a record kind: a record may have units of it.
 pub fn is_record_nal_type(nal_unit_type: u8) -> bool
     ensures { λ r. ⌜ r ≡ isRecord (unitKind «nal_unit_type») ⌝ }
 {
@@ -153,7 +153,7 @@ pub fn is_record_nal_type(nal_unit_type: u8) -> bool
     }
 }
 
-// Whether a unit is non-empty, lacks 00 00 01 and does not end in 00. Refusal: 23.
+// Whether a unit is not empty, has no 00 00 01 in it, and does not end in 00. Refusal: 23.
 pub fn check_unit(unit: &[u8]) -> UnitCheck
     ensures { λ r. ⌜ checkOf r ≡ checked (now (unit .entry)) ⌝ }
 {

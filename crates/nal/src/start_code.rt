@@ -1,4 +1,4 @@
-// Internal: the scan for start codes, and the end of a unit.
+// Internal: searches for start codes, and tests the last byte of a unit.
 ghost use mathlib.Core.Path.{_≡_};
 ghost use Prim.Native.Nat.{_≤_};
 ghost use lib.ListN.{length};

@@ -1,4 +1,4 @@
--- How far an OPI's operating point looks: no further than its first 9 RBSP bytes.
+-- Of an OPI up to its operating point at most the first 9 RBSP bytes are read.
 use mathlib.Core.Path.{_≡_}
 use mathlib.Core.List.{List}
 use Prim.Native.Nat.{ℕ}

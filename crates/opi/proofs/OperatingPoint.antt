@@ -1,4 +1,4 @@
--- The operating point of an OPI: the five answers, and what the bit reader's three steps give.
+-- Laws of the operating point of an OPI: the five answers, and what the bit reader's three steps return.
 use mathlib.Core.Path.{_≡_, refl, _∙_}
 use mathlib.Core.Bool.{Bool, true, false}
 use mathlib.Core.List.{List}
@@ -61,7 +61,7 @@ module _ (s : List ℕ) where
   unfolding opiPoint
   three-reads p = first-read (u 1 s p) p
 
--- what three steps of the reader give, from the first bit on
+-- what three steps of the reader return, from the first bit on
 module _ (s : RefT (List ℕ)) (d : BitReader) (t t₂ t₃ : ReaderStep) (from : AtStart s d) (h : Stepped (u 1) d t) (k : Stepped (skipping 1) (t .reader) t₂) (l : Stepped ue (t₂ .reader) t₃) where
   pub read-through : pointOf (parsed (t .answer)) (parsed (t₂ .answer)) (parsed (t₃ .answer)) ≡ opiPoint (now s) 0
   read-through = rw (three-reads (now s) 0, h .answer, k .answer, l .answer, k .place, h .place, k .bytes, h .bytes, from .0, from .1)

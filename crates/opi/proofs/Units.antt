@@ -1,4 +1,4 @@
--- The operating point of a whole unit: the tests in front of its bits.
+-- The operating point of a whole unit: the tests before its bits.
 use mathlib.Core.Path.{_≡_}
 use mathlib.Core.List.{List}
 use mathlib.Core.Option.{none}

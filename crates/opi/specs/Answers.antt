@@ -1,4 +1,4 @@
--- What the answers of this crate say.
+-- The answer of `opi_ols_idx` (SCOPE 3.12).
 use Prim.Native.Nat.{ℕ}
 use mathlib.Core.List.{List}
 use mathlib.Core.Option.{Option, none, some}
@@ -14,6 +14,6 @@ olsIdxOf (O.Present v) = accept (some v)
 olsIdxOf O.Absent = accept none
 olsIdxOf (O.Refused e) = refuse (numberOf e)
 
--- `opi_ols_idx`: only 23
+-- `opi_ols_idx`: 23
 abbrev pub olsIdxGiven : List ℕ → Outcome (Option ℕ)
 olsIdxGiven unit = lentInput unit (accept (opiOlsIdx unit))

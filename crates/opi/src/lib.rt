@@ -1,4 +1,4 @@
-// The operating point of an OPI.
+// Reads the operating point of an OPI (SCOPE 3.12).
 pub mod point;
 
 use error::LARGEST_INPUT;
@@ -6,14 +6,14 @@ use error::Refusal;
 ghost use mathlib.Core.Path.{_≡_};
 ghost use Rattle.opi.specs.Answers.{olsIdxOf, olsIdxGiven};
 
-// An OPI's operating point, where it reads.
+// The operating point of an OPI, or that it does not read.
 pub enum OlsIdx {
     Present(u32),
     Absent,
     Refused(Refusal),
 }
 
-// The operating point of an OPI unit; absent where it does not read. Refusal: 23.
+// Reads the operating point of an OPI from its unit; absent where it does not read. Refusal: 23.
 pub fn opi_ols_idx(nal: &[u8]) -> OlsIdx
     ensures { λ r. ⌜ olsIdxOf r ≡ olsIdxGiven (now (nal .entry)) ⌝ }
 {

@@ -1,4 +1,4 @@
-// For this crate's call: an OPI's operating point from the first bytes of its RBSP.
+// Internal: reads the operating point of an OPI from the first bytes of its RBSP.
 use super::OlsIdx;
 use bit_reader::BitsRead;
 use bit_reader::reader::BitReader;
@@ -12,7 +12,7 @@ ghost use Rattle.opi.specs.Opi.{whereRead, opiPoint};
 ghost use Rattle.opi.specs.Answers.{olsIdxOf};
 ghost use Rattle.opi.specs.inner.Point.{pointOf};
 
-// What the answers of the two flags and of the code say: absent where one is refused, or where the first flag is not 1.
+// The operating point from the answers for the two flags and the code: absent where one is refused, or where the first flag is not 1.
 fn point_of(ols: BitsRead, htid: BitsRead, idx: BitsRead) -> OlsIdx
     ensures { λ r. ⌜ olsIdxOf r ≡ accept (whereRead (pointOf (parsed ols) (parsed htid) (parsed idx))) ⌝ }
 {
@@ -31,7 +31,7 @@ fn point_of(ols: BitsRead, htid: BitsRead, idx: BitsRead) -> OlsIdx
     OlsIdx::Present(point)
 }
 
-// The operating point from the first bytes of an OPI's RBSP: the bit reader reads a flag, passes one over and reads the code; `point_of` decides.
+// Reads the operating point from the first bytes of an OPI's RBSP: a flag, a flag that is passed over, and the code; `point_of` decides.
 fn parse_rbsp(rbsp: &[u8]) -> OlsIdx
     requires { ⌜ length (now rbsp) ≤ 9 ⌝ }
     ensures { λ r. ⌜ olsIdxOf r ≡ accept (whereRead (opiPoint (now (rbsp .entry)) 0)) ⌝ }
@@ -47,7 +47,7 @@ fn parse_rbsp(rbsp: &[u8]) -> OlsIdx
     )
 }
 
-// The operating point from an OPI's payload: two flags and a code of at most 63 bits, so 9 bytes of its RBSP are enough.
+// Reads the operating point from an OPI's payload: two flags and a code of at most 63 bits, so the first 9 bytes of its RBSP suffice.
 pub fn parse_payload(payload: &[u8]) -> OlsIdx
     ensures { λ r. ⌜ olsIdxOf r ≡ accept (whereRead (opiPoint (rbsp (now (payload .entry))) 0)) ⌝ }
 {

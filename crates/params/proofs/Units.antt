@@ -1,4 +1,4 @@
--- A head of a whole unit: the tests in front of its bits.
+-- A parameter set read from its unit: the tests before its bits.
 use mathlib.Core.Path.{_≡_, refl}
 use mathlib.Core.Bool.{Bool, true, false}
 use mathlib.Core.List.{List, [], _∷_}
@@ -37,7 +37,7 @@ module _ {A : Type 0} (zeros : A) (t : ℕ) (P : Parser A) (unit : List ℕ) whe
       → readOr zeros (P (rbsp (take (length unit - 2) (drop 2 unit))) 0) ≡ handsBack (λ a. a) zeros (ofUnit t P unit)
   unit-read h e = rw (after-header unit, le-leb (length unit) (2 ^ 30) h, eq-eqb (typeOr31 unit) t e)
 
--- A unit is accepted exactly where it is no longer than 2^30, is of the type, and its bits read.
+-- A unit is accepted exactly where it has at most 2^30 bytes, is of the type, and its bits read.
 pub record Accepted {A : Type 0} (t : ℕ) (P : Parser A) (unit : List ℕ) (a : A) : Type 0 where
   pub fits : length unit ≤ 2 ^ 30
   pub type-is : typeOr31 unit ≡ t

@@ -1,4 +1,4 @@
--- Chains of reads as the definitions say them: what follows from their first-read read.
+-- Chains of reads, as the definitions are written: what follows from the first read.
 use mathlib.Core.Path.{_≡_, refl}
 use Prim.Native.Nat.{ℕ}
 use native.Mathlib.Omega.{arith}
@@ -10,7 +10,7 @@ pub bind-bind : {A B C : Type 0} (x : Parsed A) (f : A → ℕ → Parsed B) (g 
 bind-bind (value a q) f g = refl
 bind-bind (refused e) f g = refl
 
--- a chain that gave a value: its first-read read gave one, and the rest gave the whole's
+-- a chain that returned a value: its first read did, and the rest returned the value of the whole
 pub first-read : {A B C : Type 0} {b : B} {t : ℕ} (x : Parsed A) (f : A → ℕ → Parsed B) → bind x f ≡ value b t
     → ((a : A) (q : ℕ) → x ≡ value a q → f a q ≡ value b t → C) → C
 first-read (value a q) f e k = k a q refl e
@@ -21,7 +21,7 @@ pub same-first : {A B : Type 0} (x : Parsed A) (f g : A → ℕ → Parsed B) �
 same-first (value a q) f g h = h a q
 same-first (refused e) f g h = refl
 
--- a read that is the first-read of a section
+-- a read that is the first of a section
 pub into-section : {A B C : Type 0} (x : Parsed A) (h : A → ℕ → Parsed C) (f : A → ℕ → Parsed B) (g : B → ℕ → Parsed C) → ((a : A) (q : ℕ) → h a q ≡ bind (f a q) g) → bind x h ≡ bind (bind x f) g
 into-section (value a q) h f g e = e a q
 into-section (refused r) h f g e = refl

@@ -1,4 +1,4 @@
--- General laws of tests, lists and stores, which several crates cite.
+-- General laws of tests, lists and stores, which several crates use.
 use Prim.Native.Nat.{ℕ, suc, _+_, _≤_, _<_}
 use mathlib.Core.Path.{_≡_, refl, sym, ap, _∙_}
 use mathlib.Core.Bool.{Bool, true, false, _&&_}
@@ -20,7 +20,7 @@ leb-same a b k l f g = go (leb a b) refl
     go true e = sym (le-leb k l (f (leb-true a b e)))
     go false e = sym (lt-leb k l (g (leb-false a b e)))
 
--- what holds of both answers holds of the choice
+-- what holds in both cases holds of the choice
 pub if-elim : {A : Type 0} (P : A → Type 0) (b : Bool) (x y : A) → P x → P y → P (if b then x else y)
 if-elim P true x y h k = h
 if-elim P false x y h k = k

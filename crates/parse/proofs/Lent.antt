@@ -1,4 +1,4 @@
--- Laws of the first test of every call on lent input: 23 above 2 ^ 30 bytes, else what the call gives.
+-- Laws of the first test of every call on lent input: 23 above 2 ^ 30 bytes, else what the call returns.
 use Prim.Native.Nat.{_^_, _≤_, _<_, ℕ}
 use mathlib.Core.Path.{_≡_}
 use mathlib.Core.List.{List}

@@ -1,4 +1,4 @@
--- What the shared answers say: the number and the value of each case.
+-- The shared answers as outcomes: the number that a call returns, or that of the refusal (SCOPE 6.1).
 use Prim.Native.Nat.{ℕ}
 use Rattle.parse.specs.Outcome.{Outcome, accept, refuse}
 use Rattle.error.specs.Refusals.{numberOf}
@@ -7,10 +7,12 @@ use Rattle.error.specs.declared.Counted.the-variants as C
 use Rattle.error.specs.declared.Written.{Written}
 use Rattle.error.specs.declared.Written.the-variants as W
 
+-- a call that counts
 abbrev pub countOf : Counted → Outcome ℕ
 countOf (C.Count n) = accept n
 countOf (C.Refused e) = refuse (numberOf e)
 
+-- a call that writes: how many bytes
 abbrev pub writtenOf : Written → Outcome ℕ
 writtenOf (W.Bytes n) = accept n
 writtenOf (W.Refused e) = refuse (numberOf e)

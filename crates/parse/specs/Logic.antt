@@ -1,4 +1,4 @@
--- A choice by a test.
+-- General: a choice by a test, and a flag as a number.
 use mathlib.Core.Bool.{Bool, true, false}
 use Prim.Native.Nat.{ℕ}
 

@@ -1,4 +1,4 @@
--- Calls one after the other: the first refusal is that of the whole.
+-- Steps one after another: the first refusal is that of the whole (SCOPE 4.7).
 use mathlib.Core.Option.{Option, none, some}
 use Prim.Native.Nat.{ℕ}
 use Rattle.parse.specs.Outcome.{Outcome, accept, refuse, andThen}
@@ -11,7 +11,7 @@ _>>=_ o f = andThen o f
 abbrev pub _>>_ : {A B : Type 0} → Outcome A → Outcome B → Outcome B
 _>>_ o p = andThen o (λ a. p)
 
--- what is there, or a refusal where it is not
+-- the value where there is one, else refused with e
 abbrev pub orRefuse : {A : Type 0} → ℕ → Option A → Outcome A
 orRefuse e (some a) = accept a
 orRefuse e none = refuse e

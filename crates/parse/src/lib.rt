@@ -1,1 +1,1 @@
-// Parsers and outcomes of the definitions, and their laws. There is no code.
+// Parsers and outcomes, which the definitions are written in, and their laws; general laws of lists, booleans and stores. There is no code.

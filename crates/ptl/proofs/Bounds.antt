@@ -72,7 +72,7 @@ pub record Constrained (c : Constraints) : Type 0 where
   pub top : getD (c .«general_constraint_info») 0 0 < 64
   pub past : (i : ℕ) → c .«num_bytes_constraint_info» ≤ i → getD (c .«general_constraint_info») i 0 ≡ 0
 
--- "Constraint bytes run from the frame-only bit to the alignment (1 to 43)"
+-- the constraint bytes, from the frame-only bit to the alignment, are 1 to 43 (SCOPE 3.6)
 constrained : (s l : List ℕ) (n : ℕ) (c : Constraints) → Below 256 l → length l ≡ n → 1 ≤ n → n ≤ 43
     → c .«num_bytes_constraint_info» ≡ length (withoutFlags l) → c .«general_constraint_info» ≡ padded 63 0 (withoutFlags l) → Constrained c
 constrained s l n c g e h k i j =
@@ -120,7 +120,7 @@ pub record Levels (m byte : ℕ) (ls : List ℕ) : Type 0 where
 
 -- read by any L whose values are bytes
 module _ (L : Parser ℕ) (s : List ℕ) (low : (p v q : ℕ) → L s p ≡ value v q → v < 256) where
-  -- a level that is left out is 0
+  -- a level that is not read is 0
   level-read : (b : Bool) (p v q : ℕ) → (if b then L else give 0) s p ≡ value v q → (v < 256) × Absent (b ∷ []) (v ∷ [])
   level-read true p v q e = (low p v q e, present)
     where

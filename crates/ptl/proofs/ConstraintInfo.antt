@@ -1,4 +1,4 @@
--- general_constraints_info( ): where it ends, and the bytes that it stands in.
+-- Laws of general_constraints_info( ): where it ends, and the bytes that hold it.
 use mathlib.Core.Path.{_≡_, refl, ap, sym, _∙_}
 use mathlib.Core.Bool.{Bool, true, false}
 use mathlib.Core.List.{List, [], _∷_}
@@ -78,7 +78,7 @@ copied-more s from k h g =
     let e : length (take k (drop from s)) ≡ k = length-take-le k (drop from s) (omega arith) in
     rw (add-one k, take-suc (drop from s) k 0 l, getD-drop from s k 0) (padded-more 63 0 (take k (drop from s)) (getD s (from + k) 0) k e g)
 
--- the first-read of them without its top two bits
+-- the first of them without its top two bits
 cleared : (l : List ℕ) → set (padded 63 0 l) 0 (getD (padded 63 0 l) 0 0 % 64) ≡ padded 63 0 (withoutFlags l)
 unfolding withoutFlags
 cleared [] = refl

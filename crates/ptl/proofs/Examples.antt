@@ -1,4 +1,4 @@
--- The PTL of document 01's worked SPS: profile 1, level 51, frame-only, one constraint byte.
+-- The PTL of the worked SPS of SCOPE 7: profile 1, level 51, frame-only, one constraint byte.
 use mathlib.Core.Bool.{true, false}
 use lib.ListN.{replicate}
 use Rattle.ptl.specs.declared.VvcPtlRecord.{VvcPtlRecord}

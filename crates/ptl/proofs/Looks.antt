@@ -1,4 +1,4 @@
--- profile_tier_level( 1, s ) looks at its next 8,592 bits and no further.
+-- profile_tier_level( 1, s ) reads at most its next 8,592 bits.
 use mathlib.Core.Path.{_≡_, refl}
 use mathlib.Core.List.{List, [], _∷_, _++_}
 use Prim.Native.Nat.{ℕ, zero, suc, _+_, _-_, _*_, _/_, _%_, _≤_}

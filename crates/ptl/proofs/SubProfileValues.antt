@@ -1,4 +1,4 @@
--- The sub-profiles: a loop of reads that fills an array from the front.
+-- Laws of the sub-profiles: a loop of reads that fills an array from the front on.
 use mathlib.Core.Path.{_≡_, refl, ap, sym, _∙_}
 use mathlib.Core.List.{List, [], _∷_, _++_, append-nil}
 use Prim.Native.Nat.{ℕ, suc, _+_, _-_, _≤_, _<_}
@@ -17,7 +17,7 @@ use Rattle.ptl.specs.Ptl.{padded}
 use Rattle.ptl.specs.inner.Sections.{subProfiles}
 use Rattle.ptl.specs.declared.sub_profiles.SubProfiles.{SubProfiles}
 
--- ---- the loop: k values stand, and the rest is still to be read after the last answer
+-- ---- the loop: k values are stored, and the rest is still to be read after the last answer
 abbrev pub toCome : Parser ℕ → List ℕ → BitsRead → ℕ → List ℕ → Parsed (List ℕ)
 toCome P s last g l = bind (parsed last) (λ _ q. bind (times g P s q) (λ rest t. value (l ++ rest) t))
 
@@ -39,7 +39,7 @@ regroup : (x : Parsed (List ℕ)) (l l′ : List ℕ) (v : ℕ) → l′ ≡ l +
 regroup (value a q) l l′ v e = rw (e, append-snoc l v a)
 regroup (refused r) l l′ v e = refl
 
--- one value more, by the answer r after the last one
+-- one more value, by the answer r after the last one
 value-on : (P : Parser ℕ) (s : List ℕ) (last r : BitsRead) (g : ℕ) (l l′ : List ℕ) → l′ ≡ l ++ (numberIn r ∷ []) → parsed r ≡ bind (parsed last) (λ _ q. P s q) → toCome P s last (suc g) l ≡ toCome P s r g l′
 unfolding times
 value-on P s last r g l l′ e h =

@@ -1,4 +1,4 @@
--- The sublayers' flags and levels: loops that fill an array from the back down.
+-- Laws of the sublayers' flags and levels: loops that fill an array from the end down.
 use mathlib.Core.Path.{_≡_, refl, ap, sym, _∙_}
 use mathlib.Core.Bool.{Bool, false}
 use mathlib.Core.List.{List, [], _∷_, _++_}
@@ -18,7 +18,7 @@ use Rattle.ptl.specs.inner.Sections.{sublayers}
 use Rattle.ptl.specs.declared.sublayers.Sublayers.{Sublayers}
 use Rattle.ptl.proofs.Arrays.{drop-replicate, snoc-store}
 
--- a read that is left out where a test fails
+-- a read that is not done where a test fails
 abbrev pub byteIf : Bool → Parser ℕ
 byteIf b = if b then u 8 else give 0
 
@@ -70,11 +70,11 @@ levels-length L s (suc m) byte p ls q e =
 abbrev pub asArray : Parsed (List ℕ) → Parsed (List ℕ)
 asArray x = bind x (λ ls q. value (padded 7 0 ls) q)
 
--- the levels still to be read, in front of those that stand
+-- the levels still to be read, before those stored
 abbrev pub inFrontOf : List ℕ → Parsed (List ℕ) → Parsed (List ℕ)
 inFrontOf l x = bind x (λ below t. value (below ++ l) t)
 
--- the levels of the flags in byte after an answer, i of them, in front of those that stand
+-- the levels of the flags in byte after an answer, i of them, before those stored
 abbrev pub toCome : Parser ℕ → List ℕ → BitsRead → ℕ → ℕ → List ℕ → Parsed (List ℕ)
 toCome L s last i byte l = bind (parsed last) (λ _ q. inFrontOf l (levels L i byte s q))
 
@@ -91,7 +91,7 @@ levels-start L s prior flags m i h n = rw n (record { low = omega arith; small =
     go p (value ls q) e = rw (drop-replicate {A = ℕ} m 7 0, levels-length L s m flags p ls q e)
     go p (refused r) e = refl
 
--- one level more, by the answer r after the last one
+-- one more level, by the answer r after the last one
 regroup : (x : Parsed (List ℕ)) (v : ℕ) (l l′ : List ℕ) → ((xs : List ℕ) → (xs ++ (v ∷ [])) ++ l ≡ xs ++ l′)
     → inFrontOf l (inFrontOf (v ∷ []) x) ≡ inFrontOf l′ x
 regroup (value a q) v l l′ h = ap (λ (k : List ℕ). value k q) (h a)

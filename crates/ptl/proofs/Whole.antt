@@ -52,7 +52,7 @@ module _ (s : List ℕ) (m : ℕ) (prior r₁ r₂ r₃ r₄ : BitsRead) (g : Ge
   pub whole-read : {w : VvcPtlRecord} {n : ℕ} {q : BitPosition} → w ≡ ptlOfSections m g c l v → r₄ ≡ Value n q → (partAfter r₄ w, w) ≡ orZeros zeroPtl said
   whole-read h k = rw (whole, k, h)
 
--- ---- the first-read section ends two bytes on
+-- ---- the first section ends two bytes on
 pub record Headed (p : ℕ) (g : General) (q : ℕ) : Type 0 where
   pub profile : g .«general_profile_idc» < 128
   pub level : g .«general_level_idc» < 256

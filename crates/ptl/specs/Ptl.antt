@@ -1,4 +1,4 @@
--- Profile, tier and level as bits (H.266 7.3.3.1, profile_tier_level( 1, s ), whose profile part is always present here).
+-- Profile, tier and level as bits (SCOPE 3.6; H.266 7.3.3.1, profile_tier_level( 1, s ), where the 1 says that the profile is present).
 use mathlib.Core.Bool.{Bool, false}
 use mathlib.Core.List.{List, [], _∷_, _++_}
 use Prim.Native.Nat.{ℕ, zero, suc, _-_, _*_, _/_, _%_}
@@ -9,7 +9,7 @@ use Rattle.parse.specs.Parse.{value, Parser, _>>=_, _>>_, give, here, times}
 use Rattle.bit_reader.specs.Bits.{u, isSet, skip, align}
 use Rattle.ptl.specs.declared.VvcPtlRecord.{VvcPtlRecord}
 
--- an array of N: the values, and z past them
+-- an array of N elements: the values, and z past them
 abbrev pub padded : {A : Type 0} → ℕ → A → List A → List A
 padded N z xs = xs ++ replicate (N - length xs) z
 
@@ -26,7 +26,7 @@ levels L (suc m) byte = do
   below ← levels L m (byte % 128 * 2)
   give (below ++ (level ∷ []))
 
--- the two flags in front of the constraint information are no part of it: the top two bits of its first byte are cleared
+-- the constraint bytes without the two flags before the information: the top two bits of the first are 0
 unfoldable pub withoutFlags : List ℕ → List ℕ
 withoutFlags [] = []
 withoutFlags (b ∷ r) = b % 64 ∷ r
@@ -38,14 +38,14 @@ constraintBits = do
   n ← u 8  -- gci_num_additional_bits
   skip n
 
--- 7.3.3.2, general_constraints_info( )
+-- general_constraints_info( ) (H.266 7.3.3.2)
 unfoldable pub generalConstraintsInfo : Parser (Unit {0})
 generalConstraintsInfo = do
   present ← u 1  -- gci_present_flag
   if isSet present then constraintBits else give tt
   align  -- gci_alignment_zero_bit
 
--- the whole bytes from a bit position up to where reading stands: "Constraint bytes run from the frame-only bit to the alignment"
+-- the constraint bytes: the whole bytes from the position of the frame-only bit up to the alignment
 unfoldable pub constraintBytes : ℕ → Parser (List ℕ)
 constraintBytes from s p = value (withoutFlags (take (p / 8 - from / 8) (drop (from / 8) s))) p
 
@@ -79,6 +79,7 @@ profileTierLevel s = do
     «general_sub_profile_idc» = padded 255 0 subs;
   })
 
+-- all zeros
 abbrev pub zeroPtl : VvcPtlRecord
 zeroPtl = record {
   «general_profile_idc» = 0;

@@ -1,4 +1,4 @@
-// Internal: profile_tier_level( 1, s ) from the bits of a parameter set.
+// Internal: reads profile_tier_level( 1, s ) (H.266 7.3.3.1) from the bits of a parameter set.
 use super::PtlBits;
 use super::VvcPtlRecord;
 use super::constraints;
@@ -26,12 +26,13 @@ pub struct General {
     pub general_level_idc: u8,
 }
 
+// The section's last read, which is refused where one of its reads is, and what was read.
 pub struct GeneralRead {
     pub answer: BitsRead,
     pub part: General,
 }
 
-// Profile 7 bits, tier 1, level 8. Refusals: the read's before, then 11.
+// Reads the profile (7 bits), the tier (1) and the level (8). Refusals: those of the read before, then 11.
 fn read_general(rbsp: &[u8], prior: BitsRead) -> GeneralRead
     requires { ⌜ length (now rbsp) ≤ 2 ^ 20 ⌝ }
     ensures { λ r. ⌜ partAfter (r .answer) (r .part) ≡ bind (parsed prior) (λ _ q. general (now (rbsp .entry)) q) ⌝ }
@@ -50,7 +51,7 @@ fn read_general(rbsp: &[u8], prior: BitsRead) -> GeneralRead
     }
 }
 
-// The record of the four sections.
+// The PTL that the four sections make up.
 fn joined(m: usize, g: General, c: Constraints, l: Sublayers, s: SubProfiles) -> VvcPtlRecord
     ensures { λ r. ⌜ r ≡ ptlOfSections m g c l s ⌝ }
 {
@@ -102,7 +103,7 @@ fn no_ptl(answer: BitsRead) -> PtlBits
     PtlBits { answer, ptl }
 }
 
-// profile_tier_level( 1, max_sublayers_minus1 ) after a read that ends at a whole byte. Refusals: that read's, then 11.
+// Reads profile_tier_level( 1, max_sublayers_minus1 ) after a read that ends at a whole byte. Refusals: that read's, then 11.
 pub fn parse_ptl(rbsp: &[u8], prior: BitsRead, max_sublayers_minus1: u8) -> PtlBits
     requires { ⌜ (length (now rbsp) ≤ 2 ^ 20) × (placeIn prior % 8 ≡ 0) × («max_sublayers_minus1» ≤ 7) ⌝ }
     ensures { λ r. ⌜ ptlBitsOf r ≡ orZeros zeroPtl (bind (parsed prior) (λ _ q. profileTierLevel «max_sublayers_minus1» (now (rbsp .entry)) q)) ⌝ }

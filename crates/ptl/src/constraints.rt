@@ -1,4 +1,4 @@
-// Internal: general_constraints_info( ), and the bytes that it stands in.
+// Internal: passes over general_constraints_info( ) (H.266 7.3.3.2), and copies the bytes that hold it.
 use bit_reader::BitsRead;
 use bit_reader::ByteOffset;
 use bit_reader::bits;
@@ -13,7 +13,7 @@ ghost use Rattle.bit_reader.specs.inner.Answers.{parsed, placeIn, partAfter};
 ghost use Rattle.ptl.specs.Ptl.{padded, withoutFlags, constraintBits, generalConstraintsInfo};
 ghost use Rattle.ptl.specs.inner.Sections.{constraints};
 
-// The two flags in front of the constraint information, and its bytes.
+// The two flags before the constraint information, and the constraint bytes.
 pub struct Constraints {
     pub ptl_frame_only_constraint_flag: bool,
     pub ptl_multilayer_enabled_flag: bool,
@@ -21,12 +21,13 @@ pub struct Constraints {
     pub general_constraint_info: [u8; 63],
 }
 
+// The section's last read, which is refused where one of its reads is, and what was read.
 pub struct ConstraintsRead {
     pub answer: BitsRead,
     pub part: Constraints,
 }
 
-// Passes over the bits that gci_present_flag announces. Refusals: the read's before, then 11.
+// Passes over the bits that gci_present_flag announces. Refusals: those of the read before, then 11.
 fn constraint_bits(rbsp: &[u8], prior: BitsRead) -> BitsRead
     requires { ⌜ length (now rbsp) ≤ 2 ^ 20 ⌝ }
     ensures { λ r. ⌜ partAfter r tt ≡ bind (parsed prior) (λ _ q. constraintBits (now (rbsp .entry)) q) ⌝ }
@@ -47,7 +48,7 @@ fn announced_bits(rbsp: &[u8], prior: BitsRead, present: u32) -> BitsRead
     prior
 }
 
-// Passes over general_constraints_info( ) up to the whole byte after it. Refusals: the read's before, then 11.
+// Passes over general_constraints_info( ) up to the whole byte after it. Refusals: those of the read before, then 11.
 fn general_constraints_info(rbsp: &[u8], prior: BitsRead) -> BitsRead
     requires { ⌜ length (now rbsp) ≤ 2 ^ 20 ⌝ }
     ensures { λ r. ⌜ partAfter r tt ≡ bind (parsed prior) (λ _ q. generalConstraintsInfo (now (rbsp .entry)) q) ⌝ }
@@ -57,7 +58,7 @@ fn general_constraints_info(rbsp: &[u8], prior: BitsRead) -> BitsRead
     then::align(announced)
 }
 
-// The bytes between two offsets at the front of an array, the top two bits of the first cleared.
+// The bytes between two offsets, at the front of an array; the top two bits of the first are set to 0.
 pub fn constraint_bytes(rbsp: &[u8], from: ByteOffset, to: ByteOffset) -> [u8; 63]
     requires { ⌜ (to .0 ≤ length (now rbsp)) × (from .0 ≤ to .0) × (to .0 - from .0 ≤ 63) ⌝ }
     ensures { λ r. ⌜ r ≡ padded 63 0 (withoutFlags (take (to .0 - from .0) (drop (from .0) (now (rbsp .entry))))) ⌝ }
@@ -73,7 +74,7 @@ pub fn constraint_bytes(rbsp: &[u8], from: ByteOffset, to: ByteOffset) -> [u8; 6
     info
 }
 
-// A refusal, with nothing beside it.
+// A refusal, with zeros beside it.
 fn no_constraints(answer: BitsRead) -> ConstraintsRead
     ensures { λ r. ⌜ r .answer ≡ answer ⌝ }
 {
@@ -86,7 +87,7 @@ fn no_constraints(answer: BitsRead) -> ConstraintsRead
     ConstraintsRead { answer, part }
 }
 
-// The two flags and the constraint information, after a read that ends at a whole byte. Refusals: that read's, then 11.
+// Reads the two flags and the constraint information after a read that ends at a whole byte. Refusals: that read's, then 11.
 pub fn read_constraints(rbsp: &[u8], prior: BitsRead) -> ConstraintsRead
     requires { ⌜ (length (now rbsp) ≤ 2 ^ 20) × (placeIn prior % 8 ≡ 0) ⌝ }
     ensures { λ r. ⌜ partAfter (r .answer) (r .part) ≡ bind (parsed prior) (λ _ q. constraints (now (rbsp .entry)) q) ⌝ }

@@ -1,4 +1,4 @@
-// Profile, tier and level: the record, and reading it from the bits of a parameter set.
+// Profile, tier and level: `VvcPtlRecord` and its counts, read from the bits of a parameter set (SCOPE 3.6).
 pub mod bits;
 pub mod constraints;
 pub mod sub_profiles;
@@ -8,7 +8,8 @@ use bit_reader::BitsRead;
 ghost use mathlib.Core.Path.{_≡_};
 ghost use Rattle.ptl.specs.Answers.{numSublayers, numBytesConstraintInfo};
 
-// VvcPTLRecord of ISO/IEC 14496-15 11.2.4.2, the original's fields. Its vectors are arrays with counts: 0 past a count and for an absent level.
+// VvcPTLRecord (ISO/IEC 14496-15 11.2.4.1) with the original's fields. Its vectors are arrays with counts: 0 past a count and for an absent
+// level.
 pub struct VvcPtlRecord {
     pub general_profile_idc: u8,
     pub general_tier_flag: bool,
@@ -25,7 +26,7 @@ pub struct VvcPtlRecord {
 }
 
 impl VvcPtlRecord {
-    // The number of sublayers that the record was written for: one more than its levels, at most 7.
+    // The number of sublayers: the level count plus 1, at most 7.
     pub fn num_sublayers(self) -> u8
         ensures { λ r. ⌜ r ≡ numSublayers self ⌝ }
     {
@@ -35,7 +36,7 @@ impl VvcPtlRecord {
         7
     }
 
-    // The number of constraint bytes as it is written: 1 where there are none.
+    // The number of constraint bytes that are written: 1 where there are none.
     pub fn num_bytes_constraint_info(self) -> usize
         ensures { λ r. ⌜ r ≡ numBytesConstraintInfo self ⌝ }
     {

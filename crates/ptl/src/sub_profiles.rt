@@ -1,4 +1,4 @@
-// Internal: the sub-profiles.
+// Internal: reads the sub-profiles of a PTL.
 use bit_reader::BitsRead;
 use bit_reader::then;
 ghost use mathlib.Core.Path.{_≡_};
@@ -10,18 +10,19 @@ ghost use Rattle.bit_reader.specs.inner.Answers.{parsed, partAfter};
 ghost use Rattle.ptl.specs.Ptl.{padded};
 ghost use Rattle.ptl.specs.inner.Sections.{subProfiles};
 
-// How many sub-profiles, and which.
+// The number of sub-profiles, and the sub-profiles.
 pub struct SubProfiles {
     pub num_sub_profiles: usize,
     pub general_sub_profile_idc: [u32; 255],
 }
 
+// The section's last read, which is refused where one of its reads is, and what was read.
 pub struct SubProfilesRead {
     pub answer: BitsRead,
     pub part: SubProfiles,
 }
 
-// The next n sub-profiles, 32 bits each. Refusals: the read's before, then 11.
+// Reads the next n sub-profiles, 32 bits each. Refusals: those of the read before, then 11.
 fn read_values(rbsp: &[u8], prior: BitsRead, n: usize) -> SubProfilesRead
     requires { ⌜ (length (now rbsp) ≤ 2 ^ 20) × (n ≤ 255) ⌝ }
     ensures { λ r. ⌜ partAfter (r .answer) (r .part) ≡ bind (parsed prior) (λ _ q. bind (times n (u 32) (now (rbsp .entry)) q)
@@ -42,7 +43,7 @@ fn read_values(rbsp: &[u8], prior: BitsRead, n: usize) -> SubProfilesRead
     SubProfilesRead { answer: last, part }
 }
 
-// ptl_num_sub_profiles and that many sub-profiles. Refusals: the read's before, then 11.
+// Reads ptl_num_sub_profiles and that many sub-profiles. Refusals: those of the read before, then 11.
 pub fn read_sub_profiles(rbsp: &[u8], prior: BitsRead) -> SubProfilesRead
     requires { ⌜ length (now rbsp) ≤ 2 ^ 20 ⌝ }
     ensures { λ r. ⌜ partAfter (r .answer) (r .part) ≡ bind (parsed prior) (λ _ q. subProfiles (now (rbsp .entry)) q) ⌝ }

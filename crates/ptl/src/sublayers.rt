@@ -1,4 +1,4 @@
-// Internal: the sublayers' present flags and levels.
+// Internal: reads the present flags and the levels of a PTL's sublayers.
 use bit_reader::BitsRead;
 use bit_reader::then;
 ghost use mathlib.Core.Path.{_≡_};
@@ -17,12 +17,13 @@ pub struct Sublayers {
     pub sublayer_level_idc: [u8; 7],
 }
 
+// The section's last read, which is refused where one of its reads is, and what was read.
 pub struct SublayersRead {
     pub answer: BitsRead,
     pub part: Sublayers,
 }
 
-// The levels alone.
+// The same of the levels alone.
 pub struct LevelsRead {
     pub answer: BitsRead,
     pub part: [u8; 7],
@@ -45,7 +46,7 @@ pub fn present_flags(flags: u32, m: usize) -> [bool; 7]
     present
 }
 
-// The levels whose flag is set, from the highest of m sublayers down; 0 where not. Refusals: the read's before, then 11.
+// Reads the levels whose flag is set, from the highest of m sublayers down; the others are 0. Refusals: those of the read before, then 11.
 fn read_levels(rbsp: &[u8], prior: BitsRead, flags: u32, m: usize) -> LevelsRead
     requires { ⌜ (length (now rbsp) ≤ 2 ^ 20) × (m ≤ 7) × (flags < 256) ⌝ }
     ensures { λ r. ⌜ partAfter (r .answer) (r .part) ≡ bind (parsed prior) (λ _ q. bind (levels (u 8) m flags (now (rbsp .entry)) q) (λ ls t. value (padded 7 0 ls) t)) ⌝ }
@@ -64,7 +65,7 @@ fn read_levels(rbsp: &[u8], prior: BitsRead, flags: u32, m: usize) -> LevelsRead
     LevelsRead { answer: last, part }
 }
 
-// The present flags, no bits without sublayers, and the levels of m sublayers. Refusals: the read's before, then 11.
+// Reads the present flags (no bits where m is 0) and the levels of m sublayers. Refusals: those of the read before, then 11.
 pub fn read_sublayers(rbsp: &[u8], prior: BitsRead, m: usize) -> SublayersRead
     requires { ⌜ (length (now rbsp) ≤ 2 ^ 20) × (m ≤ 7) ⌝ }
     ensures { λ r. ⌜ partAfter (r .answer) (r .part) ≡ bind (parsed prior) (λ _ q. sublayers m (now (rbsp .entry)) q) ⌝ }

@@ -1,4 +1,4 @@
--- What is kept of a PTL that is written: its bytes are the same when it is written again, and a PTL with zeros past its counts is kept whole.
+-- What is kept of a PTL that is written: it has the same bytes when it is written again, and a PTL with zeros past its counts is kept whole.
 use Prim.Native.Nat.{ℕ, zero, suc, _+_, _-_, _*_, _≤_, _<_}
 use mathlib.Core.Path.{_≡_, refl, sym, ap, _∙_}
 use mathlib.Core.Bool.{Bool, true, false}
@@ -132,7 +132,7 @@ module _ (p : VvcPtlRecord) (fits : ptlFits p ≡ true) (info-is : length (p .«
       let l = length-take-le (p .«num_sub_profiles») (p .«general_sub_profile_idc») (omega arith) in
       ap (λ (n : ℕ). take n (q .«general_sub_profile_idc»)) (sym l) ∙ take-padded 255 0 (take (p .«num_sub_profiles») (p .«general_sub_profile_idc»))
 
-  -- what was read back is written as the same bytes
+  -- what was read is written as the same bytes
   pub bytes-again : ptlBytes (asWritten p sublayers) sublayers ≡ ptlBytes p sublayers
   unfolding ptlBytes
   bytes-again =
@@ -148,8 +148,8 @@ module _ (p : VvcPtlRecord) (fits : ptlFits p ≡ true) (info-is : length (p .«
 
 -- ---- kept whole
 
--- a PTL as it is read: at least one constraint byte with its top two bits clear, as many levels as there are sublayers below the highest, and
--- 0 and false past each count and for an absent level
+-- a PTL as it is read: at least one constraint byte, the first with its top two bits 0, as many levels as there are sublayers below the
+-- highest, and 0 and false past each count and for an absent level
 pub record Canonical (p : VvcPtlRecord) (sublayers : ℕ) : Type 0 where
   pub info-is : length (p .«general_constraint_info») ≡ 63
   pub info-some : 1 ≤ p .«num_bytes_constraint_info»

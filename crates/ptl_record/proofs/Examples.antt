@@ -1,4 +1,4 @@
--- A PTL that meets every premise of the round trip: that of document 01's worked record (profile 1, level 51, frame-only, one constraint byte).
+-- A PTL that meets every premise of the round trip: that of the worked record of SCOPE 7 (profile 1, level 51, frame-only, one constraint byte).
 use Prim.Native.Nat.{ℕ, zero, suc, _<_, _^_}
 use mathlib.Core.Path.{_≡_, refl}
 use mathlib.Core.Bool.{false}

@@ -1,4 +1,4 @@
--- What the definition of a PTL record gives: where the place after it is within the bytes its fields, else refusal 1, but for refusal 2.
+-- What the definition of a PTL record reads: its fields where the place after it is within the bytes, else refusal 1, except for refusal 2.
 use Prim.Native.Nat.{ℕ, zero, suc, _+_, _-_, _*_, _/_, _%_, _≤_, _<_}
 use mathlib.Core.Path.{_≡_, refl, ap, _∙_}
 use mathlib.Core.Bool.{Bool, true, false}

@@ -1,4 +1,4 @@
--- A PTL record read after writing, after and in front of other bytes.
+-- A PTL record read after writing, between other bytes.
 use Prim.Native.Nat.{ℕ, _+_, _-_, _*_, _/_, _%_, _^_, _≤_, _<_}
 use mathlib.Core.Path.{_≡_, refl, sym, ap, _∙_}
 use mathlib.Core.Bool.{Bool, true, false}
@@ -61,7 +61,7 @@ module _ (p : VvcPtlRecord) (ok : Writable p) (sublayers : ℕ) (few : sublayers
   long : (1 ≤ length ci) × (length ci ≤ 63)
   long = info-long p (ok .info-is) (plain .info)
 
-  -- the parts where they stand
+  -- the parts where they lie
   stFLN : Stands s at ((F ++ L) ++ N)
   unfolding ptlBytes
   stFLN = stands-left s at ((F ++ L) ++ N) S st
@@ -95,7 +95,7 @@ module _ (p : VvcPtlRecord) (ok : Writable p) (sublayers : ℕ) (few : sublayers
       let e : at + length ((F ++ L) ++ N) ≡ count + 1 = omega (arith, length-front p, length-append F L, length-append (F ++ L) N) in
       rw e at (stands-right s at ((F ++ L) ++ N) S st)
 
-  -- the fields in front
+  -- the fields before the levels
   b0 : getD s at 0 ≡ length ci
   b0 = stands-head s at _ _ stF
 
@@ -209,7 +209,7 @@ module _ (p : VvcPtlRecord) (ok : Writable p) (sublayers : ℕ) (few : sublayers
     «general_sub_profile_idc» = padded 255 0 ((ap (λ (n : ℕ). words n s (count + 1)) count-is ∙ subs-back) i);
   }
 
-  -- where the bytes of a PTL stand, what they keep of it is read
+  -- where the bytes of a PTL lie, what they keep of it is read
   pub read-standing : vvcPtlRecord sublayers s at ≡ value (asWritten p sublayers) (at + length (ptlBytes p sublayers))
   read-standing =
       let l = length-ptl p sublayers subs-fit in
@@ -221,17 +221,17 @@ module _ (p : VvcPtlRecord) (ok : Writable p) (sublayers : ℕ) (few : sublayers
       let k : ptlEnd s count ≤ length s = omega (arith, end-is, st .room) in
       q .there k ∙ rw (fields, end-is)
 
--- a PTL that was written is read again, whatever stands in front and after
+-- a PTL that was written is read again, whatever comes before and after
 pub round-trip : (p : VvcPtlRecord) → Writable p → (sublayers : ℕ) → sublayers ≤ 7 → (xs ys : List ℕ)
     → vvcPtlRecord sublayers (xs ++ (ptlBytes p sublayers ++ ys)) (length xs) ≡ value (asWritten p sublayers) (length xs + length (ptlBytes p sublayers))
 round-trip p ok sublayers few xs ys =
     read-standing p ok sublayers few (xs ++ (ptlBytes p sublayers ++ ys)) (length xs) (stands-between xs (ptlBytes p sublayers) ys)
 
--- a PTL as it is read comes back whole
+-- a PTL as it is read is read whole after writing
 pub round-trip-kept : (p : VvcPtlRecord) → Writable p → (sublayers : ℕ) → sublayers ≤ 7 → Canonical p sublayers → (xs ys : List ℕ)
     → vvcPtlRecord sublayers (xs ++ (ptlBytes p sublayers ++ ys)) (length xs) ≡ value p (length xs + length (ptlBytes p sublayers))
 round-trip-kept p ok sublayers few whole xs ys = rw (kept p sublayers whole) at (round-trip p ok sublayers few xs ys)
 
--- what was read back is written as the same bytes
+-- what was read is written as the same bytes
 pub rewritten : (p : VvcPtlRecord) → Writable p → (sublayers : ℕ) → ptlBytes (asWritten p sublayers) sublayers ≡ ptlBytes p sublayers
 rewritten p ok sublayers = bytes-again p (ok .fits) (ok .info-is) (ok .subs-are) sublayers

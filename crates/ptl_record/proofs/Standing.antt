@@ -1,4 +1,4 @@
--- Where the bytes of a PTL record stand in a list, its parts stand there one after the other, and their values are those that were written.
+-- Where the bytes of a PTL record lie in a list, its fields lie there one after another, and their values are those that were written.
 use Prim.Native.Nat.{ℕ, zero, suc, _+_, _*_, _/_, _%_, _^_, _≤_, _<_}
 use mathlib.Core.Path.{_≡_, refl, sym, ap, _∙_}
 use mathlib.Core.Bool.{Bool, true, false}
@@ -18,7 +18,7 @@ use Rattle.ptl_record.specs.inner.Places.{words, levelsLen, levelIf, lev
 use Rattle.ptl_record.specs.AsWritten.{upTo, levelOf}
 use Rattle.ptl_record.proofs.Writing.{levels-split}
 
--- xs stands in s at i
+-- xs lies in s at place i
 pub record Stands (s : List ℕ) (i : ℕ) (xs : List ℕ) : Type 0 where
   pub room : i + length xs ≤ length s
   pub same : (k : ℕ) → k < length xs → getD s (i + k) 0 ≡ getD xs k 0
@@ -47,7 +47,7 @@ stands-between xs b ys = record {
   same = λ k h. getD-append-add xs (b ++ ys) k 0 ∙ List·getD-append b ys 0 k h;
 }
 
--- the first of what stands, and all of it
+-- the first element of such an xs, and all of it
 pub stands-head : (s : List ℕ) (i x : ℕ) (xs : List ℕ) → Stands s i (x ∷ xs) → getD s i 0 ≡ x
 stands-head s i x xs st = rw (add-zero i) at (st .same 0 (omega arith))
 

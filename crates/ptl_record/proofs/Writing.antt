@@ -1,4 +1,4 @@
--- Laws of the bytes of a PTL record: their parts one by one, and their lengths.
+-- Laws of the bytes of a PTL record: field by field, and their lengths.
 use Prim.Native.Nat.{ℕ, zero, suc, _+_, _-_, _*_, _%_, _≤_, _<_}
 use mathlib.Core.Path.{_≡_, refl}
 use mathlib.Core.Bool.{Bool, true, false}
@@ -16,7 +16,7 @@ use Rattle.ptl_record.specs.Write.{constraintInfo, withFlags, hasLevel, 
 use Rattle.ptl_record.specs.inner.Places.{oneLevel}
 use Rattle.parse.proofs.General.{both-true, sets-append}
 
--- one run after another, its place given
+-- one run of stores after another, at the place where the first ends
 pub sets-then : (d : List ℕ) (i k : ℕ) (xs ys : List ℕ) → k ≡ i + length xs → sets (sets d i xs) k ys ≡ sets d i (xs ++ ys)
 sets-then d i k xs ys e = rw e (sets-append d i xs ys)
 

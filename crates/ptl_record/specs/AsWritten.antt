@@ -1,4 +1,4 @@
--- What is read back of a PTL that was written: what its bytes keep of it, 0 and false elsewhere.
+-- What reading (SCOPE 3.10) returns of a PTL that was written (SCOPE 3.9): what its bytes keep of it, 0 and false elsewhere.
 use Prim.Native.Nat.{ℕ, zero, suc, _-_}
 use mathlib.Core.Bool.{false}
 use mathlib.Core.List.{List, [], _∷_, _++_}
@@ -17,7 +17,7 @@ upTo (suc m) f = upTo m f ++ (f m ∷ [])
 abbrev pub levelOf : VvcPtlRecord → ℕ → ℕ
 levelOf p i = if hasLevel p i then getD (p .«sublayer_level_idc») i 0 else 0
 
--- no constraint bytes become one zero byte, the top two bits of the first are cleared, levels are those of the sublayers below the highest
+-- no constraint bytes become one byte 00; the top two bits of the first are 0; the levels are those of the sublayers below the highest
 abbrev pub asWritten : VvcPtlRecord → ℕ → VvcPtlRecord
 asWritten p sublayers = record {
   «general_profile_idc» = p .«general_profile_idc»;

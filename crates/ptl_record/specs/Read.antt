@@ -1,4 +1,4 @@
--- The PTL of a full record read (ISO/IEC 14496-15 11.2.4.2, VvcPTLRecord). Reserved bits are ignored.
+-- The PTL of a full record, read (VvcPTLRecord: ISO/IEC 14496-15 11.2.4.1; SCOPE 3.10). Reserved bits are ignored.
 use Prim.Native.Nat.{ℕ, _-_, _/_, _%_}
 use mathlib.Core.Bool.{false}
 use mathlib.Core.List.{List}

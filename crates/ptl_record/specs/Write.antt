@@ -1,4 +1,4 @@
--- The PTL of a full record written (ISO/IEC 14496-15 11.2.4.2, VvcPTLRecord). Reserved bits are those of the standard.
+-- The PTL of a full record, written (VvcPTLRecord: ISO/IEC 14496-15 11.2.4.1; SCOPE 3.9). Reserved bits are those of the standard.
 use Prim.Native.Nat.{ℕ, zero, suc, _+_, _-_, _*_, _/_, _%_}
 use mathlib.Core.Bool.{Bool, false, _&&_}
 use mathlib.Core.List.{List, [], _∷_, _++_}
@@ -8,7 +8,7 @@ use Rattle.parse.specs.Logic.{if_then_else_, bit}
 use Rattle.boxes.specs.Bytes.{toBe}
 use Rattle.ptl.specs.declared.VvcPtlRecord.{VvcPtlRecord}
 
--- the constraint bytes as written: "0 is written as one zero byte"
+-- the constraint bytes as written, before the flags are put in: one byte 00 where there are none
 abbrev pub constraintInfo : VvcPtlRecord → List ℕ
 constraintInfo p = if eqb (p .«num_bytes_constraint_info») 0 then 0 ∷ [] else take (p .«num_bytes_constraint_info») (p .«general_constraint_info»)
 
@@ -16,29 +16,30 @@ constraintInfo p = if eqb (p .«num_bytes_constraint_info») 0 then 0 ∷ [] els
 abbrev pub withFlagBits : VvcPtlRecord → ℕ → ℕ
 withFlagBits p b = bit (p .«ptl_frame_only_constraint_flag») * 128 + bit (p .«ptl_multilayer_enabled_flag») * 64 + b % 64
 
--- "the top two bits of the first replaced by frame-only and multilayer"
+-- the top two bits of the first are replaced by the frame-only flag and the multilayer flag
 unfoldable pub withFlags : VvcPtlRecord → List ℕ → List ℕ
 withFlags p [] = []
 withFlags p (b ∷ r) = withFlagBits p b ∷ r
 
--- whether a level is there for sublayer i: "levels that the head lacks count as absent"
+-- whether sublayer i has a level; a level at or above the level count is absent
 abbrev pub hasLevel : VvcPtlRecord → ℕ → Bool
 hasLevel p i = ltb i (p .«num_sublayer_levels») && getD (p .«sublayer_level_present_flag») i false
 
--- the present flags of the sublayers below m, "from highest down and zeros"
+-- the present flags of sublayers m - 1 down to 0, from the top bit down, then zeros
 unfoldable pub flagByte : VvcPtlRecord → ℕ → ℕ
 flagByte p zero = 0
 flagByte p (suc m) = bit (hasLevel p m) * 128 + flagByte p m / 2
 
--- the levels that are there, from the highest sublayer below m down
+-- the levels of the sublayers that have one, from sublayer m - 1 down to 0
 unfoldable pub levelBytes : VvcPtlRecord → ℕ → List ℕ
 levelBytes p zero = []
 levelBytes p (suc m) = if hasLevel p m then getD (p .«sublayer_level_idc») m 0 ∷ levelBytes p m else levelBytes p m
 
--- "above one sublayer a flag byte .. then levels"
+-- the flag byte and the levels, only with num_sublayers above 1
 abbrev pub levelPart : VvcPtlRecord → ℕ → List ℕ
 levelPart p sublayers = if ltb 1 sublayers then flagByte p (sublayers - 1) ∷ levelBytes p (sublayers - 1) else []
 
+-- the sub-profiles, four bytes each
 unfoldable pub subProfileBytes : List ℕ → List ℕ
 subProfileBytes [] = []
 subProfileBytes (v ∷ vs) = toBe 4 v ++ subProfileBytes vs
@@ -59,7 +60,7 @@ ptlBytes p sublayers =
     ++ (p .«num_sub_profiles» ∷ [])
     ++ subProfileBytes (take (p .«num_sub_profiles») (p .«general_sub_profile_idc»))
 
--- every field of a PTL fits its place; "a level count above 7" is refused though it is not written
+-- every field of a PTL fits its place; a level count above 7 does not fit either, though the count is not written
 unfoldable pub ptlFits : VvcPtlRecord → Bool
 ptlFits p =
     leb (p .«general_profile_idc») 127 && (leb (p .«num_bytes_constraint_info») 63

@@ -1,4 +1,4 @@
--- Laws of arrays with counts, besides those of crate ptl: nothing in them yet, and a run stored from the front on.
+-- Laws of arrays with counts, besides those of crate ptl: an empty array, and a run stored from the front on.
 use Prim.Native.Nat.{ℕ, _%_, _≤_}
 use mathlib.Core.Path.{_≡_, refl, ap, _∙_}
 use mathlib.Core.List.{List, [], _∷_, _++_}
@@ -19,7 +19,7 @@ module _ {A : Type 0} where
   padded-sets N z xs h =
       sets-front (replicate N z) xs (let l = length-replicate N z in omega arith) ∙ ap (λ (l : List A). xs ++ l) (drop-replicate (length xs) N z)
 
--- the two flags of the first constraint byte cleared in place
+-- the two flags of the first constraint byte set to 0 in the array
 pub without-flags : (xs : List ℕ) → set (padded 63 0 xs) 0 (getD (padded 63 0 xs) 0 0 % 64) ≡ padded 63 0 (withoutFlags xs)
 unfolding withoutFlags
 without-flags [] = refl

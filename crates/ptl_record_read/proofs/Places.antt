@@ -37,7 +37,7 @@ pub levels-step : (j f : ℕ) (s : List ℕ) (p : ℕ) (l : List ℕ) → j < le
 unfolding levelsAt
 levels-step j f s p l h = sym (snoc-store (levelsAt j (f % 128 * 2) s (p + f / 128)) j l (levelIf (f / 128) s p) h)
 
--- the levels at and above i are in the arrays, and those of the flags that are left stand from the next place on
+-- the levels at and above i are in the arrays, and those of the flags that are left lie from the next place on
 pub record Filled (s : List ℕ) (at flags m : ℕ) (present : List Bool) (idc : List ℕ) (next f i : ℕ) : Type 0 where
   pub low : i ≤ m
   pub byte : f < 256
@@ -86,6 +86,6 @@ words-more (suc n) s p =
     let e : p + 4 + n * 4 ≡ p + suc n * 4 = omega arith in
     ap (λ (l : List ℕ). be s p 4 ∷ l) (words-more n s (p + 4) ∙ ap (λ (q : ℕ). words n s (p + 4) ++ (be s q 4 ∷ [])) e)
 
--- one number more in the array
+-- one more number in the array
 pub words-store : (N n : ℕ) (s : List ℕ) (p : ℕ) → n < N → set (padded N 0 (words n s p)) n (be s (p + n * 4) 4) ≡ padded N 0 (words (n + 1) s p)
 words-store N n s p h = rw (add-one n, words-more n s p) (padded-more N 0 (words n s p) (be s (p + n * 4) 4) n (length-words n s p) h)

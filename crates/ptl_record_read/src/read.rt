@@ -1,4 +1,4 @@
-// Internal: the PTL record at a place of lent bytes.
+// Internal: reads the PTL record at a place of lent bytes.
 use boxes::Span;
 use boxes::place;
 use error::Refusal;
@@ -25,7 +25,7 @@ pub struct SublayerLevels {
     pub idc: [u8; 7],
 }
 
-// The n constraint bytes at a place, the two flags cleared.
+// The n constraint bytes at a place; the two flags are set to 0.
 fn read_constraint_info(s: &[u8], at: usize, n: usize) -> [u8; 63]
     requires { ⌜ (n ≤ 63) × (at + n ≤ length (now s)) ⌝ }
     ensures { λ r. ⌜ r ≡ padded 63 0 (withoutFlags (take n (drop at (now (s .entry))))) ⌝ }
@@ -37,14 +37,14 @@ fn read_constraint_info(s: &[u8], at: usize, n: usize) -> [u8; 63]
     info
 }
 
-// The level at a place where its flag is set.
+// The level at a place where its flag is set, else 0.
 fn level_if(flag: u8, s: &[u8], at: usize) -> u8
     ensures { λ r. ⌜ r ≡ levelIf flag (now (s .entry)) at ⌝ }
 {
     if flag == 1 { place::byte(s, at) } else { 0 }
 }
 
-// The levels of the sublayers below m, which stand from the highest down; a set flag is the top bit.
+// Reads the levels of the sublayers below m, which lie from the highest down; a sublayer's flag is the top bit of what is left of `flags`.
 fn read_levels(s: &[u8], at: usize, flags: u8, m: usize) -> SublayerLevels
     requires { ⌜ (m ≤ 7) × (at ≤ 2 ^ 31) ⌝ }
     ensures { λ r. ⌜ (r .next ≤ at + 7)
@@ -87,14 +87,14 @@ fn read_sub_profiles(s: &[u8], at: usize, n: usize) -> [u32; 255]
     a
 }
 
-// The flags in front of the levels.
+// The byte of flags before the levels, 0 where there is none.
 fn flags_at(sublayers: u8, s: &[u8], at: usize) -> u8
     ensures { λ r. ⌜ r ≡ flagsAt sublayers (now (s .entry)) at ⌝ }
 {
     if 1 < sublayers { place::byte(s, at) } else { 0 }
 }
 
-// The place after those flags.
+// The place after that byte.
 fn levels_start(sublayers: u8, at: usize) -> usize
     requires { ⌜ at ≤ 2 ^ 31 ⌝ }
     ensures { λ r. ⌜ (r ≡ levelsStart sublayers at) × (at ≤ r) × (r ≤ at + 1) ⌝ }
@@ -143,7 +143,7 @@ fn refused(e: Refusal) -> PtlRecordRead
     }
 }
 
-// What follows the first byte of the record at a place, which told of n constraint bytes. Refusal: 1.
+// Reads the record at a place, whose first byte has the constraint length n. Refusal: 1.
 fn read_after(s: &[u8], at: usize, n: usize, sublayers: u8) -> PtlRecordRead
     requires { ⌜ (length (now s) ≤ 2 ^ 30) × (at < length (now s)) × (sublayers ≤ 7) × (n ≡ getD (now s) at 0 % 64) × (0 < n) ⌝ }
     ensures { λ r. ⌜ ptlRecordOf r ≡ orZeros zeroPtl (vvcPtlRecord sublayers (now (s .entry)) at) ⌝ }
@@ -167,7 +167,7 @@ fn read_after(s: &[u8], at: usize, n: usize, sublayers: u8) -> PtlRecordRead
     }
 }
 
-// The PTL record at a place, for so many sublayers. Refusals in byte order: 1, 2 for a constraint length of 0.
+// Reads the PTL record at a place, for a number of sublayers. Refusals in byte order: 1, 2 for a constraint length of 0.
 pub fn read_ptl(s: &[u8], at: usize, sublayers: u8) -> PtlRecordRead
     requires { ⌜ (length (now s) ≤ 2 ^ 30) × (sublayers ≤ 7) ⌝ }
     ensures { λ r. ⌜ ptlRecordOf r ≡ orZeros zeroPtl (vvcPtlRecord sublayers (now (s .entry)) at) ⌝ }

@@ -1,4 +1,4 @@
--- Laws of the bytes of a PTL record as they are stored: one part after the other, and in the parts one element after the other.
+-- Laws of the bytes of a PTL record as they are stored: one field after another, and in the fields one element after another.
 use Prim.Native.Nat.{ℕ, suc, _+_, _*_, _/_, _≤_, _<_}
 use mathlib.Core.Path.{_≡_, refl, sym, ap, _∙_}
 use mathlib.Core.List.{List, [], _∷_, _++_, append-assoc, append-nil}
@@ -56,7 +56,7 @@ unfolding subProfileBytes
 subs-append [] ys = refl
 subs-append (v ∷ vs) ys = rw (subs-append vs ys) (sym (append-assoc (toBe 4 v) (subProfileBytes vs) (subProfileBytes ys)))
 
--- one sub-profile more of an array, stored after those before it
+-- one more sub-profile of an array, stored after those before it
 pub subs-more : (d : List ℕ) (at k : ℕ) (a : List ℕ) → k < length a
     → sets (sets d at (subProfileBytes (take k a))) (at + k * 4) (toBe 4 (getD a k 0)) ≡ sets d at (subProfileBytes (take (k + 1) a))
 unfolding subProfileBytes
@@ -112,7 +112,7 @@ module _ (p : VvcPtlRecord) (sublayers : ℕ) where
   abbrev S : List ℕ
   S = subProfileBytes (take (p .«num_sub_profiles») (p .«general_sub_profile_idc»))
 
-  -- the parts, stored one after the other
+  -- the fields, stored one after another
   pub ptl-stored : (d : List ℕ) (at : ℕ)
       → sets (set (sets (sets d at F) (at + length F) L) (at + length F + length L) (p .«num_sub_profiles»)) (at + length F + length L + 1) S
       ≡ sets d at (ptlBytes p sublayers)

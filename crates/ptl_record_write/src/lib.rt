@@ -1,2 +1,2 @@
-// VvcPTLRecord of ISO/IEC 14496-15 11.2.4.2 measured and written.
+// Measures and writes VvcPTLRecord (ISO/IEC 14496-15 11.2.4.1) of a full record.
 pub mod write;

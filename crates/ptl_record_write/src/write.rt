@@ -1,4 +1,4 @@
-// Internal: the bytes of a PTL record measured, and stored at a place of lent memory that has room for them.
+// Internal: measures a PTL record, and stores its bytes at a place of lent memory that has room for them.
 use boxes::place;
 use ptl::VvcPtlRecord;
 ghost use mathlib.Core.Bool.{true};
@@ -34,7 +34,7 @@ pub fn bit_of(b: bool) -> u8
     if b { 1 } else { 0 }
 }
 
-// How many constraint bytes are written: none count as one.
+// How many constraint bytes are written: 1 where there are none.
 fn constraint_len(p: VvcPtlRecord) -> usize
     requires { ⌜ p .«num_bytes_constraint_info» ≤ 63 ⌝ }
     ensures { λ r. ⌜ (r ≡ length (constraintInfo p)) × (1 ≤ r) × (r ≤ 63) ⌝ }
@@ -43,7 +43,7 @@ fn constraint_len(p: VvcPtlRecord) -> usize
     if n == 0 { 1 } else { n }
 }
 
-// Whether a level is there for sublayer i.
+// Whether sublayer i has a level.
 fn has_level(p: VvcPtlRecord, i: usize) -> bool
     requires { ⌜ i < 7 ⌝ }
     ensures { λ r. ⌜ r ≡ hasLevel p i ⌝ }
@@ -70,7 +70,7 @@ fn levels_len(p: VvcPtlRecord, m: usize) -> usize
     n
 }
 
-// The length of the flag byte and the levels, which are there above one sublayer.
+// The length of the flag byte and the levels, 0 for at most one sublayer.
 fn level_part_len(p: VvcPtlRecord, sublayers: u8) -> usize
     requires { ⌜ sublayers ≤ 7 ⌝ }
     ensures { λ r. ⌜ (r ≡ length (levelPart p sublayers)) × (r ≤ 7) ⌝ }
@@ -81,7 +81,7 @@ fn level_part_len(p: VvcPtlRecord, sublayers: u8) -> usize
     1 + levels_len(p, ptl_record::levels::level_count(sublayers))
 }
 
-// The length of a PTL record for so many sublayers.
+// The length of a PTL record for a number of sublayers.
 pub fn ptl_len(p: VvcPtlRecord, sublayers: u8) -> usize
     requires { ⌜ (ptlFits p ≡ true) × (sublayers ≤ 7) ⌝ }
     ensures { λ r. ⌜ (r ≡ length (ptlBytes p sublayers)) × (r ≤ 1094) ⌝ }
@@ -92,7 +92,7 @@ pub fn ptl_len(p: VvcPtlRecord, sublayers: u8) -> usize
     3 + info + levels + 1 + count * 4
 }
 
-// The first constraint byte, its top two bits frame-only and multilayer; without constraint bytes it is 0 but for them.
+// The first constraint byte: the top two bits are the frame-only flag and the multilayer flag; without constraint bytes the others are 0.
 fn first_byte(p: VvcPtlRecord) -> u8
     ensures { λ r. ⌜ r ≡ firstConstraintByte p ⌝ }
 {
@@ -117,7 +117,7 @@ fn put_info(out: &mut [u8], at: usize, p: VvcPtlRecord, n: usize)
     place::copy(&info[0..n], out, at);
 }
 
-// Stores what comes before the levels, and gives the place after it.
+// Stores what comes before the levels, and returns the place after it.
 fn put_front(out: &mut [u8], at: usize, p: VvcPtlRecord) -> usize
     requires { ⌜ (p .«general_profile_idc» ≤ 127) × (p .«num_bytes_constraint_info» ≤ 63) × (at + length (frontBytes p) ≤ length (now out)) ⌝ }
     ensures { λ r. ⌜ (r ≡ at + length (frontBytes p)) × (now (out .exit) ≡ sets (now (out .entry)) at (frontBytes p)) × (r ≤ at + 66) ⌝ }
@@ -145,7 +145,7 @@ fn flag_byte(p: VvcPtlRecord, m: usize) -> u8
     f
 }
 
-// Stores a level, where it is there, and gives the place after it.
+// Stores a level, where there is one, and returns the place after it.
 fn put_level(out: &mut [u8], at: usize, present: bool, level: u8) -> usize
     requires { ⌜ at + length (oneLevel present level) ≤ length (now out) ⌝ }
     ensures { λ r. ⌜ (r ≡ at + length (oneLevel present level)) × (now (out .exit) ≡ sets (now (out .entry)) at (oneLevel present level)) ⌝ }
@@ -157,7 +157,7 @@ fn put_level(out: &mut [u8], at: usize, present: bool, level: u8) -> usize
     at
 }
 
-// Stores the levels that are there, from the highest sublayer below m down, and gives the place after them.
+// Stores the levels of the sublayers below m that have one, from the highest down, and returns the place after them.
 fn put_levels(out: &mut [u8], at: usize, p: VvcPtlRecord, m: usize) -> usize
     requires { ⌜ (m ≤ 7) × (at + length (levelBytes p m) ≤ length (now out)) ⌝ }
     ensures { λ r. ⌜ (r ≡ at + length (levelBytes p m)) × (now (out .exit) ≡ sets (now (out .entry)) at (levelBytes p m)) ⌝ }
@@ -172,7 +172,7 @@ fn put_levels(out: &mut [u8], at: usize, p: VvcPtlRecord, m: usize) -> usize
     w
 }
 
-// Stores the flag byte and the levels, above one sublayer, and gives the place after them.
+// Stores the flag byte and the levels, only for more than one sublayer, and returns the place after them.
 fn put_level_part(out: &mut [u8], at: usize, p: VvcPtlRecord, sublayers: u8) -> usize
     requires { ⌜ (sublayers ≤ 7) × (at + length (levelPart p sublayers) ≤ length (now out)) ⌝ }
     ensures { λ r. ⌜ (r ≡ at + length (levelPart p sublayers)) × (now (out .exit) ≡ sets (now (out .entry)) at (levelPart p sublayers)) ⌝ }
@@ -198,7 +198,7 @@ fn put_sub_profiles(out: &mut [u8], at: usize, a: [u32; 255], n: usize)
     }
 }
 
-// Stores the bytes of a PTL record for so many sublayers from a place on, and gives the place after them.
+// Stores the bytes of a PTL record for a number of sublayers from a place on, and returns the place after them.
 pub fn put_ptl(out: &mut [u8], at: usize, p: VvcPtlRecord, sublayers: u8) -> usize
     requires { ⌜ (ptlFits p ≡ true) × (sublayers ≤ 7) × (at + length (ptlBytes p sublayers) ≤ length (now out)) ⌝ }
     ensures { λ r. ⌜ (r ≡ at + length (ptlBytes p sublayers)) × (now (out .exit) ≡ sets (now (out .entry)) at (ptlBytes p sublayers)) × (r ≤ at + 1094) ⌝ }

@@ -1,4 +1,4 @@
--- The worked bytes of this crate, computed by the definitions.
+-- The worked bytes of SCOPE 7 for this crate, computed by the definitions.
 use mathlib.Core.Path.{_≡_, refl}
 use mathlib.Core.List.{[], _∷_}
 use Rattle.rbsp.specs.Rbsp.{drops, nextZeros, unescape, rbsp}

@@ -1,4 +1,4 @@
--- The RBSP written to the front of an output, whole or as far as there is room.
+-- Laws of the RBSP written to the front of an output, whole or as far as there is room.
 use mathlib.Core.Path.{_≡_, refl, ap, sym, _∙_}
 use mathlib.Core.Bool.{true, false}
 use mathlib.Core.List.{List, _∷_, _++_, append-nil}
@@ -13,7 +13,7 @@ use Rattle.rbsp.specs.Rbsp.{drops, nextZeros, unescape, rbsp, extractRbs
 use Rattle.rbsp.specs.inner.Front.{Front}
 use Rattle.rbsp.proofs.Removal.{step-dropped, step-kept, step-end, zeros-le}
 
--- The loop that writes: n bytes of the RBSP of p stand at the front of o, and what is after i is left to do.
+-- The loop that writes: n bytes of the RBSP of p are at the front of o, and what comes after i is left to do.
 pub record Filled (p o₀ o : List ℕ) (z n i : ℕ) : Type 0 where
   pub within : i ≤ length p
   pub few : z ≤ i
@@ -25,7 +25,7 @@ pub record Filled (p o₀ o : List ℕ) (z n i : ℕ) : Type 0 where
 pub fill-start : (p o : List ℕ) → Filled p o o 0 0 0
 fill-start p o = record { within = omega arith; few = omega arith; room = omega arith; long = refl; done = refl; kept = refl }
 
--- one element more is cut
+-- one more element is cut
 drop-more : (o o₀ : List ℕ) (n : ℕ) → drop n o ≡ drop n o₀ → drop (n + 1) o ≡ drop (n + 1) o₀
 drop-more o o₀ n e = sym (drop-drop 1 n o) ∙ ap (drop 1) e ∙ drop-drop 1 n o₀
 
@@ -52,7 +52,7 @@ module _ (p o₀ o : List ℕ) (z z′ n i : ℕ) (f : Filled p o₀ o z n i) (h
     kept = drop-set-lt (n + 1) o n (getD p i 0) (omega arith) ∙ drop-more o o₀ n (f .kept);
   }
 
--- bytes that fit stand there whole
+-- bytes that fit are written whole
 front-fits : (bytes o : List ℕ) → length bytes ≤ length o → overlay (take (length o) bytes) o ≡ overlay bytes o
 front-fits bytes o h = rw (take-all (length o) bytes h)
 
@@ -92,7 +92,7 @@ module _ (p o : List ℕ) where
       let long : n ≡ length (rbsp p) = omega (arith, f .count) in
       rw (le-leb (length p) (2 ^ 30) h, le-leb (length (rbsp p)) (length o) (omega arith), ← front-fits (rbsp p) o (omega arith), ← f .stands, long)
 
--- Internal: what a fill left at the front is as much of the bytes as there was room for.
+-- What a fill left at the front is as much of the bytes as there was room for.
 pub front-part : (bytes o₀ o : List ℕ) (k n : ℕ) → length o₀ ≡ k → Front bytes o₀ o n → take n o ≡ take k bytes
 front-part bytes o₀ o k n e f =
     let h : length (take (length o₀) bytes) ≡ n = omega (arith, length-take (length o₀) bytes, f .count) in

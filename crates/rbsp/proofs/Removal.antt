@@ -1,4 +1,4 @@
--- Emulation prevention removed one byte after the other.
+-- Laws of emulation prevention removed byte by byte.
 use mathlib.Core.Path.{_≡_, ap}
 use mathlib.Core.Bool.{true, false}
 use mathlib.Core.List.{List, [], _∷_}

@@ -1,11 +1,11 @@
-// Internal: as much of a payload's RBSP as a buffer has room for, and the RBSP's length.
+// Internal: writes as much of a payload's RBSP as an output has room for, and measures the RBSP.
 ghost use mathlib.Core.Path.{_≡_};
 ghost use Prim.Native.Nat.{_<_, _^_};
 ghost use lib.ListN.{length};
 ghost use Rattle.rbsp.specs.Rbsp.{drops, nextZeros, rbsp};
 ghost use Rattle.rbsp.specs.inner.Front.{Front};
 
-// Whether a byte is dropped: a 03 after two or more zeros.
+// Whether a byte is left out: a 03 after two or more zeros.
 fn is_dropped(zeros: usize, b: u8) -> bool
     ensures { λ r. ⌜ r ≡ drops zeros b ⌝ }
 {
@@ -15,7 +15,7 @@ fn is_dropped(zeros: usize, b: u8) -> bool
     b == 3
 }
 
-// The zeros in a row once a byte is passed.
+// How many zeros come directly before the byte after `b`.
 fn next_zeros(zeros: usize, b: u8) -> usize
     requires { ⌜ zeros < 2 ^ 63 ⌝ }
     ensures { λ r. ⌜ r ≡ nextZeros zeros b ⌝ }
@@ -23,7 +23,7 @@ fn next_zeros(zeros: usize, b: u8) -> usize
     if b == 0 { zeros + 1 } else { 0 }
 }
 
-// The length of the RBSP, found without writing it.
+// The length of the RBSP, without writing it.
 pub fn rbsp_len(payload: &[u8]) -> usize
     ensures { λ r. ⌜ r ≡ length (rbsp (now (payload .entry))) ⌝ }
 {
@@ -41,7 +41,7 @@ pub fn rbsp_len(payload: &[u8]) -> usize
     n
 }
 
-// As much of the RBSP as there is room for, at the front of `out`, and how many bytes that is.
+// Writes as much of the RBSP as there is room for to the front of `out`, and returns how many bytes that is.
 pub fn fill_rbsp(payload: &[u8], out: &mut [u8]) -> usize
     ensures { λ r. ⌜ Front (rbsp (now (payload .entry))) (now (out .entry)) (now (out .exit)) r ⌝ }
 {

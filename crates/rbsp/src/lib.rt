@@ -1,4 +1,4 @@
-// Emulation prevention removed from a payload.
+// Removes emulation prevention from a payload (SCOPE 3.4).
 pub mod fill;
 
 use error::LARGEST_INPUT;
@@ -8,7 +8,7 @@ ghost use mathlib.Core.Path.{_≡_};
 ghost use Rattle.parse.specs.Answers.{writtenOf};
 ghost use Rattle.rbsp.specs.Rbsp.{extractRbsp};
 
-// The RBSP of a payload at the front of `out`, and its length. Refusals: 23, 20.
+// Writes the RBSP of a payload to the front of `out`, and returns its length. Refusals: 23, 20.
 pub fn extract_rbsp(payload: &[u8], out: &mut [u8]) -> Written
     ensures { λ r. ⌜ (writtenOf r, now (out .exit)) ≡ extractRbsp (now (payload .entry)) (now (out .entry)) ⌝ }
 {

@@ -1,4 +1,4 @@
--- Worked bytes, computed from the definitions.
+-- Worked bytes, computed by the definitions.
 use mathlib.Core.Path.{_≡_, refl}
 use mathlib.Core.List.{[], _∷_}
 use Rattle.parse.specs.Outcome.{accept, refuse}

@@ -1,4 +1,4 @@
--- An item made of any number of units and split again: the same units, lying where they were put.
+-- An item written from any number of units and split again: the same units, where they were written.
 use Prim.Native.Nat.{ℕ, suc, _+_, _^_, _≤_, _<_}
 use mathlib.Core.Path.{_≡_, refl, sym, ap, _∙_}
 use mathlib.Core.List.{List, [], _∷_, _++_, map, append-nil, append-assoc}
@@ -16,11 +16,11 @@ use Rattle.split.specs.Item.{splitItem, toItem}
 use Rattle.split.proofs.Items.{left-more, left-end, items-left, split-lent}
 use Rattle.split.specs.inner.Walk.{itemUnitsFrom}
 
--- no unit is empty, and each fits a length of so many bytes
+-- no unit is empty, and the length of each fits `size` bytes
 abbrev pub AllFit : ℕ → List (List ℕ) → Type 0
 AllFit size us = (k : ℕ) → k < length us → (0 < length (getD us k [])) × (length (getD us k []) < 256 ^ size)
 
--- where the units of an item lie that were put there from place p on
+-- where the units of an item lie that were written from place p on
 unfoldable pub placed : ℕ → ℕ → List (List ℕ) → List Span
 placed size p [] = []
 placed size p (u ∷ us) = record { start = p + size; len = length u } ∷ placed size (p + size + length u) us
@@ -55,7 +55,7 @@ pub record ItemSplit (size : ℕ) (us : List (List ℕ)) : Type 0 where
   pub bytes : map (held (toItem size us)) spans ≡ us
   pub count : countFound (splitItem size (toItem size us)) ≡ accept (length us)
 
--- an item that is made of units is split into those units
+-- an item that is written from units is split into those units
 pub split-made : (size : ℕ) (us : List (List ℕ)) → 1 ≤ size → size ≤ 4 → AllFit size us → length (toItem size us) ≤ 2 ^ 30 → ItemSplit size us
 split-made size us one four f l =
     let m = made-left size (toItem size us) us f [] 0 refl refl in

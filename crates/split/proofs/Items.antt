@@ -35,7 +35,7 @@ use Rattle.boxes.proofs.PrefixSizes.{not-outside}
 -- ### the unit at a place
 
 module _ (size : ℕ) (s : List ℕ) (p : ℕ) where
-  -- the length is not there
+  -- the length runs past the end
   unit-no-length : length s < p + size → itemUnit size s p ≡ refused 1
   unfolding itemUnit
   unit-no-length h = rw (uint-short size s p h)
@@ -46,7 +46,7 @@ module _ (size : ℕ) (s : List ℕ) (p : ℕ) where
     unit-zero e = rw (uint-there size s p there, eq-eqb (be s p size) 0 e)
 
     module _ (any : be s p size ≡ 0 → ⊥) where
-      -- the bytes are not all there
+      -- the bytes run past the end
       unit-no-bytes : length s < p + size + be s p size → itemUnit size s p ≡ refused 1
       unfolding itemUnit
       unit-no-bytes h = rw (uint-there size s p there, ne-eqb (be s p size) 0 any, bytes-short (be s p size) s (p + size) h)
@@ -227,7 +227,7 @@ module _ (size : ℕ) (s : List ℕ) (p : ℕ) where
         | no k ↦ ap (walked size s) (step-here size s p (omega arith)) ∙ read-left (omega arith) (itemUnit size s p) refl
       ]
 
--- a turn of a walk: the unit found from place p on, in front of what is left after it
+-- a turn of a walk: the unit found from place p on, before what is left after it
 pub record Turn (size : ℕ) (s : List ℕ) (p : ℕ) (a : Span) (next : ℕ) : Type 0 where
   pub here : UnitAhead s p a next
   pub rest : itemUnitsFrom size s p ≡ more a (itemUnitsFrom size s next)
@@ -303,7 +303,7 @@ split-sound size s n e =
     never : (m : ℕ) → splitItem size s ≡ refuse m → Sound size s n
     never m w = let z : _≡_ {A = ℕ} 0 1 = cc (ap countFound w) in absurd (omega arith)
 
--- ### a walk by `next_item_unit` gives the units of `split_length_prefixed`, or its refusal
+-- ### a walk by `next_item_unit` finds the units of `split_length_prefixed`, or its refusal
 
 module _ (size : ℕ) (s : List ℕ) (lent : length s ≤ 2 ^ 30) (low : 0 < size) (four : size ≤ 4) where
   pub cursor-start : splitItem size s ≡ itemUnitsFrom size s 0
@@ -312,7 +312,7 @@ module _ (size : ℕ) (s : List ℕ) (lent : length s ≤ 2 ^ 30) (low : 0 < siz
   pub cursor-step : (p : ℕ) → itemUnitsFrom size s p ≡ walked size s (nextItemUnit size s p)
   cursor-step p = sym (walk-step size s p) ∙ ap (walked size s) (sym (next-step size s p lent (not-outside size low four)))
 
--- ### where the units of an accepted item lie: one after the other inside it
+-- ### where the units of an accepted item lie: one after another inside it
 
 module _ (size : ℕ) (s : List ℕ) (xs : List Span) where
   pub items-apart : itemUnits size s ≡ accept xs → Apart (length s) 0 xs

@@ -1,4 +1,5 @@
--- Splitting what was put together gives the units back: of a stream of units after start codes, and of an item of one unit (ItemRoundTrip has any number).
+-- Splitting what was put together finds the same units: in a stream of units after start codes, and in an item of one unit (ItemRoundTrip
+-- has any number).
 use Prim.Native.Nat.{ℕ, suc, _+_, _-_, _^_, _≤_, _<_}
 use mathlib.Core.Path.{_≡_, refl, sym, ap, _∙_}
 use mathlib.Core.List.{List, [], _∷_, _++_, map, append-assoc, append-nil}
@@ -41,7 +42,7 @@ stops-within StartCode.four r = omega arith
 abbrev pub AllSplittable : List (List ℕ) → Type 0
 AllSplittable us = (k : ℕ) → k < length us → Splittable (getD us k [])
 
--- what stands between a unit's start code and the next, or the end, is the unit when trailing zeros are cut
+-- what is between a unit's start code and the next one, or the end, is the unit when trailing zeros are cut off
 unit-between : {code : List ℕ} → StartCode code → (u : List ℕ) (us : List (List ℕ)) → Splittable u
     → trim (take (scan (u ++ annexB code us)) (u ++ annexB code us)) ≡ u
 unfolding annexB
@@ -71,7 +72,7 @@ module _ (code : List ℕ) (c : StartCode code) where
     at-pre : drop (length pre) stream ≡ code ++ (u ++ annexB code us)
     at-pre = drop-append-seam pre (code ++ (u ++ annexB code us))
 
-    -- where its start code's last three bytes stand
+    -- where its start code's last three bytes are
     place : startCodeFrom stream (length pre) + 3 ≡ length pre + length code
     place = let e = ap scan at-pre in let f = scan-code c (u ++ annexB code us) in omega arith
 

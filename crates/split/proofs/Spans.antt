@@ -1,4 +1,4 @@
--- Spans one after the other, none empty: those of the units of an item and of a stream.
+-- Laws of spans one after another, none empty: those of the units of an item and of a stream.
 use Prim.Native.Nat.{ℕ, zero, suc, _+_, _≤_, _<_}
 use mathlib.Core.List.{List, [], _∷_}
 use native.Mathlib.Omega.{arith}
@@ -21,7 +21,7 @@ pub apart-sum : {e p : ℕ} {xs : List Span} → Apart e p xs → p + (length xs
 apart-sum (none h) = omega arith
 apart-sum (more h k r) = let l = apart-sum r in omega arith
 
--- each ends at e or before; so does the empty span in front of all, which stands for none
+-- each ends at e or before; so does the empty span, which is used where there is none
 pub apart-inside : {e p : ℕ} {xs : List Span} → Apart e p xs → (k : ℕ) → getD xs k nowhere .start + getD xs k nowhere .len ≤ e
 apart-inside (none h) k = omega arith
 apart-inside {e} (more h l r) zero = let b = apart-sum r in omega arith

@@ -1,4 +1,4 @@
--- Laws of streams: the units from a place on, unit by unit. A walk that goes on after each unit meets exactly them.
+-- Laws of streams: the units from a place on, unit by unit. A walk that goes on after each unit finds exactly these.
 use Prim.Native.Nat.{ℕ, zero, suc, _+_, _-_, _^_, _≤_, _<_}
 use mathlib.Core.Path.{_≡_, refl, sym, ap, _∙_}
 use mathlib.Core.List.{List, [], _∷_}
@@ -35,7 +35,7 @@ scan-nil = refl
 module _ (s : List ℕ) where
   -- ### the scan
 
-  -- where the scan stopped it stays
+  -- from where the scan stopped it stops at once
   pub scan-stays : (p : ℕ) → scan (drop (startCodeFrom s p) s) ≡ 0
   scan-stays p =
       let l : length (drop p s) ≡ length s - p = length-drop p s in
@@ -65,7 +65,7 @@ module _ (s : List ℕ) where
   unfolding segment
   segment-advances p a q e = let z : startCodeFrom s (p + 3) ≡ q = cc in omega arith
 
-  -- it is never refused
+  -- reading segments is never refused
   record Walked (p : ℕ) : Type 0 where
     spans : List Span
     after : ℕ
@@ -142,7 +142,7 @@ module _ (s : List ℕ) where
 
   -- ### unit by unit
 
-  -- the firstNext unit from a place on, in front of those from the place after it on; or there is none
+  -- the first unit from a place on, before those from the place after it on; or there is none
   pub data View (p : ℕ) : Type 0 where
     ends : streamUnitsFrom s p ≡ [] → View p
     unit : (a : Span) → UnitAhead s p a (a .start + a .len) → streamUnitsFrom s p ≡ a ∷ streamUnitsFrom s (a .start + a .len) → View p
@@ -216,7 +216,7 @@ module _ (s : List ℕ) where
   unfolding splitStream
   split-whole = refl
 
-  -- 23 alone
+  -- the only refusal is 23
   pub split-lent : length s ≤ 2 ^ 30 → splitStream s ≡ accept (streamUnitsFrom s 0)
   split-lent h = split-whole ∙ rw (le-leb (length s) (2 ^ 30) h)
 
@@ -229,7 +229,7 @@ module _ (s : List ℕ) where
   pub left-lent : (p : ℕ) → length s ≤ 2 ^ 30 → streamLeft p ≡ accept (streamUnitsFrom s p)
   left-lent p h = rw (le-leb (length s) (2 ^ 30) h)
 
-  -- a turn of a walk: the unit found from place p on, in front of those from place b on
+  -- a turn of a walk: the unit found from place p on, before those from place b on
   pub record Passed (p : ℕ) (a : Span) (b : ℕ) : Type 0 where
     pub lent : length s ≤ 2 ^ 30
     pub here : UnitAhead s p a b

@@ -1,4 +1,4 @@
--- Laws of `trim`: what a last byte does, and that what is left stands in front.
+-- Laws of `trim`: what a last byte does, and that what is left is the front.
 use Prim.Native.Nat.{ℕ, zero, suc, _+_, _-_, _≤_, _<_}
 use mathlib.Core.Path.{_≡_, refl, sym, ap, _∙_}
 use mathlib.Core.List.{List, [], _∷_, _++_}
@@ -11,7 +11,7 @@ pub trim-nil : trim [] ≡ []
 unfolding trim
 trim-nil = refl
 
--- a last zero is cut
+-- a last zero is cut off
 pub trim-zero : (l : List ℕ) → trim (l ++ 0 ∷ []) ≡ trim l
 unfolding trim trimOnto
 trim-zero [] = refl
@@ -31,7 +31,7 @@ some-last : (l : List ℕ) (x : ℕ) → 0 < length (l ++ x ∷ [])
 some-last [] x = omega arith
 some-last (y ∷ l) x = omega arith
 
--- after any other last byte nothing is
+-- where the last byte is another, nothing is cut off
 pub trim-other : (l : List ℕ) (x : ℕ) → (x ≡ 0 → ⊥) → trim (l ++ x ∷ []) ≡ l ++ x ∷ []
 unfolding trim
 trim-other [] x h = onto-none x h

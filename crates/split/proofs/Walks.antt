@@ -1,4 +1,4 @@
--- A walk, turn by turn: what is left at a place joined to what was counted or passed before stays what was asked for.
+-- Laws of a walk, turn by turn: what is left from a place on, with what was counted or passed before, makes up the answer.
 use Prim.Native.Nat.{ℕ, zero, suc, _+_, _-_, _<_}
 use mathlib.Core.Path.{_≡_, refl, sym, ap, _∙_}
 use mathlib.Core.List.{List, []}
@@ -9,7 +9,7 @@ use Rattle.boxes.specs.declared.Span.{Span}
 use Rattle.boxes.proofs.Walk.{plus, total, count-more, found-here, found-next}
 use Rattle.parse.specs.inner.Walk.{more}
 
--- counting, with n counted before and t to be answered
+-- counting, with n counted before; t is the answer
 module _ (n : ℕ) (t : Outcome ℕ) (o : Outcome (List Span)) (whole : plus n (countFound o) ≡ t) where
   pub count-on : (a : Span) (rest : Outcome (List Span)) → o ≡ more a rest → plus (n + 1) (countFound rest) ≡ t
   count-on a rest e = sym (count-more n a rest) ∙ ap (λ (o : Outcome (List Span)). plus n (countFound o)) (sym e) ∙ whole
@@ -20,7 +20,7 @@ module _ (n : ℕ) (t : Outcome ℕ) (o : Outcome (List Span)) (whole : plus n (
   pub count-refused : (k : ℕ) → o ≡ refuse k → refuse k ≡ t
   count-refused k e = ap (λ (o : Outcome (List Span)). plus n (countFound o)) (sym e) ∙ whole
 
--- finding, with i units to pass and the unit x to be answered
+-- finding, with i units to pass; the unit x is the answer
 module _ (i : ℕ) (x : Span) (o : Outcome (List Span)) (there : i < total o) (whole : found o i ≡ x) (a : Span) (rest : Outcome (List Span)) (e : o ≡ more a rest) where
   pub find-here : i ≡ 0 → a ≡ x
   find-here z = go i z there whole

@@ -1,4 +1,4 @@
--- What the answers of this crate say.
+-- The answers of the steps over an item (SCOPE 3.12) and over a stream (SCOPE 3.13).
 use Prim.Native.Nat.{ℕ, _+_}
 use mathlib.Core.List.{List, [], _∷_}
 use mathlib.Core.Option.{Option, none, some}
@@ -15,22 +15,23 @@ use Rattle.split.specs.declared.NextUnit.{NextUnit}
 use Rattle.split.specs.declared.NextUnit.the-variants as N
 use Rattle.boxes.specs.Bytes.{outside}
 
--- the next unit from a place on, with the place after it
+-- the next unit from a place on, and the place to continue from
 pub record Next : Type 0 where
   pub unit : Span
   pub next : ℕ
 
+-- the answer of a step, none at the end
 abbrev pub nextOf : NextUnit → Outcome (Option Next)
 nextOf (N.Unit a next) = accept (some (record { unit = a; next = next }))
 nextOf N.End = accept none
 nextOf (N.Refused e) = refuse (numberOf e)
 
--- the unit at a place of an item
+-- the unit whose length is at a place of an item
 abbrev pub unitRead : Parsed Span → Outcome (Option Next)
 unitRead (value a p) = accept (some (record { unit = a; next = p }))
 unitRead (refused e) = refuse e
 
--- one step over an item: at the end and after it there is no unit
+-- one step over an item: at or after the end there is no unit
 unfoldable pub itemStep : ℕ → List ℕ → ℕ → Outcome (Option Next)
 itemStep size item p = if leb (length item) p then accept none else unitRead (itemUnit size item p)
 
@@ -38,11 +39,11 @@ itemStep size item p = if leb (length item) p then accept none else unitRead (it
 unfoldable pub nextItemUnit : ℕ → List ℕ → ℕ → Outcome (Option Next)
 nextItemUnit size item p = lentInput item (if outside size then refuse 4 else itemStep size item p)
 
--- the firstNext unit of a stream's
+-- the first of these units, and the place after it
 abbrev pub firstNext : List Span → Option Next
 firstNext [] = none
 firstNext (a ∷ xs) = some (record { unit = a; next = a .start + a .len })
 
--- `next_unit`: 23 alone
+-- `next_unit`: 23
 abbrev pub nextGiven : List ℕ → ℕ → Outcome (Option Next)
 nextGiven s p = lentInput s (accept (firstNext (streamUnitsFrom s p)))

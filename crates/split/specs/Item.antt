@@ -1,4 +1,4 @@
--- Items of length-prefixed units (ISO/IEC 14496-15 4.3.3, the sample format).
+-- Items: units, each after its length (SCOPE 3.12; ISO/IEC 14496-15 4.3.3, the sample format).
 use Prim.Native.Nat.{ℕ}
 use mathlib.Core.List.{List, [], _∷_, _++_}
 use lib.Dec.{eqb}
@@ -8,14 +8,14 @@ use Rattle.parse.specs.Parse.{Parser, _>>=_, _>>_, refuseIf, many, outcome}
 use Rattle.boxes.specs.Bytes.{uint, bytes, toChunk, outside}
 use Rattle.boxes.specs.declared.Span.{Span}
 
--- NALUnitLength and NALUnit: "in byte order 1 and 5 (zero length)"
+-- NALUnitLength and NALUnit: in byte order 1, and 5 directly after a length of 0
 unfoldable pub itemUnit : ℕ → Parser Span
 itemUnit size = do
   n ← uint size
   refuseIf (eqb n 0) 5
   bytes n
 
--- the units of an item
+-- the units of an item: 4, then in byte order 1 and 5
 unfoldable pub itemUnits : ℕ → List ℕ → Outcome (List Span)
 itemUnits size item = if outside size then refuse 4 else outcome (many (itemUnit size) item 0)
 
@@ -23,7 +23,7 @@ itemUnits size item = if outside size then refuse 4 else outcome (many (itemUnit
 unfoldable pub splitItem : ℕ → List ℕ → Outcome (List Span)
 splitItem size item = lentInput item (itemUnits size item)
 
--- Made: the units of an item, each after its length
+-- written: units, each after its length
 unfoldable pub toItem : ℕ → List (List ℕ) → List ℕ
 toItem size [] = []
 toItem size (u ∷ us) = toChunk size u ++ toItem size us

@@ -1,4 +1,4 @@
--- Annex B streams: units between start codes (H.266 annex B), trailing zeros cut, empty units omitted.
+-- Annex B streams: units between start codes, trailing zeros cut off, empty units left out (SCOPE 3.13; H.266 annex B).
 use Prim.Native.Nat.{ℕ, zero, suc, _+_, _-_}
 use mathlib.Core.List.{List, [], _∷_, _++_}
 use lib.Dec.{eqb}
@@ -9,7 +9,7 @@ use Rattle.parse.specs.Parse.{Parsed, value, refused, Parser, many}
 use Rattle.boxes.specs.declared.Span.{Span}
 use Rattle.nal.specs.StartCode.{startCodeFrom}
 
--- x in front of what is left of the bytes after it, unless both are nothing but zeros
+-- x before what is left of the bytes after it; a zero before nothing is cut off
 unfoldable pub trimOnto : ℕ → List ℕ → List ℕ
 trimOnto zero [] = []
 trimOnto (suc x) [] = suc x ∷ []
@@ -26,25 +26,25 @@ segment s p =
     let next = startCodeFrom s (p + 3) in
     value (record { start = p + 3; len = length (trim (take (next - (p + 3)) (drop (p + 3) s))) }) next
 
--- "empty ones omitted"
+-- without the empty ones
 unfoldable pub nonEmpty : List Span → List Span
 nonEmpty [] = []
 nonEmpty (a ∷ xs) = if eqb (a .len) 0 then nonEmpty xs else a ∷ nonEmpty xs
 
--- what was read; a walk over segments is never refused
+-- what was read; reading segments is never refused
 abbrev pub allRead : Parsed (List Span) → List Span
 allRead (value xs p) = xs
 allRead (refused e) = []
 
--- the units whose start codes stand at or after a place
+-- the units whose start codes are at or after a place
 unfoldable pub streamUnitsFrom : List ℕ → ℕ → List Span
 streamUnitsFrom s p = nonEmpty (allRead (many segment s (startCodeFrom s p)))
 
--- `split_annex_b`: 23 alone
+-- `split_annex_b`: 23
 unfoldable pub splitStream : List ℕ → Outcome (List Span)
 splitStream s = lentInput s (accept (streamUnitsFrom s 0))
 
--- units after start codes, one after another
+-- written: units, each after a start code
 unfoldable pub annexB : List ℕ → List (List ℕ) → List ℕ
 annexB startCode [] = []
 annexB startCode (u ∷ us) = startCode ++ (u ++ annexB startCode us)

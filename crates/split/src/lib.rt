@@ -1,6 +1,5 @@
-// Items and streams split into their units.
-// Document 01 asks that a label leaves a walk over units: it names the walk, also where the `break` stands inside a match. With one loop to a
-// function a plain `break` would leave the same one.
+// Splits items (SCOPE 3.12) and streams (SCOPE 3.13) into their units.
+// The label 'walk names the loop over units that a `break` inside a match ends.
 pub mod walk;
 
 use boxes::Span;
@@ -20,14 +19,14 @@ ghost use Rattle.split.specs.Item.{splitItem};
 ghost use Rattle.split.specs.Stream.{splitStream};
 ghost use Rattle.split.specs.Answers.{nextOf, nextItemUnit, nextGiven};
 
-// The next unit of an item or a stream and the place after it, to go on from; the end; or a refusal.
+// The next unit of an item or a stream and the place to continue from; the end; or a refusal.
 pub enum NextUnit {
     Unit(Span, usize),
     End,
     Refused(Refusal),
 }
 
-// How many units an item of length-prefixed units has. Refusals: 23, 4, then in byte order 1 and 5.
+// How many units an item has. Refusals: 23, 4, then in byte order 1 and 5.
 pub fn split_length_prefixed_count(item: &[u8], length_size: u8) -> Counted
     ensures { λ r. ⌜ countOf r ≡ countFound (splitItem «length_size» (now (item .entry))) ⌝ }
 {
@@ -40,8 +39,8 @@ pub fn split_length_prefixed_count(item: &[u8], length_size: u8) -> Counted
     walk::item_count(item, place::wide(length_size))
 }
 
-// Where unit k of an item lies, from 0 on. It is counted first: a refusal further on leaves no unit. Refusals: 23, 4, then in byte order 1
-// and 5.
+// Where unit k of an item lies, counted from 0. The whole item is read first: a refusal after unit k is the call's answer too.
+// Refusals: 23, 4, then in byte order 1 and 5.
 pub fn split_length_prefixed_at(item: &[u8], length_size: u8, k: usize) -> UnitPlace
     ensures { λ r. ⌜ (placeOf r ≡ placeFound inFirst (splitItem «length_size» (now (item .entry))) k) × PlaceFits (now (item .entry)) [] r ⌝ }
 {
@@ -58,7 +57,7 @@ pub fn split_length_prefixed_at(item: &[u8], length_size: u8, k: usize) -> UnitP
     }
 }
 
-// Unit k of an item, a part of it; the empty part past the last unit and on a refusal.
+// Unit k of an item, as a part of it; the empty part past the last unit and on a refusal.
 pub fn split_length_prefixed(item: &[u8], length_size: u8, k: usize) -> &[u8]
     ensures { λ r. ⌜ PartOf r (item .entry) (found (splitItem «length_size» (now (item .entry))) k) ⌝ }
 {
@@ -66,7 +65,7 @@ pub fn split_length_prefixed(item: &[u8], length_size: u8, k: usize) -> &[u8]
     place::part_at(item, unit)
 }
 
-// The unit whose length stands at a place of an item, and the place after it, to go on from. Refusals: 23, 4, then in byte order 1 and 5.
+// The unit whose length is at a place of an item, and the place to continue from. Refusals: 23, 4, then in byte order 1 and 5.
 pub fn next_item_unit(item: &[u8], length_size: u8, from: usize) -> NextUnit
     ensures { λ r. ⌜ nextOf r ≡ nextItemUnit «length_size» (now (item .entry)) from ⌝ }
 {
@@ -82,7 +81,7 @@ pub fn next_item_unit(item: &[u8], length_size: u8, from: usize) -> NextUnit
     walk::item_step(item, place::wide(length_size), from)
 }
 
-// The first unit whose start code stands at or after a place, and the place after it, to go on from. Refusal: 23.
+// The first unit whose start code is at or after a place, and the place to continue from. Refusal: 23.
 pub fn next_unit(stream: &[u8], from: usize) -> NextUnit
     ensures { λ r. ⌜ nextOf r ≡ nextGiven (now (stream .entry)) from ⌝ }
 {
@@ -136,7 +135,7 @@ pub fn split_annex_b_count(stream: &[u8]) -> Counted
     Counted::Count(n)
 }
 
-// Where unit k of a stream lies, from 0 on. Refusal: 23.
+// Where unit k of a stream lies, counted from 0. Refusal: 23.
 pub fn split_annex_b_at(stream: &[u8], k: usize) -> UnitPlace
     ensures { λ r. ⌜ (placeOf r ≡ placeFound inFirst (splitStream (now (stream .entry))) k) × PlaceFits (now (stream .entry)) [] r ⌝ }
 {
@@ -163,7 +162,7 @@ pub fn split_annex_b_at(stream: &[u8], k: usize) -> UnitPlace
     unit
 }
 
-// Unit k of a stream, a part of it; the empty part past the last unit and on a refusal.
+// Unit k of a stream, as a part of it; the empty part past the last unit and on a refusal.
 pub fn split_annex_b(stream: &[u8], k: usize) -> &[u8]
     ensures { λ r. ⌜ PartOf r (stream .entry) (found (splitStream (now (stream .entry))) k) ⌝ }
 {

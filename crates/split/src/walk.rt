@@ -1,6 +1,5 @@
-// Internal: the steps of the walks over items and streams.
-// Document 01 asks that a label leaves a walk over units: it names the walk, also where the `break` stands inside a match. With one loop to a
-// function a plain `break` would leave the same one.
+// Internal: walks over the units of an item, and cuts trailing zeros off the units of a stream.
+// The label 'walk names the loop over units that a `break` inside a match ends.
 use super::NextUnit;
 use boxes::Span;
 use boxes::place;
@@ -15,7 +14,7 @@ ghost use Rattle.split.specs.Stream.{trim};
 ghost use Rattle.split.specs.Answers.{nextOf, itemStep};
 ghost use Rattle.split.specs.inner.Walk.{itemUnitsFrom, HasUnit};
 
-// The unit whose length stands at a place of an item, and the place after it.
+// The unit whose length is at a place of an item, and the place after it; at the end there is none. Refusals in byte order: 1 and 5.
 pub fn item_step(item: &[u8], size: usize, at: usize) -> NextUnit
     requires { ⌜ (1 ≤ size) × (size ≤ 4) × (at ≤ length (now item)) × (length (now item) ≤ 2 ^ 30) ⌝ }
     ensures { λ r. ⌜ nextOf r ≡ itemStep size (now (item .entry)) at ⌝ }
@@ -42,7 +41,7 @@ pub fn item_step(item: &[u8], size: usize, at: usize) -> NextUnit
     NextUnit::Unit(unit, start + len)
 }
 
-// How many units an item has.
+// How many units an item has. Refusals in byte order: 1 and 5.
 pub fn item_count(item: &[u8], size: usize) -> Counted
     requires { ⌜ (1 ≤ size) × (size ≤ 4) × (length (now item) ≤ 2 ^ 30) ⌝ }
     ensures { λ r. ⌜ countOf r ≡ countFound (itemUnitsFrom size (now (item .entry)) 0) ⌝ }
@@ -88,7 +87,7 @@ pub fn item_unit(item: &[u8], size: usize, k: usize) -> Span
     unit
 }
 
-// How many of the bytes between two places are left without the trailing zeros.
+// How many of the bytes between two places are left when trailing zeros are cut off.
 pub fn trimmed(s: &[u8], from: usize, to: usize) -> usize
     requires { ⌜ (from ≤ to) × (to ≤ length (now s)) ⌝ }
     ensures { λ r. ⌜ (r ≡ length (trim (take (to - from) (drop from (now (s .entry)))))) × (from + r ≤ to) ⌝ }

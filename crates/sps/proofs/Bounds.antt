@@ -28,12 +28,12 @@ use Rattle.sps.specs.declared.sections.SpsIds.{SpsIds}
 use Rattle.sps.proofs.SpsSections.{sps-sections}
 use Rattle.params.proofs.Units.{accepted}
 
--- a refusal that was not given: its test failed
+-- where there was no refusal its test failed
 passed-test : (b : Bool) (n : ℕ) (s : List ℕ) (p : ℕ) {a : Unit {0}} {q : ℕ} → refuseIf b n s p ≡ value a q → b ≡ false
 passed-test true n s p e = let z : _≡_ {A = ℕ} 0 1 = cc in absurd (omega arith)
 passed-test false n s p e = refl
 
--- the fields in front of the PTL: two bytes
+-- the fields before the PTL: two bytes
 pub record IdsBounds (p : ℕ) (i : SpsIds) (q : ℕ) : Type 0 where
   pub next : q ≡ p + 16
   pub sublayers : i .«max_sublayers_minus1» ≤ 7

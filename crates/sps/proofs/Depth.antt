@@ -1,4 +1,4 @@
--- The subpictures' flag and the bit depth, after a read: the answers.
+-- Laws of the subpictures' flag and the bit depth, after a read: the answers.
 use mathlib.Core.Path.{_≡_, sym, refl, _∙_}
 use mathlib.Core.List.{List}
 use Prim.Native.Nat.{ℕ, _≤_, _<_}
@@ -13,7 +13,7 @@ use Rattle.bit_reader.specs.declared.BitsRead.the-variants.{Value, Refused}
 use Rattle.bit_reader.proofs.Chain.{bind-next}
 use Rattle.sps.specs.inner.Sections.{depth}
 
--- a number that a test refuses, or that is handed on
+-- a number that a test refuses, or that is passed on
 module _ (s : List ℕ) where
   abbrev tested : (r : BitsRead) → Parsed ℕ
   tested r = bind (parsed r) (λ _ q. bind (refuseIf (ltb 8 (numberIn r)) 14 s q) (λ _ t. value (numberIn r) t))

@@ -1,4 +1,4 @@
--- The worked SPS of this crate, computed by the definitions.
+-- The worked SPS of SCOPE 7, computed by the definitions.
 use mathlib.Core.Path.{_≡_, refl}
 use mathlib.Core.Bool.{true, false}
 use mathlib.Core.List.{[], _∷_}

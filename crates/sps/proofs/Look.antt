@@ -1,4 +1,4 @@
--- How far an SPS's head looks: no further than its first 1,132 RBSP bytes.
+-- Of an SPS's head at most the first 1,132 RBSP bytes are read.
 use mathlib.Core.Path.{_≡_}
 use mathlib.Core.List.{List}
 use Prim.Native.Nat.{ℕ}
@@ -43,6 +43,6 @@ local-sps =
     local-bind 0 0 (local-refuse-if (ltb 8 d) 14) (λ _.
     local-give _))))))))))))))))))
 
--- ---- "No head needs more than its first 1,132 RBSP bytes."
+-- ---- 1,132 bytes of the RBSP suffice (SCOPE 3.7)
 pub sps-looks : (s : List ℕ) → spsHead (take 1132 s) 0 ≡ spsHead s 0
 sps-looks s = local-sps .same 1132 s 0 (lit≤ tt)

@@ -1,4 +1,4 @@
--- The head of an SPS as bits (H.266 7.3.2.4), of a unit and of an RBSP.
+-- The head of an SPS as bits (SCOPE 3.7; H.266 7.3.2.4), read from a unit or from an RBSP.
 use mathlib.Core.Bool.{false}
 use mathlib.Core.List.{List}
 use Prim.Native.Nat.{ℕ, _+_}
@@ -11,7 +11,7 @@ use Rattle.ptl.specs.Ptl.{profileTierLevel, zeroPtl}
 use Rattle.params.specs.OfUnit.{ofUnit}
 use Rattle.sps.specs.declared.SpsHead.{SpsHead}
 
--- sps_conf_win_left_offset, right, top, bottom
+-- sps_conf_win_left_offset, sps_conf_win_right_offset, sps_conf_win_top_offset, sps_conf_win_bottom_offset
 pub record Window : Type 0 where
   pub left : ℕ
   pub right : ℕ
@@ -26,10 +26,11 @@ window = do
   bottom ← ue
   give (record { left = left; right = right; top = top; bottom = bottom })
 
+-- the offsets without the window flag
 abbrev pub noWindow : Window
 noWindow = record { left = 0; right = 0; top = 0; bottom = 0 }
 
--- 7.3.2.4, seq_parameter_set_rbsp( ) up to sps_bitdepth_minus8
+-- seq_parameter_set_rbsp( ) up to sps_bitdepth_minus8
 unfoldable pub spsHead : Parser SpsHead
 spsHead = do
   id ← u 4  -- sps_seq_parameter_set_id
@@ -68,6 +69,7 @@ spsHead = do
     «bit_depth» = depth + 8;
   })
 
+-- all zeros
 abbrev pub zeroSps : SpsHead
 zeroSps = record {
   «sps_id» = 0;

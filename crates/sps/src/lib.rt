@@ -1,4 +1,4 @@
-// An SPS's head: what it says up to its bit depth.
+// Reads the head of an SPS: its fields up to the bit depth (SCOPE 3.7).
 pub mod sections;
 
 use error::LARGEST_INPUT;
@@ -10,7 +10,7 @@ use ptl::VvcPtlRecord;
 ghost use mathlib.Core.Path.{_≡_};
 ghost use Rattle.sps.specs.Answers.{spsOf, spsGiven, spsRbspGiven};
 
-// An SPS up to its bit depth (H.266 7.3.2.4). The window's four values are 0 without its flag, the PTL all zeros without its.
+// An SPS up to its bit depth (H.266 7.3.2.4). Without the window flag the four offsets are 0, without a PTL the PTL is all zeros.
 pub struct SpsHead {
     pub sps_id: u8,
     pub vps_id: u8,
@@ -29,14 +29,14 @@ pub struct SpsHead {
     pub bit_depth: u8,
 }
 
-// An SPS head, all zeros on a refusal.
+// Whether an SPS was read, and its head, all zeros on a refusal.
 pub struct SpsRead {
     pub answer: ParamsAnswer,
     pub head: SpsHead,
 }
 
 impl SpsHead {
-    // The head of an SPS unit, two-byte header included. Refusals: 23, 10, then in bit order 11, 12, 13, 14.
+    // Reads the head of an SPS from its unit, the two-byte header included. Refusals: 23, 10, then in bit order 11, 12, 13, 14.
     pub fn parse_nal(nal: &[u8]) -> SpsRead
         ensures { λ r. ⌜ spsOf r ≡ spsGiven (now (nal .entry)) ⌝ }
     {
@@ -49,7 +49,7 @@ impl SpsHead {
         sections::parse_payload(&nal[2..])
     }
 
-    // The head of an SPS's RBSP, of which 1,132 bytes are enough. Refusals: 23, then in bit order 11, 12, 13, 14.
+    // Reads the head of an SPS from its RBSP, of which the first 1,132 bytes suffice. Refusals: 23, then in bit order 11, 12, 13, 14.
     pub fn parse_rbsp(rbsp: &[u8]) -> SpsRead
         ensures { λ r. ⌜ spsOf r ≡ spsRbspGiven (now (rbsp .entry)) ⌝ }
     {

@@ -1,4 +1,4 @@
-// Internal: an SPS's head from the first bytes of its RBSP, read in the sections of its syntax table.
+// Internal: reads the head of an SPS from the first bytes of its RBSP, in sections of its syntax table.
 use super::SpsHead;
 use super::SpsRead;
 use bit_reader::BitPosition;
@@ -22,7 +22,7 @@ ghost use Rattle.sps.specs.Answers.{spsOf};
 ghost use Rattle.sps.specs.inner.Sections.{ids, ptlWhere, size, windowWhere, windowOf, depth, spsHeadOf};
 ghost use Rattle.params.specs.inner.Answers.{readOr};
 
-// The fields in front of the PTL.
+// The fields before the PTL.
 pub struct SpsIds {
     pub sps_id: u8,
     pub vps_id: u8,
@@ -32,7 +32,7 @@ pub struct SpsIds {
     pub ptl_present_flag: bool,
 }
 
-// A section's last read, which is refused where one of the section's is, and what was read.
+// The section's last read, which is refused where one of its reads is, and what was read.
 pub struct SpsIdsRead {
     pub answer: BitsRead,
     pub part: SpsIds,
@@ -45,12 +45,13 @@ pub struct SpsSize {
     pub conformance_window_flag: bool,
 }
 
+// The same of the picture's size.
 pub struct SpsSizeRead {
     pub answer: BitsRead,
     pub part: SpsSize,
 }
 
-// The conformance window's offsets.
+// The offsets of the conformance window.
 pub struct ConfWindow {
     pub left: u32,
     pub right: u32,
@@ -58,12 +59,13 @@ pub struct ConfWindow {
     pub bottom: u32,
 }
 
+// The same of the window.
 pub struct ConfWindowRead {
     pub answer: BitsRead,
     pub part: ConfWindow,
 }
 
-// The fields in front of the PTL, two bytes. Refusal: 11.
+// Reads the fields before the PTL, two bytes. Refusal: 11.
 fn read_ids(rbsp: &[u8], at: BitPosition) -> SpsIdsRead
     requires { ⌜ length (now rbsp) ≤ 1132 ⌝ }
     ensures { λ r. ⌜ (partAfter (r .answer) (r .part) ≡ ids (now (rbsp .entry)) (at .0)) × (r .part .«max_sublayers_minus1» ≤ 7) ⌝ }
@@ -88,7 +90,7 @@ fn read_ids(rbsp: &[u8], at: BitPosition) -> SpsIdsRead
     }
 }
 
-// The PTL after the fields in front of it where its flag is set, all zeros where not. Refusals: theirs, then 11.
+// Reads the PTL, which follows these fields, where its flag is set; else it is all zeros. Refusals: those of the fields, then 11.
 fn read_ptl(rbsp: &[u8], ids: SpsIdsRead) -> PtlBits
     requires { ⌜ (length (now rbsp) ≤ 1132) × (placeIn (ids .answer) % 8 ≡ 0) × (ids .part .«max_sublayers_minus1» ≤ 7) ⌝ }
     ensures { λ r. ⌜ partAfter (r .answer) (r .ptl) ≡ bind (parsed (ids .answer)) (λ _ q.
@@ -106,7 +108,7 @@ fn read_ptl(rbsp: &[u8], ids: SpsIdsRead) -> PtlBits
     }
 }
 
-// The fields from the PTL to the window's flag. Refusals: the read's before them, then 11, 12.
+// Reads the fields after the PTL, up to the window's flag. Refusals: those of the read before, then 11, 12.
 fn read_size(rbsp: &[u8], prior: BitsRead) -> SpsSizeRead
     requires { ⌜ length (now rbsp) ≤ 1132 ⌝ }
     ensures { λ r. ⌜ partAfter (r .answer) (r .part) ≡ bind (parsed prior) (λ _ q. size (now (rbsp .entry)) q) ⌝ }
@@ -128,7 +130,7 @@ fn read_size(rbsp: &[u8], prior: BitsRead) -> SpsSizeRead
     }
 }
 
-// The window's four offsets. Refusals: the read's before them, then 11, 12.
+// Reads the window's four offsets. Refusals: those of the read before, then 11, 12.
 fn read_offsets(rbsp: &[u8], prior: BitsRead) -> ConfWindowRead
     requires { ⌜ length (now rbsp) ≤ 1132 ⌝ }
     ensures { λ r. ⌜ partAfter (r .answer) (windowOf (r .part)) ≡ bind (parsed prior) (λ _ q. window (now (rbsp .entry)) q) ⌝ }
@@ -149,7 +151,7 @@ fn read_offsets(rbsp: &[u8], prior: BitsRead) -> ConfWindowRead
     }
 }
 
-// The window where its flag is set, all zeros where not. Refusals: the read's before it, then 11, 12.
+// Reads the window where its flag is set, else it is all zeros. Refusals: those of the read before, then 11, 12.
 fn read_window(rbsp: &[u8], size: SpsSizeRead) -> ConfWindowRead
     requires { ⌜ length (now rbsp) ≤ 1132 ⌝ }
     ensures { λ r. ⌜ partAfter (r .answer) (windowOf (r .part)) ≡ bind (parsed (size .answer)) (λ _ q.
@@ -172,7 +174,7 @@ fn read_window(rbsp: &[u8], size: SpsSizeRead) -> ConfWindowRead
     }
 }
 
-// The bit depth minus 8, after the subpictures' flag. Refusals: the read's before it, then in bit order 11, 12, 13, 14.
+// Reads the subpictures' flag and the bit depth minus 8. Refusals: those of the read before, then in bit order 11, 12, 13, 14.
 fn read_depth(rbsp: &[u8], prior: BitsRead) -> BitsRead
     requires { ⌜ length (now rbsp) ≤ 1132 ⌝ }
     ensures { λ r. ⌜ parsed r ≡ bind (parsed prior) (λ _ q. depth (now (rbsp .entry)) q) ⌝ }
@@ -244,7 +246,7 @@ fn head_of(i: SpsIdsRead, p: PtlBits, z: SpsSizeRead, w: ConfWindowRead, depth: 
     }
 }
 
-// An SPS's head from the first bytes of its RBSP. Refusals in bit order: 11, 12, 13, 14.
+// Reads the head of an SPS from the first bytes of its RBSP. Refusals in bit order: 11, 12, 13, 14.
 pub fn parse_front(rbsp: &[u8]) -> SpsRead
     requires { ⌜ length (now rbsp) ≤ 1132 ⌝ }
     ensures { λ r. ⌜ spsOf r ≡ readOr zeroSps (spsHead (now (rbsp .entry)) 0) ⌝ }
@@ -264,7 +266,7 @@ pub fn parse_front(rbsp: &[u8]) -> SpsRead
     SpsRead { answer, head }
 }
 
-// An SPS's head from its payload, of whose RBSP 1,132 bytes are enough. Refusals in bit order: 11, 12, 13, 14.
+// Reads the head of an SPS from its payload, of whose RBSP the first 1,132 bytes suffice. Refusals in bit order: 11, 12, 13, 14.
 pub fn parse_payload(payload: &[u8]) -> SpsRead
     ensures { λ r. ⌜ spsOf r ≡ readOr zeroSps (spsHead (rbsp (now (payload .entry))) 0) ⌝ }
 {

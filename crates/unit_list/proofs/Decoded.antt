@@ -35,7 +35,7 @@ after : {A B : Type 0} (x : Parsed A) (f : A → ℕ → Parsed B) (b : B) (r : 
 after (value a p) f b r e = record { given = a; place = p; first = refl; rest = e }
 after (refused n) f b r e = absurd (let z : _≡_ {A = ℕ} 0 1 = cc in omega arith)
 
--- equal answers that give an array have equal parts
+-- equal answers with an array have equal fields
 array-made : (c t : ℕ) (us : List Span) (r : ℕ) (x : Array Span) (q : ℕ) → _≡_ {A = Parsed (Array Span)} (value (record { complete = c; unitType = t; units = us }) r) (value x q)
     → (x .complete ≡ c) × (x .unitType ≡ t) × (_≡_ {A = Parsed (List Span)} (value us r) (value (x .units) q))
 array-made c t us r x q e =
@@ -118,7 +118,7 @@ module _ (s : List ℕ) (all : (i : ℕ) → getD s i 0 < 256) where
       let r : (be s p w * 256 + getD s (p + w) 0) % 256 ≡ getD s (p + w) 0 = omega (arith, all (p + w)) in
       rw (q, r, number-again p w (omega arith), ← getD-drop p s w 0) (sym (take-suc (drop p s) w 0 (omega arith)))
 
-  -- a length and the bytes after it, which stand in s up to place e
+  -- a length and the bytes after it, which lie in s up to place e
   chunk-again : (w p e : ℕ) (u : List ℕ) → e ≡ p + w + be s p w → e ≤ length s → u ++ drop e s ≡ drop (p + w) s → toChunk w u ++ drop e s ≡ drop p s
   unfolding toChunk
   chunk-again w p e u n h k =
@@ -130,7 +130,7 @@ module _ (s : List ℕ) (all : (i : ℕ) → getD s i 0 < 256) where
   held-again : (a : Span) → held s a ++ drop (a .start + a .len) s ≡ drop (a .start) s
   held-again a = rw (← drop-drop (a .len) (a .start) s) (take-append-drop (a .len) (drop (a .start) s))
 
-  -- an array's complete and type, in front of its units
+  -- an array's complete and type, before its units
   headed : (c u : ℕ) (rest : List ℕ) (i : ℕ) → c ≡ getD s i 0 → u ≡ getD s (i + 1) 0 → i + 2 ≤ length s → rest ≡ drop (i + 2) s → c ∷ u ∷ rest ≡ drop i s
   headed c u rest i f g h e =
       let two : i + 2 ≡ suc (suc i) = omega arith in

@@ -54,7 +54,7 @@ module _ (w : ℕ) (some : 1 ≤ w) (s : List ℕ) where
       ∙ rw (units-written us (pre ++ toChunk w u) (p + w + length u) (e ∙ sym (append-assoc pre (toChunk w u) (encodeUnits w us))) m (omega arith))
 
 module _ (w : ℕ) (s : List ℕ) where
-  -- units that stand anywhere in s hold their bytes
+  -- units that lie anywhere in s hold their bytes
   units-hold : (us : List (List ℕ)) (pre post : List ℕ) (p : ℕ) → s ≡ pre ++ (encodeUnits w us ++ post) → length pre ≡ p → length (encodeUnits w us) < 256 ^ w
       → map (held s) (placedUnits w p us) ≡ us
   unfolding encodeUnits placedUnits
@@ -74,7 +74,7 @@ restOf w a = a .complete ∷ a .unitType ∷ encodeUnits w (a .units)
 abbrev headOf : ℕ → Array (List ℕ) → List ℕ
 headOf w a = toBe w (length (restOf w a)) ++ (a .complete ∷ a .unitType ∷ [])
 
--- one array after others and in front of others
+-- one array between others
 module _ (w : ℕ) (s : List ℕ) (a : Array (List ℕ)) (pre post : List ℕ) (p : ℕ) (e : s ≡ pre ++ (encodeArray w a ++ post)) (l : length pre ≡ p)
     (f : length (encodeArray w a) < 256 ^ w) where
   length-array : length (encodeArray w a) ≡ w + length (restOf w a)

@@ -1,4 +1,4 @@
--- Laws of the walk that counts the wanted units and finds number k: what has been seen and what is left make the whole.
+-- Laws of the walk that counts the wanted units and finds number k: what is passed and what is left make up the whole.
 use Prim.Native.Nat.{ℕ, _+_, _-_, _^_, _≤_, _<_}
 use mathlib.Core.Path.{_≡_, refl, sym, ap, _∙_, subst}
 use mathlib.Core.Bool.{Bool, true, false}
@@ -28,7 +28,7 @@ use Rattle.unit_list.specs.declared.find.Seen.{Seen}
 use Rattle.unit_list.proofs.Turns.{wanted-more, wanted-less, ListTurn, list-found, wanted-end, wanted-malformed, start-typed, start-refusal}
 
 module _ (s : List ℕ) (c : ListCursor) (w : Wanted) (k : ℕ) where
-  -- the walk from c has come to `here` and has seen what is done
+  -- the walk from c has come to `here` and has passed what is done
   pub record Walked (here : ListCursor) (seen : Seen) : Type 0 where
     pub fits : Fits s here
     pub done : List Span

@@ -39,7 +39,7 @@ module _ (w : Wanted) (x : TypedUnit) where
   wanted-less h (accept xs) = rw h
   wanted-less h (refuse e) = refl
 
--- a turn of the walk: the unit found after a cursor, in front of those after it
+-- a turn of the walk: the unit found after a cursor, before those after it
 pub record ListTurn (list : List ℕ) (here : ListCursor) (a : Span) (next : ListCursor) : Type 0 where
   pub passed : Passed list here a next
   pub ahead : here .at + 4 + a .len ≤ next .at

@@ -1,5 +1,5 @@
--- The unit list (document 01; the original's `arrays`): a byte 01, then arrays: 4-byte length of the array's rest, complete (0 or 1),
--- type (0 to 31), units, each a 4-byte length and bytes.
+-- The unit list (SCOPE 2; the original's `arrays`): the byte 01, then arrays. An array: a length of 4 bytes for all that follows in it,
+-- complete (0 or 1), type (0 to 31), then units, each after its length of 4 bytes.
 use Prim.Native.Nat.{ℕ}
 use mathlib.Core.Bool.{not}
 use mathlib.Core.List.{List, [], _∷_, _++_, map}
@@ -11,7 +11,7 @@ use Rattle.boxes.specs.Bytes.{uint, chunk, toChunk, inside}
 use Rattle.boxes.specs.Parts.{held}
 use Rattle.boxes.specs.declared.Span.{Span}
 
--- One array: the original's VvcNalArray. A unit is given by the place where it lies (Span) or by its bytes (List ℕ).
+-- An array (the original's VvcNalArray). Its units are spans (U is Span) or bytes (U is List ℕ).
 pub record Array (U : Type 0) : Type 0 where
   pub complete : ℕ
   pub unitType : ℕ
@@ -21,7 +21,7 @@ pub record Array (U : Type 0) : Type 0 where
 abbrev pub largestType : ℕ
 largestType = 31
 
--- what follows an array's length, unit lengths being w bytes wide
+-- what follows an array's length; the lengths of its units have w bytes
 unfoldable pub arrayRest : ℕ → Parser (Array Span)
 arrayRest w = do
   c ← uint 1
@@ -31,24 +31,25 @@ arrayRest w = do
   us ← many (chunk w)
   give (record { complete = c; unitType = t; units = us })
 
--- an array: its rest is read within the length before it
+-- an array: its length, and what follows, which is read within that length
 unfoldable pub array : ℕ → Parser (Array Span)
 array w = do
   rest ← chunk w
   inside rest (arrayRest w)
 
--- the width of the lengths in a list of version 01
+-- how many bytes a length has in a list of version 01
 abbrev pub listWidth : ℕ
 listWidth = 4
 
+-- the version, then arrays up to the end
 unfoldable pub unitList : Parser (List (Array Span))
 unitList = do
   version ← uint 1
   refuseIf (not (eqb version 1)) 21
   many (array listWidth)
 
--- The arrays of a list. 23, then "21 where a list is taken: no byte, version not 01, complete above 1, type above 31, or a field or
--- length past the end of its list or array".
+-- The arrays of a list. Refusals: 23; then 21 for a list without a byte, a version other than 01, complete above 1, a type above 31, or a
+-- field or a length that goes past the end of its list or array.
 unfoldable pub decode : List ℕ → Outcome (List (Array Span))
 decode s = lentInput s (outcomeOr 21 (unitList s 0))
 
@@ -57,23 +58,24 @@ unfoldable pub unitsOf : {U : Type 0} → List (Array U) → List U
 unitsOf [] = []
 unitsOf (a ∷ xs) = a .units ++ unitsOf xs
 
--- the units of a type, "by the array's type"
+-- the units in the arrays of a type, whatever the units' headers are
 unfoldable pub unitsOfType : {U : Type 0} → ℕ → List (Array U) → List U
 unitsOfType t [] = []
 unitsOfType t (a ∷ xs) = if eqb (a .unitType) t then a .units ++ unitsOfType t xs else unitsOfType t xs
 
--- the arrays with their units' bytes, which lie in s
+-- an array with the bytes that its units have in s
 abbrev pub heldArray : List ℕ → Array Span → Array (List ℕ)
 heldArray s a = record { complete = a .complete; unitType = a .unitType; units = map (held s) (a .units) }
 
 abbrev pub heldArrays : List ℕ → List (Array Span) → List (Array (List ℕ))
 heldArrays s xs = map (heldArray s) xs
 
--- Written. The units of an array, each after its length
+-- written: the units of an array, each after its length of w bytes
 unfoldable pub encodeUnits : ℕ → List (List ℕ) → List ℕ
 encodeUnits w [] = []
 encodeUnits w (u ∷ us) = toChunk w u ++ encodeUnits w us
 
+-- an array after its length
 unfoldable pub encodeArray : ℕ → Array (List ℕ) → List ℕ
 encodeArray w a = toChunk w (a .complete ∷ a .unitType ∷ encodeUnits w (a .units))
 
@@ -81,5 +83,6 @@ unfoldable pub encodeArrays : ℕ → List (Array (List ℕ)) → List ℕ
 encodeArrays w [] = []
 encodeArrays w (a ∷ xs) = encodeArray w a ++ encodeArrays w xs
 
+-- a list: the version, then the arrays
 unfoldable pub encode : List (Array (List ℕ)) → List ℕ
 encode xs = 1 ∷ encodeArrays listWidth xs

@@ -1,4 +1,4 @@
-// For this crate's calls and the crates further down: the wanted units of a list counted, and one of them found, in one walk.
+// Internal: counts the wanted units of a list and finds one of them, in one walk.
 use super::Found;
 use super::ListCursor;
 use super::ListStart;
@@ -16,7 +16,7 @@ ghost use Rattle.boxes.specs.Places.{inFirst, placeOf, placeFound, PlaceFits};
 ghost use Rattle.unit_list.specs.inner.Walk.{Fits, typedUnitsFrom};
 ghost use Rattle.unit_list.specs.inner.Find.{wants, Finds, wantedOf, wantedList, seeing};
 
-// The units seen so far: how many, and number k of them.
+// The wanted units passed so far: how many, and the span of number k.
 pub struct Seen {
     pub count: usize,
     pub unit: Span,
@@ -32,7 +32,7 @@ fn wanted(w: Wanted, t: u8) -> bool
     }
 }
 
-// One more unit seen, if it is wanted.
+// Counts one more unit, if it is wanted.
 fn see(seen: Seen, w: Wanted, k: usize, t: u8, a: Span) -> Seen
     requires { ⌜ seen .count < 2 ^ 30 ⌝ }
     ensures { λ r. ⌜ r ≡ seeing w k t a seen ⌝ }
@@ -55,7 +55,7 @@ fn see(seen: Seen, w: Wanted, k: usize, t: u8, a: Span) -> Seen
     }
 }
 
-// What the units after a cursor give.
+// Counts the wanted units after a cursor, and finds number k.
 pub fn find_from(list: &[u8], c: ListCursor, w: Wanted, k: usize) -> Found
     requires { ⌜ Fits (now list) c ⌝ }
     ensures { λ r. ⌜ Finds (now (list .entry)) (wantedOf w (typedUnitsFrom (now (list .entry)) c)) k r ⌝ }
@@ -87,7 +87,7 @@ pub fn find_from(list: &[u8], c: ListCursor, w: Wanted, k: usize) -> Found
     }
 }
 
-// What the units of a list give. Refusals: 23, 21.
+// Counts the wanted units of a list, and finds number k. Refusals: 23, 21.
 pub fn find(list: &[u8], w: Wanted, k: usize) -> Found
     ensures { λ r. ⌜ Finds (now (list .entry)) (wantedList w (now (list .entry))) k r ⌝ }
 {

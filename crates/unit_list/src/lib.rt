@@ -1,4 +1,4 @@
-// The unit list: the units of a record, grouped into arrays.
+// The unit list (SCOPE 2): counts and finds its units, all of them or those of a type; the walk over a list, and the writing of one.
 pub mod find;
 pub mod walk;
 pub mod write;
@@ -19,8 +19,8 @@ ghost use Rattle.unit_list.specs.Answers.{listUnits, listUnitsOfType};
 // The largest type that an array may have.
 pub const LARGEST_TYPE: u8 = 31;
 
-// Where a walk over a list stands: after `at` come the units of the array that ends at `end`, whose type is `unit_type`, and then the
-// arrays after it.
+// Where a walk over a list is: from place `at` on come the units that are left of the array that ends at `end` and has type `unit_type`; from
+// `end` on come the next arrays.
 pub struct ListCursor {
     pub at: usize,
     pub end: usize,
@@ -33,14 +33,14 @@ pub enum ListStart {
     Refused(Refusal),
 }
 
-// One step of the walk: a unit and where the walk goes on (the cursor has the unit's type), the end, or what makes the list malformed.
+// One step of the walk: a unit and the cursor after it, which has the type of the unit's array; the end; or that the list is malformed.
 pub enum ListStep {
     Unit(Span, ListCursor),
     End,
     Malformed,
 }
 
-// One step over whole arrays: whether the array is complete and the cursor in front of its units, the end, or what makes the list malformed.
+// One step over whole arrays: complete of an array and the cursor before its units; the end; or that the list is malformed.
 pub enum ArrayStep {
     Array(u8, ListCursor),
     End,
@@ -59,7 +59,7 @@ pub enum Wanted {
     OfType(u8),
 }
 
-// What a walk over the wanted units finds: how many there are, and where number k lies (start 0 and length 0 past the last and on a refusal).
+// What a walk over the wanted units finds: how many there are, and where number k lies (the empty part past the last and on a refusal).
 pub struct Found {
     pub counted: Counted,
     pub unit: Span,
@@ -73,14 +73,14 @@ pub fn nal_count(list: &[u8]) -> Counted
     r.counted
 }
 
-// Where unit k of a list lies, from 0 on. Refusals: 23, 21.
+// Where unit k of a list lies, counted from 0. Refusals: 23, 21.
 pub fn nal_unit_at(list: &[u8], k: usize) -> UnitPlace
     ensures { λ r. ⌜ (placeOf r ≡ placeFound inFirst (listUnits (now (list .entry))) k) × PlaceFits (now (list .entry)) [] r ⌝ }
 {
     find::unit_at(list, Wanted::Every, k)
 }
 
-// Unit k of a list, from 0 on; the empty part past the last and on a refusal.
+// Unit k of a list, counted from 0; the empty part past the last unit and on a refusal.
 pub fn nal_unit(list: &[u8], k: usize) -> &[u8]
     ensures { λ r. ⌜ PartOf r (list .entry) (found (listUnits (now (list .entry))) k) ⌝ }
 {
@@ -96,14 +96,14 @@ pub fn nal_count_of_type(list: &[u8], t: u8) -> Counted
     r.counted
 }
 
-// Where unit k in the arrays of a type lies, from 0 on. Refusals: 23, 21.
+// Where unit k in the arrays of a type lies, counted from 0. Refusals: 23, 21.
 pub fn nal_unit_of_type_at(list: &[u8], t: u8, k: usize) -> UnitPlace
     ensures { λ r. ⌜ (placeOf r ≡ placeFound inFirst (listUnitsOfType t (now (list .entry))) k) × PlaceFits (now (list .entry)) [] r ⌝ }
 {
     find::unit_at(list, Wanted::OfType(t), k)
 }
 
-// Unit k in the arrays of a type, from 0 on; the empty part past the last and on a refusal.
+// Unit k in the arrays of a type, counted from 0; the empty part past the last unit and on a refusal.
 pub fn nal_unit_of_type(list: &[u8], t: u8, k: usize) -> &[u8]
     ensures { λ r. ⌜ PartOf r (list .entry) (found (listUnitsOfType t (now (list .entry))) k) ⌝ }
 {

@@ -1,4 +1,4 @@
-// Internal: one walk over the units of a list, array after array.
+// Internal: the walk over the units of a list, array after array.
 use super::ArrayStep;
 use super::ChunkRead;
 use super::LARGEST_TYPE;
@@ -35,7 +35,7 @@ pub fn chunk(s: &[u8], at: usize, end: usize, width: usize) -> ChunkRead
     })
 }
 
-// The cursor after the version, in front of the first array. Refusals: 23, 21 for no byte or another version.
+// The cursor after the version, before the first array. Refusals: 23, 21 for no byte or another version.
 pub fn start(list: &[u8]) -> ListStart
     ensures { λ r. ⌜ (started (now (list .entry)) r ≡ typedList (now (list .entry))) × (arraysStarted (now (list .entry)) r ≡ decode (now (list .entry))) × StartFits (now (list .entry)) r ⌝ }
 {
@@ -98,7 +98,7 @@ pub fn unit_step(list: &[u8], c: ListCursor) -> ListStep
     ListStep::Unit(a, next)
 }
 
-// The next unit after a cursor, past arrays that have none left.
+// The next unit after a cursor; arrays without units left are passed over.
 pub fn step(list: &[u8], c: ListCursor) -> ListStep
     requires { ⌜ Fits (now list) c ⌝ }
     ensures { λ r. ⌜ (stepped (now (list .entry)) r ≡ typedUnitsFrom (now (list .entry)) c) × StepFits (now (list .entry)) c r ⌝ }

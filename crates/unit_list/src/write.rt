@@ -1,4 +1,4 @@
-// Internal: the pieces of a list, stored at a place of lent memory.
+// Internal: stores the pieces of a unit list at a place of lent memory.
 use boxes::Span;
 use boxes::place;
 ghost use mathlib.Core.Path.{_≡_};
@@ -9,7 +9,7 @@ ghost use lib.Seq.{sets};
 ghost use Rattle.boxes.specs.Bytes.{toBe, toChunk};
 ghost use Rattle.boxes.specs.Parts.{held};
 
-// What comes before an array's units: the length of its rest, complete, type.
+// Stores what comes before an array's units: the number of bytes after the length, complete, type.
 pub fn put_array_head(out: &mut [u8], at: usize, rest: usize, complete: u8, unit_type: u8)
     requires { ⌜ at + 6 ≤ length (now out) ⌝ }
     ensures { λ _. ⌜ now (out .exit) ≡ sets (now (out .entry)) at (toBe 4 rest ++ (complete ∷ «unit_type» ∷ [])) ⌝ }
@@ -19,7 +19,7 @@ pub fn put_array_head(out: &mut [u8], at: usize, rest: usize, complete: u8, unit
     place::put(out, at + 5, unit_type);
 }
 
-// A unit after its length of `width` bytes.
+// Stores a unit after its length of `width` bytes.
 pub fn put_chunk(src: &[u8], out: &mut [u8], at: usize, width: usize)
     requires { ⌜ (width ≤ 4) × (at + width + length (now src) ≤ length (now out)) ⌝ }
     ensures { λ _. ⌜ now (out .exit) ≡ sets (now (out .entry)) at (toChunk width (now (src .entry))) ⌝ }
@@ -28,7 +28,7 @@ pub fn put_chunk(src: &[u8], out: &mut [u8], at: usize, width: usize)
     place::copy(src, out, at + width);
 }
 
-// The bytes at a span of `src`, after their length of `width` bytes.
+// Stores the bytes at a span of `src` after their length of `width` bytes.
 pub fn put_unit(src: &[u8], a: Span, out: &mut [u8], at: usize, width: usize)
     requires { ⌜ (a .start + a .len ≤ length (now src)) × (width ≤ 4) × (at + width + a .len ≤ length (now out)) ⌝ }
     ensures { λ _. ⌜ now (out .exit) ≡ sets (now (out .entry)) at (toChunk width (held (now (src .entry)) a)) ⌝ }

@@ -1,4 +1,4 @@
--- What an accepted first-read PTL of a VPS says of its numbers.
+-- What holds of the numbers of an accepted first PTL of a VPS.
 use mathlib.Core.Path.{_≡_, sym, subst}
 use mathlib.Core.Bool.{not}
 use mathlib.Core.List.{List}

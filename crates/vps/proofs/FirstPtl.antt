@@ -1,4 +1,4 @@
--- The VPS's first-read PTL after what comes before it.
+-- Laws of a VPS's first PTL after the fields before it.
 use mathlib.Core.Path.{_≡_, refl, ap, sym, _∙_}
 use mathlib.Core.Bool.{not}
 use mathlib.Core.List.{List}

@@ -1,4 +1,4 @@
--- How far a VPS's first PTL looks: no further than its first 1,132 RBSP bytes.
+-- Of a VPS up to its first PTL at most the first 1,132 RBSP bytes are read.
 use mathlib.Core.Path.{_≡_}
 use mathlib.Core.Bool.{not}
 use mathlib.Core.List.{List}
@@ -24,6 +24,6 @@ local-vps =
     local-bind 7 8592 local-align (λ _.
     local-ptl m (omega (arith, u-read 3 s p m q e))))))))
 
--- ---- "No head needs more than its first 1,132 RBSP bytes."
+-- ---- 1,132 bytes of the RBSP suffice (SCOPE 3.7)
 pub vps-looks : (s : List ℕ) → vpsPtl (take 1132 s) 0 ≡ vpsPtl s 0
 vps-looks s = local-vps .same 1132 s 0 (lit≤ tt)

@@ -1,4 +1,4 @@
--- The fields in front of a VPS's PTL: the decision on the answers, and what the bit reader's steps give.
+-- Laws of the fields before a VPS's PTL: the decision on the answers, and what the bit reader's steps return.
 use mathlib.Core.Path.{_≡_, refl, ap, sym, _∙_}
 use mathlib.Core.Bool.{Bool, true, false, not}
 use mathlib.Core.List.{List}
@@ -24,7 +24,7 @@ use Rattle.bit_reader.proofs.Chain.{passed-for-read}
 use Rattle.bit_reader.proofs.ReaderCalls.{AtStart}
 use Rattle.vps.specs.inner.Front.{vpsFront, frontOf}
 
--- ---- the answers where the three reads before the layer test gave values
+-- ---- the answers where the three reads before the layer test returned values
 module _ (x₁ x₂ x₃ x₄ : BitsRead) (start i : ℕ) (p₁ : BitPosition) (h₁ : x₁ ≡ Value i p₁) (n : ℕ) (p₂ : BitPosition) (h₂ : x₂ ≡ Value n p₂) (m : ℕ) (p₃ : BitPosition) (h₃ : x₃ ≡ Value m p₃) where
   abbrev said : Parsed ℕ
   said = frontOf (parsed x₁) (parsed x₂) (parsed x₃) (parsed x₄) start

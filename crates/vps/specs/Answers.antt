@@ -1,4 +1,4 @@
--- What the answers of this crate say.
+-- The answer of `vps_first_ptl` (SCOPE 3.7).
 use Prim.Native.Nat.{ℕ}
 use mathlib.Core.List.{List}
 use Rattle.parse.specs.Outcome.{Outcome, handsBack}
@@ -10,10 +10,10 @@ use Rattle.params.specs.declared.ParamsAnswer.the-variants as A
 use Rattle.vps.specs.Vps.{vpsFirstPtl}
 use Rattle.vps.specs.declared.PtlRead.{PtlRead}
 
--- a PTL and what stands in the struct, on a refusal too
+-- what was read, and the PTL of the struct, on a refusal too
 abbrev pub vpsPtlOf : PtlRead → Outcome VvcPtlRecord × VvcPtlRecord
 vpsPtlOf r = (paramsReadOf (r .answer) (r .ptl), r .ptl)
 
--- `vps_first_ptl`: on a refusal all zeros
+-- `vps_first_ptl`: all zeros on a refusal
 abbrev pub ptlGiven : List ℕ → Outcome VvcPtlRecord × VvcPtlRecord
 ptlGiven unit = handsBack (λ p. p) zeroPtl (vpsFirstPtl unit)

@@ -1,4 +1,4 @@
--- A VPS up to its first PTL as bits (H.266 7.3.2.3), and of a unit.
+-- A VPS up to its first PTL as bits (SCOPE 3.7; H.266 7.3.2.3), read from a unit.
 use mathlib.Core.Bool.{not}
 use mathlib.Core.List.{List}
 use Prim.Native.Nat.{ℕ}
@@ -10,7 +10,7 @@ use Rattle.ptl.specs.Ptl.{profileTierLevel}
 use Rattle.ptl.specs.declared.VvcPtlRecord.{VvcPtlRecord}
 use Rattle.params.specs.OfUnit.{ofUnit}
 
--- 7.3.2.3, video_parameter_set_rbsp( ) up to its first PTL. With one layer the fields between vps_max_sublayers_minus1 and
+-- video_parameter_set_rbsp( ) up to its first PTL. With one layer the fields between vps_max_sublayers_minus1 and
 -- vps_ptl_alignment_zero_bit are vps_layer_id[ 0 ] alone.
 unfoldable pub vpsPtl : Parser VvcPtlRecord
 vpsPtl = do

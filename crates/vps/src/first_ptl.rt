@@ -1,4 +1,4 @@
-// Internal: a VPS's first PTL from the first bytes of its RBSP.
+// Internal: reads the first PTL of a VPS from the first bytes of its RBSP.
 use super::PtlRead;
 use bit_reader::BitPosition;
 use bit_reader::BitsRead;
@@ -38,7 +38,7 @@ fn params_answer(answer: BitsRead) -> ParamsAnswer
     }
 }
 
-// What the answers in front of the PTL say: vps_max_sublayers_minus1, and where the PTL starts. Refusals in bit order: 11, 15.
+// The fields before the PTL from the answers of their reads: vps_max_sublayers_minus1, and where the PTL starts. Refusals in bit order: 11, 15.
 fn front_of(
     id: BitsRead,
     layers: BitsRead,
@@ -66,7 +66,7 @@ fn front_of(
     BitsRead::Value(s, start)
 }
 
-// The fields in front of a VPS's PTL: the bit reader goes over them, and `front_of` decides.
+// Reads the fields before the PTL through the bit reader; `front_of` decides.
 fn front(rbsp: &[u8]) -> BitsRead
     requires { ⌜ length (now rbsp) ≤ 1132 ⌝ }
     ensures { λ r. ⌜ parsed r ≡ vpsFront (now (rbsp .entry)) 0 ⌝ }
@@ -87,7 +87,7 @@ fn front(rbsp: &[u8]) -> BitsRead
     )
 }
 
-// A VPS's first PTL from the first bytes of its RBSP. Refusals in bit order: 11, 15.
+// Reads the first PTL of a VPS from the first bytes of its RBSP. Refusals in bit order: 11, 15.
 fn parse_rbsp(rbsp: &[u8]) -> PtlRead
     requires { ⌜ length (now rbsp) ≤ 1132 ⌝ }
     ensures { λ r. ⌜ vpsPtlOf r ≡ readOr zeroPtl (vpsPtl (now (rbsp .entry)) 0) ⌝ }
@@ -101,7 +101,7 @@ fn parse_rbsp(rbsp: &[u8]) -> PtlRead
     PtlRead { answer, ptl: first }
 }
 
-// A VPS's first PTL from its payload, of whose RBSP 1,132 bytes are enough. Refusals in bit order: 11, 15.
+// Reads the first PTL of a VPS from its payload, of whose RBSP the first 1,132 bytes suffice. Refusals in bit order: 11, 15.
 pub fn parse_payload(payload: &[u8]) -> PtlRead
     ensures { λ r. ⌜ vpsPtlOf r ≡ readOr zeroPtl (vpsPtl (rbsp (now (payload .entry))) 0) ⌝ }
 {

@@ -1,4 +1,4 @@
-// The first PTL of a VPS.
+// Reads the first PTL of a VPS (SCOPE 3.7).
 pub mod first_ptl;
 
 use error::LARGEST_INPUT;
@@ -10,13 +10,13 @@ use ptl::VvcPtlRecord;
 ghost use mathlib.Core.Path.{_≡_};
 ghost use Rattle.vps.specs.Answers.{vpsPtlOf, ptlGiven};
 
-// A PTL, all zeros on a refusal.
+// Whether a PTL was read, and the PTL, all zeros on a refusal.
 pub struct PtlRead {
     pub answer: ParamsAnswer,
     pub ptl: VvcPtlRecord,
 }
 
-// The first PTL of a VPS unit. Refusals: 23, 10, then in bit order 11, 15.
+// Reads the first PTL of a VPS from its unit. Refusals: 23, 10, then in bit order 11, 15.
 pub fn vps_first_ptl(nal: &[u8]) -> PtlRead
     ensures { λ r. ⌜ vpsPtlOf r ≡ ptlGiven (now (nal .entry)) ⌝ }
 {

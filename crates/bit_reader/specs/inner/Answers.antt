@@ -1,4 +1,4 @@
--- What the answers of this crate say.
+-- Internal: what the answers of reads say.
 use Prim.Native.Nat.{ℕ}
 use Rattle.parse.specs.Parse.{Parsed, value, refused, bind}
 use Rattle.error.specs.Refusals.{numberOf}
@@ -12,21 +12,21 @@ abbrev pub parsed : BitsRead → Parsed ℕ
 parsed (Value v q) = value v (q .0)
 parsed (Refused e) = refused (numberOf e)
 
--- the refusal of a refused read; a value has none, and some refusal stands for that
+-- the refusal of a refused read; 11 for a value, which has none
 abbrev pub refusalOf : BitsRead → Refusal
 refusalOf (Value v q) = BitsRunOut
 refusalOf (Refused e) = e
 
--- the number of a read; a refused one has none, and 0 stands for that
+-- the number of a read; 0 for a refused one, which has none
 abbrev pub numberIn : BitsRead → ℕ
 numberIn (Value v q) = v
 numberIn (Refused e) = 0
 
--- the position after a read; a refused one has none, and 0 stands for that
+-- the position after a read; 0 for a refused one, which has none
 abbrev pub placeIn : BitsRead → ℕ
 placeIn (Value v q) = q .0
 placeIn (Refused e) = 0
 
--- what a section's last read says with what stands beside it; on a refusal nothing is said of that
+-- a section: its last read, and the value a that the section makes up; on a refusal nothing is said of a
 abbrev pub partAfter : {A : Type 0} → BitsRead → A → Parsed A
 partAfter r a = bind (parsed r) (λ _ q. value a q)

@@ -1,4 +1,4 @@
--- What a read through the bit reader gives: a parser at the reader's bytes and position.
+-- Internal: a read through the bit reader as a parser at the reader's bytes and position.
 use mathlib.Core.Path.{_≡_}
 use Prim.Native.Nat.{ℕ}
 use denote.Ref.{now}
@@ -17,7 +17,7 @@ abbrev pub readerPlaceAfter : Parsed ℕ → ℕ → ℕ
 readerPlaceAfter (value v q) p = q
 readerPlaceAfter (refused e) p = p
 
--- P read through the reader before: its answer, and the reader over the same bytes at its next place
+-- P read through the reader `before`: the answer, and the reader over the same bytes at its next position
 pub record Stepped (P : Parser ℕ) (before : BitReader) (r : ReaderStep) : Type 0 where
   pub answer : parsed (r .answer) ≡ P (now (before .src)) (before .pos .0)
   pub bytes : r .reader .src ≡ before .src

@@ -1,4 +1,4 @@
--- `number` gives the number that the definition states for each refusal: by cases, one line for each in `stands` and in the list at the end.
+-- `number` returns the number that the definition has for each refusal: by cases, one line for each in `stands` and in the list at the end.
 use Prim.Native.Nat.{ℕ, _<_, _^_}
 use mathlib.Core.Path.{_≡_, refl, sym, ap, _∙_}
 use mathlib.Core.Logic.{_⊎_, ⊎-elim}

@@ -1,4 +1,4 @@
--- `check_unit` says yes of a unit that is non-empty, lacks 00 00 01 and does not end in 00, else no; 23 first.
+-- `check_unit` answers yes for a unit that is not empty, has no 00 00 01 and does not end in 00, else no; 23 first.
 use Prim.Native.Nat.{ℕ, _<_}
 use mathlib.Core.Path.{_≡_, sym, _∙_}
 use mathlib.Core.List.{List}

@@ -1,4 +1,4 @@
--- `is_record_nal_type` tells the kinds that may stand in a record from the others.
+-- `is_record_nal_type` tells record kinds from the other kinds.
 use mathlib.Core.Path.{sym, ap, _∙_}
 use Rattle.nal.specs.Kinds.{isRecord}
 use Rattle.nal.proofs.UnitKinds.{not-record}

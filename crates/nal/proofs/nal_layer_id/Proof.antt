@@ -1,4 +1,4 @@
--- `nal_layer_id` gives the layer id of the unit's header, absent where its byte is, and 23 first.
+-- `nal_layer_id` returns the layer id of the unit's header, absent where its byte is, and 23 first.
 use Prim.Native.Nat.{ℕ}
 use mathlib.Core.Path.{sym}
 use mathlib.Core.List.{List}

@@ -1,4 +1,4 @@
--- `nal_temporal_id_plus1` gives the temporal id plus 1 of the unit's header, absent where its byte is, and 23 first.
+-- `nal_temporal_id_plus1` returns the temporal id plus 1 of the unit's header, absent where its byte is, and 23 first.
 use Prim.Native.Nat.{ℕ}
 use mathlib.Core.Path.{sym}
 use mathlib.Core.List.{List}

@@ -1,4 +1,4 @@
--- `nal_unit_type` gives the type of the unit's header, absent where its byte is, and 23 first.
+-- `nal_unit_type` returns the type of the unit's header, absent where its byte is, and 23 first.
 use Prim.Native.Nat.{ℕ}
 use mathlib.Core.Path.{sym}
 use mathlib.Core.List.{List}

@@ -1,4 +1,4 @@
--- `unit_kind` gives the kind of each type.
+-- `unit_kind` returns the kind of each type.
 use mathlib.Core.Path.{sym}
 use native.Mathlib.Omega.{arith}
 use Rattle.nal.specs.Kinds.{unitKind}

@@ -1,4 +1,4 @@
--- Types and kinds as the code tells them apart.
+-- Internal: types and kinds as the code tells them apart.
 use Prim.Native.Nat.{ℕ}
 use mathlib.Core.Bool.{Bool, false}
 use lib.Dec.{eqb}

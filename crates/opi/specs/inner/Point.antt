@@ -1,4 +1,4 @@
--- The operating point from the answers of the reads.
+-- Internal: the operating point from the answers of the reads.
 use Prim.Native.Nat.{ℕ}
 use Rattle.parse.specs.Logic.{if_then_else_}
 use Rattle.parse.specs.Parse.{Parsed, refused, bind}

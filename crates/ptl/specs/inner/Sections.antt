@@ -1,4 +1,4 @@
--- profile_tier_level( 1, s ) in the sections that the code reads one by one; a law says that they make up the whole.
+-- Internal: profile_tier_level( 1, s ) in the sections that the code reads one by one; a law says that they make up the whole.
 use mathlib.Core.Bool.{false}
 use Prim.Native.Nat.{ℕ}
 use lib.Dec.{ltb}
@@ -50,7 +50,7 @@ subProfiles = do
   subs ← times n (u 32)
   give (record { «num_sub_profiles» = n; «general_sub_profile_idc» = padded 255 0 subs })
 
--- the record of the four sections, s sublayers minus 1
+-- the PTL that the four sections make up; s is the number of sublayers minus 1
 abbrev pub ptlOfSections : ℕ → General → Constraints → Sublayers → SubProfiles → VvcPtlRecord
 ptlOfSections s g c l u = record {
   «general_profile_idc» = g .«general_profile_idc»;

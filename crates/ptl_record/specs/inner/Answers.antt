@@ -1,4 +1,4 @@
--- What the answers of this crate say.
+-- Internal: what the answers of this crate say.
 use Rattle.parse.specs.Parse.{Parsed, value, refused}
 use Rattle.error.specs.Refusals.{numberOf}
 use Rattle.ptl.specs.declared.VvcPtlRecord.{VvcPtlRecord}
@@ -10,6 +10,6 @@ abbrev pub ptlRecordRead : PtlRecordAnswer → VvcPtlRecord → Parsed VvcPtlRec
 ptlRecordRead (A.Read q) p = value p q
 ptlRecordRead (A.Refused e) p = refused (numberOf e)
 
--- what was read, and what stands in the struct, on a refusal too
+-- what was read, and the PTL of the struct, on a refusal too
 abbrev pub ptlRecordOf : PtlRecordRead → Parsed VvcPtlRecord × VvcPtlRecord
 ptlRecordOf r = (ptlRecordRead (r .answer) (r .ptl), r .ptl)

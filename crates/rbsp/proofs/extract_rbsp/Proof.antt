@@ -1,4 +1,4 @@
--- `extract_rbsp` gives the RBSP in the lent output, or 23 or 20 with the output unchanged.
+-- `extract_rbsp` leaves the RBSP in the lent output, or refuses with 23 or 20 and leaves the output unchanged.
 use native.Mathlib.Omega.{arith}
 use borrow.Author.Needs.{needs}
 use Rattle.rbsp.proofs.Filling.{extract-long, extract-short, extract-done}

@@ -1,4 +1,4 @@
--- `next_item_unit` gives the unit at a place of an item, the end, or the refusal that comes first.
+-- `next_item_unit` returns the unit at a place of an item, the end, or the refusal that comes first.
 use Prim.Native.Nat.{ℕ}
 use mathlib.Core.Path.{_≡_, sym, ap, _∙_}
 use native.Mathlib.Omega.{arith}

@@ -1,4 +1,4 @@
--- `next_unit` gives the first unit from a place on. The loop's invariant: `code` is a start code or the end, and no unit comes before it.
+-- `next_unit` returns the first unit from a place on. The loop's invariant: `code` is a start code or the end, and no unit comes before it.
 use Prim.Native.Nat.{ℕ, _+_, _-_, _≤_, _<_}
 use mathlib.Core.Path.{_≡_, sym, _∙_}
 use mathlib.Core.List.{List}
@@ -36,7 +36,7 @@ walk-holds c =
     let e = c .start-code .ensures .0 in
     (c .start-code .ensures .1, rw e (scan-stays (a .stream .now) (a .from)), rw e (units-scan (a .stream .now) (a .from)))
 
--- a start code's three bytes stand at `code`
+-- the three bytes of a start code are at `code`
 room : (c : tie.In-walk Inv-walk μ-walk) → c .before .walk .code + 3 ≤ length (c .before .before .before .before .before .before .args .stream .now)
 room c = code-room _ _ (c .before .walk .inv .1) (omega arith)
 

@@ -1,4 +1,4 @@
--- `split_length_prefixed_at` says where unit k of an item lies: counted first, so that a refusal further on is met.
+-- `split_length_prefixed_at` says where unit k of an item lies: the units are counted first, so that a refusal after unit k is found.
 use mathlib.Core.Path.{_≡_, sym, ap, _∙_}
 use native.Mathlib.Omega.{arith}
 use borrow.Author.Needs.{needs}

@@ -1,4 +1,4 @@
--- `split_length_prefixed_count` counts the units of an item, or gives the refusal that comes first.
+-- `split_length_prefixed_count` counts the units of an item, or returns the refusal that comes first.
 use Prim.Native.Nat.{_≤_}
 use mathlib.Core.Path.{_≡_, sym, ap, _∙_}
 use native.Mathlib.Omega.{arith}

@@ -1,4 +1,4 @@
--- Walks over the units of an item.
+-- Internal: walks over the units of an item or a stream.
 use Prim.Native.Nat.{ℕ, _+_, _≤_, _<_}
 use mathlib.Core.Path.{_≡_}
 use mathlib.Core.List.{List}
@@ -16,14 +16,14 @@ use Rattle.split.specs.declared.NextUnit.the-variants as N
 unfoldable pub itemUnitsFrom : ℕ → List ℕ → ℕ → Outcome (List Span)
 itemUnitsFrom size item p = outcome (many (itemUnit size) item p)
 
--- a unit found from place p on: it is not empty, lies inside the bytes, and the walk goes on after it
+-- a unit found from place p on: it is not empty, lies after p and inside the bytes, and the walk goes on after it
 pub record UnitAhead (s : List ℕ) (p : ℕ) (a : Span) (next : ℕ) : Type 0 where
   pub some : 0 < a .len
   pub ahead : p < a .start
   pub after : next ≡ a .start + a .len
   pub inside : next ≤ length s
 
--- so it is of a step that found one
+-- this holds of a step that found a unit
 abbrev pub Onward : List ℕ → ℕ → NextUnit → Type 0
 Onward item p (N.Unit a next) = UnitAhead item p a next
 Onward item p N.End = Unit {0}

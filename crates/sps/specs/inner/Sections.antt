@@ -1,4 +1,4 @@
--- The SPS's head in the sections that the code reads one by one; a law says that they make up the whole.
+-- Internal: the head of an SPS in the sections that the code reads one by one; a law says that they make up the whole.
 use mathlib.Core.Bool.{Bool}
 use Prim.Native.Nat.{ℕ, _+_}
 use lib.Dec.{ltb}
@@ -50,7 +50,7 @@ size = do
 abbrev pub windowWhere : Bool → Parser Window
 windowWhere present = if present then window else give noWindow
 
--- the window that the code's struct holds
+-- the window of the code's struct
 abbrev pub windowOf : ConfWindow → Window
 windowOf w = record { left = w .left; right = w .right; top = w .top; bottom = w .bottom }
 

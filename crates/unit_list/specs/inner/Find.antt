@@ -1,4 +1,4 @@
--- What a walk over the wanted units of a list counts and finds.
+-- Internal: what a walk over the wanted units of a list counts and finds.
 use Prim.Native.Nat.{ℕ, _+_, _≤_}
 use mathlib.Core.Path.{_≡_}
 use mathlib.Core.Bool.{Bool, true}
@@ -22,7 +22,7 @@ abbrev pub wants : Wanted → ℕ → Bool
 wants Every t = true
 wants (OfType x) t = eqb t x
 
--- the wanted ones among typed units
+-- those of the typed units that are wanted
 unfoldable pub wantedUnits : Wanted → List TypedUnit → List Span
 wantedUnits w [] = []
 wantedUnits w (x ∷ xs) = if wants w (x .unitType) then x .unit ∷ wantedUnits w xs else wantedUnits w xs
@@ -38,13 +38,13 @@ unitsLeft s c = wantedOf Every (typedUnitsFrom s c)
 abbrev pub wantedList : Wanted → List ℕ → Outcome (List Span)
 wantedList w s = wantedOf w (typedList s)
 
--- r says how many are found and where number k lies, which is inside s
+-- r has the number of units found and the span of number k, which is inside s
 pub record Finds (s : List ℕ) (o : Outcome (List Span)) (k : ℕ) (r : Found) : Type 0 where
   pub count : countOf (r .counted) ≡ countFound o
   pub unit : r .unit ≡ found o k
   pub inside : r .unit .start + r .unit .len ≤ length s
 
--- one more unit seen, if it is wanted: number k is kept
+-- one more unit counted, if it is wanted; number k is kept
 abbrev pub seeing : Wanted → ℕ → ℕ → Span → Seen → Seen
 seeing w k t a v =
     if wants w t then record { count = v .count + 1; unit = if eqb (v .count) k then a else v .unit } else v

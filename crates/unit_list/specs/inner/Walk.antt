@@ -1,4 +1,4 @@
--- A walk over the units of a list, each with its array's type.
+-- Internal: a walk over the units of a list, each with its array's type.
 use Prim.Native.Nat.{ℕ, _+_, _^_, _≤_}
 use mathlib.Core.Path.{_≡_}
 use mathlib.Core.List.{List, [], _∷_, _++_}
@@ -25,6 +25,7 @@ pub record TypedUnit : Type 0 where
   pub unit : Span
   pub unitType : ℕ
 
+-- units with the type of their array
 unfoldable pub typed : ℕ → List Span → List TypedUnit
 typed t [] = []
 typed t (a ∷ us) = record { unit = a; unitType = t } ∷ typed t us
@@ -52,11 +53,11 @@ arrayUnitsFrom s c = outcomeOr 21 (many (chunk listWidth) (take (c .end) s) (c .
 abbrev pub arraysFrom : List ℕ → ListCursor → Outcome (List (Array Span))
 arraysFrom s c = outcomeOr 21 (many (array listWidth) s (c .end))
 
--- after the version, in front of the first array
+-- the cursor after the version, before the first array
 abbrev pub front : ListCursor
 front = record { at = 1; end = 1; «unit_type» = 0 }
 
--- a cursor stands in its list, which is no longer than a lent input may be
+-- a cursor is inside its list, which has at most 2^30 bytes
 pub record Fits (s : List ℕ) (c : ListCursor) : Type 0 where
   pub before : c .at ≤ c .end
   pub within : c .end ≤ length s
@@ -112,7 +113,7 @@ arraysStepped s (A.Array complete c) =
 arraysStepped s A.End = accept []
 arraysStepped s A.Malformed = refuse 21
 
--- an array's units follow its length, complete and type, which are small
+-- an array's units follow its length, complete and type (6 bytes); complete and type are in range
 pub record Entered (s : List ℕ) (c : ListCursor) (b : ℕ) (d : ListCursor) : Type 0 where
   pub first : d .at ≡ c .end + 6
   pub complete : b ≤ 1

@@ -1,4 +1,4 @@
--- The fields of a VPS up to its PTL.
+-- Internal: the fields of a VPS before its PTL.
 use Rattle.bit_reader.specs.declared.BitsRead.{BitsRead}
 use Rattle.bit_reader.specs.declared.BitsRead.the-variants as B
 use Rattle.params.specs.declared.ParamsAnswer.{ParamsAnswer}

@@ -1,4 +1,4 @@
--- `align` goes on to the next whole byte: it computes what the definition says.
+-- `align` returns the next whole byte: it computes what the definition says.
 use mathlib.Core.Path.{refl}
 use borrow.Author.Needs.{needs}
 use Rattle.bit_reader.specs.Bits.{align}

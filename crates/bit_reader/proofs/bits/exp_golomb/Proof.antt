@@ -1,4 +1,4 @@
--- `exp_golomb` gives ue(v): the zeros, then as many bits.
+-- `exp_golomb` returns ue(v): the zeros, then as many bits.
 use Prim.Native.Nat.{ℕ}
 use mathlib.Core.Path.{_≡_, sym, ap, _∙_}
 use native.Mathlib.Omega.{arith}

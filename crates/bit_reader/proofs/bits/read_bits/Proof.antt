@@ -1,4 +1,4 @@
--- `read_bits` gives u(n): after k turns the loop holds the number of the first k bits.
+-- `read_bits` returns u(n): after k turns the loop has the number of the first k bits.
 use lib.Dec.{leb}
 use mathlib.Core.Bool.{true}
 use native.Mathlib.Numerals.{add-one}

@@ -1,4 +1,4 @@
--- `refusal` gives the refusal of a refused read: by cases.
+-- `refusal` returns the refusal of a refused read: by cases.
 use mathlib.Core.Path.{sym, ap}
 use borrow.Author.Needs.{needs}
 use Rattle.bit_reader.specs.inner.Answers.{refusalOf}

@@ -1,4 +1,4 @@
--- `zeros_before_one` counts the zeros before the next 1: the count from where the loop stands gives the whole count.
+-- `zeros_before_one` counts the zeros before the next 1: the count from where the loop is makes up the whole count.
 use lib.Dec.{leb}
 use mathlib.Core.Bool.{true}
 use borrow.Author.Tests.{not-true, not-false, leb-true}

@@ -1,4 +1,4 @@
--- `after` gives the place that the answer holds, or on a refusal the one that it was passed.
+-- `after` returns the position in the answer, or on a refusal its argument.
 use borrow.Author.Needs.{needs}
 use Rattle.bit_reader.proofs.reader.after.Statement.{statement}
 use Rattle.bit_reader.proofs.reader.after.Tie as tie

@@ -1,4 +1,4 @@
--- `align` goes on to the next whole byte, and hands on the refusal before.
+-- `align` returns the next whole byte, and passes on the refusal of the read before.
 use mathlib.Core.Path.{sym, subst}
 use Prim.Native.Nat.{_^_, _≤_}
 use borrow.Author.Needs.{needs}

@@ -1,4 +1,4 @@
--- `exp_golomb` reads the code where the read before gave a value, and hands on its refusal where not.
+-- `exp_golomb` reads the code where the read before returned a value, and passes on its refusal where not.
 use borrow.Author.Needs.{needs}
 use Rattle.bit_reader.proofs.Chain.{read-after}
 use Rattle.bit_reader.proofs.then.exp_golomb.Statement.{statement}

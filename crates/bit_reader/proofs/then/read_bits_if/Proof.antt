@@ -1,4 +1,4 @@
--- `read_bits_if` reads the bits exactly where they are there, and hands on the refusal before.
+-- `read_bits_if` reads the bits exactly where they are present, and passes on the refusal of the read before.
 use borrow.Author.Needs.{needs}
 use Rattle.bit_reader.proofs.then.read_bits_if.Statement.{statement}
 use Rattle.bit_reader.proofs.then.read_bits_if.Tie as tie

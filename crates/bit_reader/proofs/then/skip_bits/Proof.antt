@@ -1,4 +1,4 @@
--- `skip_bits` passes over the bits where the read before gave a value, and hands on its refusal where not.
+-- `skip_bits` passes over the bits where the read before returned a value, and passes on its refusal where not.
 use borrow.Author.Needs.{needs}
 use Rattle.bit_reader.proofs.Chain.{passed-after}
 use Rattle.bit_reader.proofs.then.skip_bits.Statement.{statement}

@@ -1,4 +1,4 @@
--- `place::byte` gives the byte at a place, 0 past the end.
+-- `place::byte` returns the byte at a place, 0 past the end.
 use mathlib.Core.Path.{sym}
 use native.Mathlib.Omega.{arith}
 use lib.ListN.{List·getD-eq-default}

@@ -1,4 +1,4 @@
--- `place::copy` leaves the source's bytes from the place on, and no other byte changed. The loop's invariant: the first `done` bytes stand there.
+-- `place::copy` leaves the source's bytes from the place on, and no other byte changed. The loop's invariant: the first `done` bytes are copied.
 use Prim.Native.Nat.{ℕ, _+_, _-_, _≤_, _<_}
 use mathlib.Core.Path.{_≡_, ap, _∙_}
 use native.Mathlib.Omega.{arith}

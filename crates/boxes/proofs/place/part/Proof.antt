@@ -1,4 +1,4 @@
--- `place::part` gives the part at a span: those bytes, in that memory.
+-- `place::part` returns the part at a span: those bytes, in that memory.
 use Prim.Native.Nat.{ℕ, _+_, _-_}
 use mathlib.Core.Path.{_≡_, ap}
 use mathlib.Core.List.{List}

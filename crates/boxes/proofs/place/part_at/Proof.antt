@@ -1,4 +1,4 @@
--- `place::part_at` gives the part where a unit of the first slice lies, and the empty part where none lies in it.
+-- `place::part_at` returns the part where a unit of the first slice lies, and the empty part where none lies in it.
 use mathlib.Core.Path.{sym, ap, subst}
 use borrow.Author.Needs.{needs}
 use Rattle.boxes.specs.Parts.{PartOf}

@@ -1,4 +1,5 @@
--- `place::put_number` leaves the number's bytes from the place on. The loop's invariant: the last `k` bytes stand; those in front of them, stored too, make the whole.
+-- `place::put_number` leaves the number's bytes from the place on. The loop's invariant: the last `k` bytes are stored; with those before
+-- them stored too, all are.
 use Prim.Native.Nat.{ℕ, _+_, _-_, _%_, _≤_}
 use mathlib.Core.Path.{_≡_, refl, ap, _∙_}
 use native.Mathlib.Omega.{arith}

@@ -1,4 +1,4 @@
--- `reader::uint_at` gives the field at the place, or the refusal that comes first.
+-- `reader::uint_at` returns the field at the place, or the refusal that comes first.
 use Prim.Native.Nat.{_+_, _<_}
 use mathlib.Core.Path.{_≡_, sym}
 use mathlib.Core.Logic.{⊎-elim}

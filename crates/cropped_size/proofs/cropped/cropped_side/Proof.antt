@@ -1,4 +1,4 @@
--- `cropped_side` takes the held product off the side.
+-- `cropped_side` subtracts the bounded product from the side.
 use Rattle.cropped_size.proofs.Cropping.{side-gone, side-left}
 use borrow.Author.Needs.{needs}
 use Rattle.cropped_size.proofs.cropped.cropped_side.Statement.{statement}

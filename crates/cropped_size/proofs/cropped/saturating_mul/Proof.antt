@@ -1,4 +1,4 @@
--- `saturating_mul` holds the product, which fits 64 bits.
+-- `saturating_mul` bounds the product, which fits 64 bits.
 use native.Mathlib.Omega.{arith}
 use Rattle.cropped_size.proofs.Cropping.{product-fits}
 use borrow.Author.Needs.{needs}

@@ -1,4 +1,4 @@
--- `sub_height` is 2 for the chroma format 1.
+-- `sub_height` is 2 for chroma format 1.
 use borrow.Author.Tests.{ne-eqb}
 use Rattle.cropped_size.proofs.cropped.sub_height.Statement.{statement}
 use Rattle.cropped_size.proofs.cropped.sub_height.Tie as tie

@@ -1,4 +1,4 @@
--- `sub_width` is 2 for the chroma formats 1 and 2.
+-- `sub_width` is 2 for chroma formats 1 and 2.
 use borrow.Author.Tests.{ne-eqb}
 use Rattle.cropped_size.proofs.cropped.sub_width.Statement.{statement}
 use Rattle.cropped_size.proofs.cropped.sub_width.Tie as tie

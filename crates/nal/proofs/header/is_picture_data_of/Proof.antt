@@ -1,4 +1,4 @@
--- `header::is_picture_data_of` tells whether a type stands for picture data and is the one asked for.
+-- `header::is_picture_data_of` tells whether a type is picture data and the one asked for.
 use mathlib.Core.Path.{sym, ap, _∙_}
 use Rattle.nal.proofs.UnitKinds.{not-picture}
 use borrow.Author.Needs.{needs}

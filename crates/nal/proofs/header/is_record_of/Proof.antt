@@ -1,4 +1,4 @@
--- `header::is_record_of` tells whether a type stands for a record kind and is the one asked for.
+-- `header::is_record_of` tells whether a type is a record kind and the one asked for.
 use mathlib.Core.Path.{sym, ap, _∙_}
 use Rattle.nal.specs.Kinds.{isRecordOf}
 use Rattle.nal.proofs.UnitKinds.{not-record}

@@ -1,4 +1,4 @@
--- `header::kind_of` gives the kind of a unit.
+-- `header::kind_of` returns the kind of a unit.
 use mathlib.Core.Path.{ap, _∙_}
 use borrow.Author.Needs.{needs}
 use Rattle.nal.specs.Kinds.{unitKind}

@@ -1,4 +1,4 @@
--- `header::type_or_31` gives the type, 31 where byte 1 is absent.
+-- `header::type_or_31` returns the type, 31 where byte 1 is absent.
 use Prim.Native.Nat.{ℕ}
 use mathlib.Core.Path.{sym}
 use mathlib.Core.List.{List}

@@ -1,4 +1,4 @@
--- `start_code::start_code` gives the first start code at or after the place. The loop's invariant: there is none from the place up to `i`.
+-- `start_code::start_code` returns the first start code at or after the place. The loop's invariant: there is none from the place up to `i`.
 use Prim.Native.Nat.{ℕ, _+_, _-_, _≤_}
 use mathlib.Core.Path.{_≡_}
 use mathlib.Core.List.{List}

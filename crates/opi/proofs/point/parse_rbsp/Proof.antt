@@ -1,5 +1,5 @@
 -- `parse_rbsp` of an OPI makes a reader of the RBSP, reads through it three times, and leaves the decision to `point_of`: a walk of its
--- MIR. Of what it calls it knows the contracts. What the RBSP owns is kept for the exit, and each step hands the reader on to the next.
+-- MIR. Of what it calls it uses the contracts. What the RBSP owns is kept for the exit, and each step passes the reader on to the next.
 use mathlib.Core.Path.{_≡_, refl, ap, _∙_}
 use mathlib.Core.List.{List, [], _∷_}
 use Prim.Native.Nat.{ℕ, _≤_, _^_}

@@ -1,4 +1,4 @@
--- `point_of` meets the five answers one by one.
+-- `point_of` returns what the definition makes of the answers: by cases, five of them.
 use mathlib.Core.Path.{ap, sym}
 use Rattle.parse.specs.Outcome.{accept}
 use Rattle.opi.proofs.OperatingPoint.{no-flag, no-second, unset, no-code, there}

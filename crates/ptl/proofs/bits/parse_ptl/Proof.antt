@@ -1,4 +1,4 @@
--- `parse_ptl` gives profile_tier_level( 1, s ): its sections one after the other, or zeros where one is refused.
+-- `parse_ptl` returns profile_tier_level( 1, s ): its sections one after another, or zeros where one is refused.
 use native.Mathlib.Omega.{arith}
 use Rattle.ptl.proofs.Whole.{whole-refused, whole-read, general-place}
 use borrow.Author.Needs.{needs}

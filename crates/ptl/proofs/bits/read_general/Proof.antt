@@ -1,4 +1,4 @@
--- `read_general` gives the section: three reads one after the other.
+-- `read_general` returns the section: three reads one after another.
 use mathlib.Core.Path.{sym, _∙_}
 use native.Mathlib.Omega.{arith}
 use Rattle.bit_reader.proofs.Chain.{bind-next, number-low-after}

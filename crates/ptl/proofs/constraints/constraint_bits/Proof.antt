@@ -1,4 +1,4 @@
--- `constraint_bits` passes over the bits that the definition passes over, one part after the other.
+-- `constraint_bits` passes over the bits that the definition passes over.
 use Rattle.ptl.proofs.ConstraintInfo.{bits-after}
 use borrow.Author.Needs.{needs}
 use Rattle.ptl.proofs.constraints.constraint_bits.Statement.{statement}

@@ -1,4 +1,4 @@
--- `constraint_bytes` copies the bytes one after the other, then clears the top two bits of the first.
+-- `constraint_bytes` copies the bytes one after another, then sets the top two bits of the first to 0.
 use mathlib.Core.Path.{_≡_, refl, ap, _∙_}
 use mathlib.Core.List.{List}
 use Prim.Native.Nat.{ℕ, _-_, _≤_}

@@ -1,4 +1,4 @@
--- `read_constraints` gives the section: the two flags, and the bytes between the two aligned places.
+-- `read_constraints` returns the section: the two flags, and the bytes between the two aligned positions.
 use mathlib.Core.Path.{ap, refl, sym, _∙_}
 use native.Mathlib.Omega.{arith}
 use Rattle.parse.specs.Parse.{value}

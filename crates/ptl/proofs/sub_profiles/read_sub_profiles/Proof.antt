@@ -1,4 +1,4 @@
--- `read_sub_profiles` gives the section: the count, then as many values.
+-- `read_sub_profiles` returns the section: the count, then as many values.
 use mathlib.Core.Path.{_∙_}
 use native.Mathlib.Omega.{arith}
 use Rattle.bit_reader.proofs.Chain.{number-low-after}

@@ -1,4 +1,4 @@
--- `read_values` reads the values one after the other: k of them stand at the front of the array.
+-- `read_values` reads the values one after another: k of them are at the front of the array.
 use Prim.Native.Nat.{_-_}
 use native.Mathlib.Omega.{arith}
 use Rattle.bit_reader.specs.Bits.{u}

@@ -1,4 +1,4 @@
--- `read_levels` reads the levels from the highest down: those still to be read come in front of those that stand.
+-- `read_levels` reads the levels from the highest down: those still to be read come before those stored.
 use Prim.Native.Nat.{_+_, _-_, _/_, _≤_}
 use native.Mathlib.Omega.{arith}
 use Rattle.bit_reader.specs.Bits.{u, isSet}

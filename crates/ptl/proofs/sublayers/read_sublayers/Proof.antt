@@ -1,4 +1,4 @@
--- `read_sublayers` gives the section: the byte of flags, then the levels that they announce.
+-- `read_sublayers` returns the section: the byte of flags, then the levels that they announce.
 use native.Mathlib.Omega.{arith}
 use lib.Dec.{ltb}
 use Rattle.bit_reader.proofs.Chain.{number-low-if}

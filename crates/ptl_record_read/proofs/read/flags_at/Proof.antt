@@ -1,4 +1,4 @@
--- The flags in front of the levels are those of the definition.
+-- `flags_at` returns the flags before the levels, as the definition reads them.
 use borrow.Author.Tests.{lt-ltb, le-ltb}
 use borrow.Author.Needs.{needs}
 use Rattle.ptl_record_read.proofs.read.flags_at.Statement.{statement}

@@ -1,4 +1,4 @@
--- The level after a flag is that of the definition.
+-- `level_if` returns the level of a flag, as the definition reads it.
 use borrow.Author.Tests.{eq-eqb, ne-eqb}
 use borrow.Author.Needs.{needs}
 use Rattle.ptl_record_read.proofs.read.level_if.Statement.{statement}

@@ -1,4 +1,4 @@
--- The levels start after their flags.
+-- `levels_start` returns the place after the flags.
 use borrow.Author.Tests.{lt-ltb, le-ltb}
 use borrow.Author.Needs.{needs}
 use Rattle.ptl_record_read.proofs.read.levels_start.Statement.{statement}

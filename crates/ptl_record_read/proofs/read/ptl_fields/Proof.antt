@@ -1,4 +1,4 @@
--- Each field is that of the record at the place.
+-- `ptl_fields` returns the record at the place: each field is that of the definition.
 use mathlib.Core.Path.{_∙_}
 use native.Mathlib.Omega.{arith}
 use borrow.Author.Needs.{needs}

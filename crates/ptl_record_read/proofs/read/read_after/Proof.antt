@@ -1,4 +1,4 @@
--- Where the end is within the bytes the fields are read, else it is refusal 1.
+-- `read_after` reads the fields where their end is within the bytes, else refuses with 1.
 use Rattle.ptl_record.specs.Read.{vvcPtlRecord}
 use Rattle.ptl_record.specs.inner.Places.{flagsAt, ptlFields}
 use Rattle.ptl_record.proofs.Reading.{Reach, reads-after}
@@ -45,7 +45,7 @@ mul-end c = search needs
 add-end-2 : tie.Need-add-end-2
 add-end-2 c = search needs
 
--- what the definition reads, in the places that the code found
+-- what the definition reads, by the places that the code found
 found : (c : tie.After-wide) →
     let a = c .before .before .before .before .before .before .before .args in
     let s = a .s .now in

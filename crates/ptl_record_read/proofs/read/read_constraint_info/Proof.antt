@@ -1,4 +1,4 @@
--- The array holds the constraint bytes, the flags of the first cleared.
+-- `read_constraint_info` returns the constraint bytes, the flags of the first set to 0.
 use lib.ListN.{length-take, length, drop}
 use Rattle.ptl.specs.Ptl.{padded}
 use Rattle.ptl_record_read.proofs.Arrays.{padded-sets, without-flags}

@@ -1,4 +1,4 @@
--- The loop fills both arrays from the highest sublayer down.
+-- `read_levels` returns the flags and the levels: the loop fills both arrays from the highest sublayer down.
 use Rattle.ptl.specs.Ptl.{presentFlags}
 use Rattle.ptl_record.specs.inner.Places.{levelsLen, levelsAt}
 use Rattle.ptl_record_read.proofs.Places.{Filled, filled-none, filled-more}

@@ -1,4 +1,4 @@
--- The first byte decides on refusals 1 and 2, and the rest follows.
+-- `read_ptl` reads the record: the first byte decides on refusals 1 and 2, and `read_after` does the rest.
 use Rattle.ptl_record.proofs.Reading.{reads-none, reads-zero}
 use Prim.Native.Nat.{_%_, _<_}
 use mathlib.Core.Path.{_≡_, sym, ap, _∙_}

@@ -1,4 +1,4 @@
--- The loop fills the array with one number a turn.
+-- `read_sub_profiles` returns the sub-profiles: the loop stores one number in each turn.
 use Rattle.ptl.specs.Ptl.{padded}
 use Rattle.ptl_record.specs.inner.Places.{words}
 use Rattle.ptl_record_read.proofs.Arrays.{padded-none}

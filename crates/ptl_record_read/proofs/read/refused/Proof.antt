@@ -1,4 +1,4 @@
--- A refusal has its number, and zeros beside it.
+-- `refused` returns a refusal with zeros beside it.
 use borrow.Author.Needs.{needs}
 use Rattle.ptl_record_read.proofs.read.refused.Statement.{statement}
 use Rattle.ptl_record_read.proofs.read.refused.Tie as tie

@@ -1,4 +1,4 @@
--- No constraint bytes count as one.
+-- `constraint_len` returns the number of constraint bytes that are written: 1 where there are none.
 use borrow.Author.Tests.{eq-eqb, ne-eqb}
 use lib.Seq.{length-take-le}
 use mathlib.Core.Path.{_≡_}

@@ -1,4 +1,4 @@
--- The first constraint byte has the two flags in its top bits.
+-- `first_byte` returns the first constraint byte, with the two flags in its top bits.
 use borrow.Author.Tests.{eq-eqb, ne-eqb}
 use lib.Seq.{getD-take}
 use native.Mathlib.Omega.{arith}

@@ -1,4 +1,4 @@
--- The loop shifts the flags in from the top.
+-- `flag_byte` returns the byte of flags: the loop shifts them in from the top.
 use Rattle.ptl_record.specs.Write.{flagByte}
 use Rattle.ptl_record_write.proofs.Stores.{flag-more}
 use Prim.Native.Nat.{_-_, _≤_, _<_}

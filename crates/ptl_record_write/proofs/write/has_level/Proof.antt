@@ -1,4 +1,4 @@
--- A level is there where the count covers it and its flag is set.
+-- `has_level` tells whether a sublayer has a level: it is below the count and its flag is set.
 use borrow.Author.Tests.{lt-ltb, le-ltb}
 use borrow.Author.Needs.{needs}
 use Rattle.ptl_record_write.proofs.write.has_level.Statement.{statement}

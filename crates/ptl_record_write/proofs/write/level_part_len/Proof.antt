@@ -1,4 +1,4 @@
--- Above one sublayer there is one flag byte, and the levels.
+-- `level_part_len` returns the length of the flag byte and the levels, 0 for at most one sublayer.
 use borrow.Author.Tests.{lt-ltb, le-ltb}
 use native.Mathlib.Omega.{arith}
 use borrow.Author.Needs.{needs}

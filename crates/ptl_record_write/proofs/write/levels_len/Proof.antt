@@ -1,4 +1,4 @@
--- The loop counts the levels that are there.
+-- `levels_len` counts the levels that are written.
 use Rattle.ptl_record.specs.Write.{levelBytes}
 use Rattle.ptl_record_write.proofs.Stores.{levels-counted}
 use Prim.Native.Nat.{_-_, _≤_}

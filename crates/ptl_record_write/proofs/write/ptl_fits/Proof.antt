@@ -1,4 +1,4 @@
--- The tests are those of the definition, in its order.
+-- `ptl_fits` makes the tests of the definition, in its order.
 use borrow.Author.Tests.{le-leb, lt-leb}
 use Rattle.ptl_record.specs.Write.{ptlFits}
 use Rattle.ptl_record_write.proofs.write.ptl_fits.Statement.{statement}

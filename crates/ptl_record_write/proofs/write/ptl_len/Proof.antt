@@ -1,4 +1,4 @@
--- The lengths of the parts, summed.
+-- `ptl_len` returns the length of the record: the sum of those of its fields.
 use Rattle.ptl_record.proofs.Writing.{fitting, length-front, length-ptl}
 use mathlib.Core.Path.{_≡_}
 use native.Mathlib.Omega.{arith}

@@ -1,4 +1,4 @@
--- The bytes in front of the levels, stored one after the other.
+-- `put_front` stores the bytes before the levels, one after another.
 use Rattle.ptl_record.proofs.Writing.{length-front}
 use Rattle.ptl_record_write.proofs.Stores.{front-stored}
 use native.Mathlib.Omega.{arith}

@@ -1,4 +1,4 @@
--- The constraint bytes are those of the array, its first byte replaced.
+-- `put_info` stores the constraint bytes: those of the array with its first byte replaced.
 use mathlib.Core.Path.{_≡_}
 use native.Mathlib.Nat.{sub-zero}
 use native.Mathlib.Omega.{arith}

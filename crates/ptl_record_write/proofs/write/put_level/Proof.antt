@@ -1,4 +1,4 @@
--- A level is stored where it is there.
+-- `put_level` stores a level where there is one.
 use mathlib.Core.Path.{refl}
 use native.Mathlib.Omega.{arith}
 use borrow.Author.Needs.{needs}

@@ -1,4 +1,4 @@
--- The flag byte and the levels are stored above one sublayer.
+-- `put_level_part` stores the flag byte and the levels, only for more than one sublayer.
 use borrow.Author.Tests.{lt-ltb, le-ltb}
 use native.Mathlib.Numerals.{add-one}
 use mathlib.Core.Path.{refl, ap, _∙_}

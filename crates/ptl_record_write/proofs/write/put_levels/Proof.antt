@@ -1,4 +1,4 @@
--- The loop stores the levels from the highest sublayer down.
+-- `put_levels` stores the levels from the highest sublayer down.
 use Rattle.ptl_record.specs.Write.{levelBytes}
 use Rattle.ptl_record_write.proofs.Stores.{levels-more, levels-longer}
 use lib.Seq.{sets, length-sets}

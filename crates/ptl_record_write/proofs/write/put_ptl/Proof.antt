@@ -1,4 +1,4 @@
--- The parts of the record, stored one after the other.
+-- `put_ptl` stores the fields of the record, one after another.
 use Rattle.ptl_record.proofs.Writing.{fitting, length-ptl, part-few}
 use Rattle.ptl_record_write.proofs.Stores.{ptl-stored}
 use Rattle.ptl_record.specs.Write.{levelPart, ptlBytes, frontBytes}
@@ -17,7 +17,7 @@ array-long c = search needs
 few : (c : tie.Start) → c .args .p .«num_sub_profiles» ≤ 255
 few c = fitting _ (c .pre .0) .subs
 
--- the length of the record is that of its parts
+-- the length of the record is that of its fields
 parts : (c : tie.Start) → length (ptlBytes (c .args .p) (c .args .sublayers)) ≡ length (frontBytes (c .args .p)) + length (levelPart (c .args .p) (c .args .sublayers)) + 1 + c .args .p .«num_sub_profiles» * 4
 parts c = length-ptl (c .args .p) (c .args .sublayers) (omega (arith, few c, array-long c))
 

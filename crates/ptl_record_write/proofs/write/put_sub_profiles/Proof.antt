@@ -1,4 +1,4 @@
--- The loop stores one sub-profile a turn.
+-- `put_sub_profiles` stores one sub-profile in each turn.
 use Rattle.ptl_record.specs.Write.{subProfileBytes}
 use Rattle.ptl_record_write.proofs.Stores.{subs-more}
 use lib.Seq.{sets, length-sets}

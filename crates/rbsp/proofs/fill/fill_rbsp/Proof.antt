@@ -1,4 +1,4 @@
--- `fill_rbsp` writes as much of the RBSP as there is room for: what stands at the front and what is left make up the whole.
+-- `fill_rbsp` writes as much of the RBSP as there is room for: what is at the front and what is left make up the whole.
 use borrow.Author.Tests.{not-true, not-false}
 use Prim.Native.Nat.{_-_}
 use mathlib.Core.Path.{sym, _∙_}

@@ -1,4 +1,4 @@
--- `is_dropped` is the definition's test for a 03 to drop: by cases.
+-- `is_dropped` is the definition's test for a 03 that is left out: by cases.
 use native.Mathlib.Omega.{arith}
 use borrow.Author.Tests.{lt-leb, le-leb}
 use Rattle.rbsp.specs.Rbsp.{drops}

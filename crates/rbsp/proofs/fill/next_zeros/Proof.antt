@@ -1,4 +1,4 @@
--- `next_zeros` counts the zeros in a row as the definition does: by cases.
+-- `next_zeros` counts zeros as the definition does: by cases.
 use borrow.Author.Tests.{eq-eqb, ne-eqb}
 use borrow.Author.Needs.{needs}
 use Rattle.rbsp.specs.Rbsp.{nextZeros}

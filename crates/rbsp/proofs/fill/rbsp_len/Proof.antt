@@ -1,4 +1,4 @@
--- `rbsp_len` gives the length of the RBSP: what is counted and what is left make up the whole.
+-- `rbsp_len` returns the length of the RBSP: what is counted and what is left make up the whole.
 use borrow.Author.Tests.{not-true, not-false}
 use Prim.Native.Nat.{_+_, _-_, _≤_}
 use mathlib.Core.Path.{_≡_, sym, ap, _∙_}

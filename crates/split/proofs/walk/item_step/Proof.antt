@@ -1,4 +1,4 @@
--- `walk::item_step` gives the unit at a place, the end, or the refusal that comes first there.
+-- `walk::item_step` returns the unit at a place, the end, or the refusal that comes first there.
 use Prim.Native.Nat.{_<_}
 use mathlib.Core.Path.{_≡_, sym}
 use native.Mathlib.Omega.{arith}

@@ -1,4 +1,4 @@
--- `parse_rbsp` tests the length, and reads the RBSP or as much of it as a head looks at.
+-- `parse_rbsp` tests the length, and reads the RBSP, or its first 1,132 bytes where it is longer.
 use mathlib.Core.Path.{_≡_, ap, sym, _∙_}
 use native.Mathlib.Omega.{arith}
 use lib.ListN.{length, take}

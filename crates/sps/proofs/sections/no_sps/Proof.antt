@@ -1,4 +1,4 @@
--- `no_sps` is a refusal beside a head of zeros.
+-- `no_sps` returns a refusal beside a head of zeros.
 use borrow.Author.Needs.{needs}
 use Rattle.sps.proofs.sections.no_sps.Statement.{statement}
 use Rattle.sps.proofs.sections.no_sps.Tie as tie

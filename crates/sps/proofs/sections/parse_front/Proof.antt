@@ -1,4 +1,4 @@
--- `parse_front` reads the five sections one after the other, and they make up the head.
+-- `parse_front` reads the five sections one after another, and they make up the head.
 use mathlib.Core.Path.{_≡_, ap, refl, sym, _∙_}
 use Rattle.parse.specs.Parse.{value, bind}
 use Rattle.bit_reader.specs.inner.Answers.{parsed, numberIn}

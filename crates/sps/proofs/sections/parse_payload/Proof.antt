@@ -1,4 +1,4 @@
--- `parse_payload` of an SPS reads its head from as much of the RBSP as a head looks at.
+-- `parse_payload` of an SPS reads its head from the first 1,132 bytes of the RBSP, which suffice.
 use Prim.Native.Nat.{ℕ}
 use mathlib.Core.Path.{ap, sym, _∙_}
 use native.Mathlib.Omega.{arith}

@@ -1,4 +1,4 @@
--- `read_depth` meets the answers of the section one by one.
+-- `read_depth` returns the answer of the section: by cases.
 use mathlib.Core.Path.{sym, _∙_}
 use native.Mathlib.Omega.{arith}
 use Rattle.sps.proofs.Depth.{depth-subpictures, depth-deep, depth-fine}

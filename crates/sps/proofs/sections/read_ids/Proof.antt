@@ -1,4 +1,4 @@
--- `read_ids` reads the six fields one after the other.
+-- `read_ids` reads the six fields one after another.
 use mathlib.Core.Path.{sym, _∙_}
 use native.Mathlib.Omega.{arith}
 use Rattle.bit_reader.proofs.Chain.{bind-number, bind-next, number-low, number-low-after}

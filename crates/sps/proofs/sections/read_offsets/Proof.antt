@@ -1,4 +1,4 @@
--- `read_offsets` reads the four codes one after the other.
+-- `read_offsets` reads the four codes one after another.
 use mathlib.Core.Path.{sym, _∙_}
 use Rattle.bit_reader.proofs.Chain.{bind-next}
 use Rattle.sps.specs.Sps.{window}

@@ -1,4 +1,4 @@
--- `read_size` reads the six fields one after the other.
+-- `read_size` reads the six fields one after another.
 use mathlib.Core.Path.{sym, _∙_}
 use Rattle.bit_reader.proofs.Chain.{bind-next}
 use Rattle.sps.specs.inner.Sections.{size}

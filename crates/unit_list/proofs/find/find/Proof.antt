@@ -1,4 +1,4 @@
--- `find::find` gives what the walk from the list's start finds, or the refusal of the start.
+-- `find::find` returns what the walk from the list's start finds, or the refusal of the start.
 use borrow.Author.Needs.{needs}
 use Rattle.unit_list.proofs.Turns.{start-fits}
 use Rattle.unit_list.proofs.Seen.{start-finds, start-finds-none}

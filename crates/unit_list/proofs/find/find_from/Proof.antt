@@ -1,4 +1,4 @@
--- `find::find_from` counts the wanted units after the cursor and finds number k. The loop's invariant: what is seen and what is left make the whole.
+-- `find::find_from` counts the wanted units after the cursor and finds number k. The loop's invariant: what is passed and what is left are all.
 use Prim.Native.Nat.{_-_}
 use lib.ListN.{length}
 use borrow.Author.Needs.{needs}

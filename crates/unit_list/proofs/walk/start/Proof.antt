@@ -1,4 +1,4 @@
--- `walk::start` follows the version of a list, in front of all its units.
+-- `walk::start` returns the cursor after the version of a list, before all its units.
 use Prim.Native.Nat.{ℕ, _≤_}
 use mathlib.Core.Path.{_≡_, sym, _∙_}
 use mathlib.Core.List.{List, [], _∷_}
@@ -9,7 +9,7 @@ use Rattle.unit_list.proofs.Left.{decode-too-long, list-too-long, decod
 use Rattle.unit_list.proofs.walk.start.Statement.{statement}
 use Rattle.unit_list.proofs.walk.start.Tie as tie
 
--- a list whose first byte is 1 has one
+-- a list whose first byte is 1 has a byte
 has-byte : (s : List ℕ) → getD s 0 0 ≡ 1 → 1 ≤ length s
 has-byte [] e = absurd (omega arith)
 has-byte (b ∷ s) e = omega arith

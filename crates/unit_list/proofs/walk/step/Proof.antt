@@ -1,4 +1,4 @@
--- `walk::step` gives the next unit after the cursor. The loop's invariant: after `here` is left what is left after `c`.
+-- `walk::step` returns the next unit after the cursor. The loop's invariant: the same units are left after `here` as after `c`.
 use Prim.Native.Nat.{_-_, _≤_, _<_}
 use mathlib.Core.Path.{_≡_, refl}
 use native.Mathlib.Omega.{arith}

@@ -1,5 +1,5 @@
--- `front` makes a reader of the RBSP, goes over the fields in front of the PTL through it, aligns, and leaves the decision to `front_of`: a
--- walk of its MIR. Of what it calls it knows the contracts. What the RBSP owns is kept for the exit, and each step hands the reader on.
+-- `front` makes a reader of the RBSP, reads the fields before the PTL through it, aligns, and leaves the decision to `front_of`: a walk
+-- of its MIR. Of what it calls it uses the contracts. What the RBSP owns is kept for the exit, and each step passes the reader on.
 use mathlib.Core.Path.{_≡_, refl, ap, _∙_}
 use mathlib.Core.List.{List, [], _∷_}
 use Prim.Native.Nat.{ℕ, _≤_, _^_}

@@ -1,4 +1,4 @@
--- `front_of` meets the six answers one by one.
+-- `front_of` returns what the definition makes of the answers: by cases, six of them.
 use Rattle.vps.proofs.VpsFront.{several, no-layer, in-front}
 use borrow.Author.Needs.{needs}
 use Rattle.vps.proofs.first_ptl.front_of.Statement.{statement}

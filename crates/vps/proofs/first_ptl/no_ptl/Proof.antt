@@ -1,4 +1,4 @@
--- `no_ptl` is a refusal beside a PTL of zeros.
+-- `no_ptl` returns a refusal beside a PTL of zeros.
 use borrow.Author.Needs.{needs}
 use Rattle.vps.proofs.first_ptl.no_ptl.Statement.{statement}
 use Rattle.vps.proofs.first_ptl.no_ptl.Tie as tie

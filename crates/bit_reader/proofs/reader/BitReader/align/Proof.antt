@@ -1,5 +1,5 @@
 -- `BitReader::align` takes the reader apart, finds the next whole byte by `align` of `bits`, and puts the reader together: a walk of its
--- MIR. Of the callee it knows the contract. What the reader owns is had twice, once for the exit and once, moved on, for the answer.
+-- MIR. Of the callee it uses the contract. What the reader owns is had twice: for the exit and, at the next position, for the answer.
 use mathlib.Core.Path.{_≡_, refl}
 use mathlib.Core.List.{List, [], _∷_}
 use Prim.Native.Nat.{ℕ, _≤_, _^_}
@@ -80,7 +80,7 @@ module _ {M : Type 1} (𝓤 : URA M) (H : Heap 𝓤) (A : Atoms 𝓤) (W : Given
       abbrev Post : Val → SProp 𝓤
       Post = walkOf 𝓤 H A f.ended stayed (f.clauses 𝓤 H A mem run) .post (((κ, tt), (q, tt), tt, (d, tt), at), tt)
 
-      -- the call of `align`, whose parameter is plain: what it asks, what it says
+      -- the call of `align`, whose parameter is plain: what it requires, what it ensures
       abbrev to-next : Next .Ghost
       to-next = ((tt, tt, tt, (d .pos, tt), (Position′.lowered (d .pos) ∷ [], tt)), tt)
 
@@ -112,7 +112,7 @@ module _ {M : Type 1} (𝓤 : URA M) (H : Heap 𝓤) (A : Atoms 𝓤) (W : Given
           calls-at ! (fmOf 𝓤 H (W .laws) 𝓣) Next known-next to-next (and-then ! (load ! (from ! (stop !)) (look ! 1 refl)) (no-more !)) (λ w. gave ! (‵ ftrue) Position.the-row Position′.lowered position-val _ _ (next-says) (id⊢ 𝓤 _) (λ p whole-byte is.
           -- [the position; true; _4; …; _3; …; _2; …; _1; …; room for _0; …; what is had on entry]
           land ! (from ! (stop !)) (init ! 4 refl (position-typed 𝓤 H A W p _ is)) $
-          -- the reader at its next place
+          -- the reader at its next position
           assigns ! (agg ! (and-then ! (load ! (from ! (stop !)) (look ! 6 refl)) (and-then ! (load ! (from ! (stop !)) (look ! 4 refl)) (no-more !)))) (from ! (stop !)) (init ! 10 refl (tt, (wt .1 .0, (position-typed 𝓤 H A W p (Position′.lowered p) is .1, tt)))) $
           returns ! (look ! 10 refl) $ move ! (10 ∷ 11 ∷ 8 ∷ 9 ∷ 6 ∷ 7 ∷ 4 ∷ 5 ∷ 2 ∷ 3 ∷ []) $
           leave ! $ leave ! $ leave ! $ leave ! $ leave ! $ free0 ! $

@@ -19,7 +19,7 @@ use Rattle.bit_reader.proofs.reader.BitReader.skip as f
 use Rattle.bit_reader.proofs.reader.BitReader.skip.Statement as stated
 use Rattle.bit_reader.proofs.reader.BitReader.skip.Code as code
 
--- what `skip_bits` asks
+-- what `skip_bits` requires
 abbrev Few : ℕ → List ℕ → Type 0
 Few n s = length s ≤ 2 ^ 30
 

@@ -19,7 +19,7 @@ use Rattle.bit_reader.proofs.reader.BitReader.u as f
 use Rattle.bit_reader.proofs.reader.BitReader.u.Statement as stated
 use Rattle.bit_reader.proofs.reader.BitReader.u.Code as code
 
--- what `read_bits` asks
+-- what `read_bits` requires
 abbrev Few : ℕ → List ℕ → Type 0
 Few n s = (n ≤ 32) × (length s ≤ 2 ^ 30)
 

@@ -1,5 +1,5 @@
--- `BitReader::ue` takes the reader apart, reads by `exp_golomb`, finds its next place by `after`, and puts the step together: a walk of
--- its MIR. Of the two it knows their contracts. What the reader owns is kept for the exit and, moved on, for the step.
+-- `BitReader::ue` takes the reader apart, reads by `exp_golomb`, finds the next position by `after`, and puts the step together: a walk of
+-- its MIR. Of the two it uses the contracts. What the reader owns is kept for the exit and, at the next position, for the step.
 use mathlib.Core.Path.{_≡_, refl}
 use mathlib.Core.List.{[], _∷_}
 use Prim.Native.Nat.{_≤_, _^_}
@@ -83,7 +83,7 @@ module _ {M : Type 1} (𝓤 : URA M) (H : Heap 𝓤) (A : Atoms 𝓤) (W : Given
       abbrev Post : Val → SProp 𝓤
       Post = walkOf 𝓤 H A f.ended stayed (f.clauses 𝓤 H A mem run) .post (((κ, tt), (q, tt), tt, (d, tt), at), tt)
 
-      -- the call of `exp_golomb`: what it is passed, what it asks, what it says
+      -- the call of `exp_golomb`: its arguments, what it requires, what it ensures
       abbrev passed : Vals read.signature (κ, tt)
       passed = (sliceOf d ∷ [], (Position′.lowered (d .pos) ∷ [], tt))
 
@@ -131,7 +131,7 @@ module _ {M : Type 1} (𝓤 : URA M) (H : Heap 𝓤) (A : Atoms 𝓤) (W : Given
           calls-at ! (fmOf 𝓤 H (W .laws) 𝓣) (After 𝓤 H A mem run) known-after (to-after 𝓤 H A mem run a (d .pos)) (and-then ! (load ! (from ! (stop !)) (look ! 8 refl)) (and-then ! (load ! (from ! (stop !)) (look ! 10 refl)) (no-more !))) (λ w. gave ! (‵ ftrue) Position.the-row Position′.lowered position-val _ _ (after-says 𝓤 H A mem run a (d .pos)) (id⊢ 𝓤 _) (λ p left is′.
           -- [the position; true; the answer; the token; what the reader owns; _6; …]
           land ! (from ! (stop !)) (init ! 7 refl (position-typed 𝓤 H A W p _ is′)) $
-          -- the reader at its next place, and the step
+          -- the reader at its next position, and the step
           assigns ! (agg ! (and-then ! (load ! (from ! (stop !)) (look ! 13 refl)) (and-then ! (load ! (from ! (stop !)) (look ! 7 refl)) (no-more !)))) (from ! (stop !)) (init ! 5 refl (tt, step-typed 𝓤 H A W ℓ d a p is is′ wt .1 .1 .0)) $
           assigns ! (agg ! (and-then ! (load ! (from ! (stop !)) (look ! 9 refl)) (and-then ! (load ! (from ! (stop !)) (look ! 5 refl)) (no-more !)))) (from ! (stop !)) (init ! 17 refl (step-typed 𝓤 H A W ℓ d a p is is′ wt)) $
           returns ! (look ! 17 refl) $ move ! (17 ∷ 18 ∷ 15 ∷ 16 ∷ 13 ∷ 14 ∷ 11 ∷ 12 ∷ 9 ∷ 10 ∷ 7 ∷ 8 ∷ 5 ∷ 6 ∷ []) $

@@ -5,6 +5,6 @@ use Rattle.boxes.specs.Parts.{held}
 use Rattle.boxes.specs.declared.Span.{Span}
 use Rattle.unit_list.specs.UnitList.{encodeUnits}
 
--- the units at spans of s, each after its length of w bytes
+-- the bytes of the units at spans of s, each after its length in w bytes
 abbrev pub unitBytes : ℕ → List ℕ → List Span → List ℕ
 unitBytes w s us = encodeUnits w (map (held s) us)

@@ -8,6 +8,13 @@ use Rattle.full_write.proofs.Records.{head-room, arrays-put, record-sto
 use Rattle.full_write.proofs.put_full.Statement.{statement}
 use Rattle.full_write.proofs.put_full.Tie as tie
 
+-- Earlier places of the function, each seen from a later one.
+abbrev start : (c : tie.After-put-head) → tie.Start
+start c = c .before .before .before .before .before
+
+abbrev after-put-head : (c : tie.After-put) → tie.After-put-head
+after-put-head c = c .before .before .before .before
+
 returns : tie.Need-returns
 returns c =
     let b = c .before .before .before in
@@ -22,7 +29,7 @@ put-head-requires c κs =
     (b .pre .head, head-room (a .head) (a .list .now) (serializeFull (a .head) (a .list .now)) (a .c) (a .count) (a .len) (b .pre) (a .out .now) (c .before .if1 .left))
 
 cast-put : tie.Need-cast-put
-cast-put c = omega (arith, c .before .before .before .before .before .before .before .before .pre .few)
+cast-put c = omega (arith, start (c .before .before .before) .pre .few)
 
 put-requires : tie.Need-put-requires
 put-requires c κs = search needs
@@ -32,21 +39,25 @@ add-put-arrays c = search needs
 
 put-arrays-requires : tie.Need-put-arrays-requires
 put-arrays-requires c κs =
-    let b = c .before .before .before .before .before .before .before .before .before .before .before .before in
+    let pu = c .before .before .before in
+    let ph = after-put-head pu in
+    let b = start ph in
     let a = b .args in
-    let p = c .before .before .before .before .before .before .before .put-head .ensures in
-    (b .pre .fits, arrays-put (a .head) (a .list .now) (serializeFull (a .head) (a .list .now)) (a .c) (a .count) (a .len) (b .pre) (a .out .now) (c .before .before .before .before .before .before .before .before .before .if1 .left) _ _ (p .0, p .1) _ (c .before .before .before .put .ensures))
+    let p = ph .put-head .ensures in
+    (b .pre .fits, arrays-put (a .head) (a .list .now) (serializeFull (a .head) (a .list .now)) (a .c) (a .count) (a .len) (b .pre) (a .out .now) (ph .before .before .if1 .left) _ _ (p .0, p .1) _ (pu .put .ensures))
 
 same-length : tie.Need-same-length
 same-length c = search needs
 
 returns-2 : tie.Need-returns-2
 returns-2 c =
-    let b = c .before .before .before .before .before .before .before .before .before .before .before .before .before .before .before in
+    let pu = c .before .before .before .before .before .before in
+    let ph = after-put-head pu in
+    let b = start ph in
     let a = b .args in
-    let p = c .before .before .before .before .before .before .before .before .before .before .put-head .ensures in
-    written-fits (serializeFull (a .head) (a .list .now)) (a .out .now) (fullBytes (a .head) (heldArrays (a .list .now) (b .pre .arrays))) (b .pre .bytes) _ _ (b .pre .long) (c .before .before .before .before .before .before .before .before .before .before .before .before .if1 .left)
-    (record-stored (a .head) (a .list .now) (serializeFull (a .head) (a .list .now)) (a .c) (a .count) (a .len) (b .pre) (a .out .now) (c .before .before .before .before .before .before .before .before .before .before .before .before .if1 .left) _ _ (p .0, p .1) _ (c .before .before .before .before .before .before .put .ensures) _ (c .before .before .put-arrays .ensures))
+    let p = ph .put-head .ensures in
+    written-fits (serializeFull (a .head) (a .list .now)) (a .out .now) (fullBytes (a .head) (heldArrays (a .list .now) (b .pre .arrays))) (b .pre .bytes) _ _ (b .pre .long) (ph .before .before .if1 .left)
+    (record-stored (a .head) (a .list .now) (serializeFull (a .head) (a .list .now)) (a .c) (a .count) (a .len) (b .pre) (a .out .now) (ph .before .before .if1 .left) _ _ (p .0, p .1) _ (pu .put .ensures) _ (c .before .before .put-arrays .ensures))
 
 pub put-full-spec : {M : Type 1} → statement M
 put-full-spec =

@@ -43,8 +43,9 @@ enum-known-counted-2 c = search needs
 
 returns-2 : tie.Need-returns-2
 returns-2 c =
-    let a = c .before .before .before .before .before .before .before .before .args in
-    let s = sound (c .before .before) in
+    let e = c .before .before in
+    let a = e .before .before .before .before .before .before .args in
+    let s = sound e in
     let w : c .before .wide .result ≡ a .length-size = c .before .wide .ensures .0 in
     (place-there (splitItem (a .length-size) (a .item .now)) (a .k) _ (ap countFound (s .whole) ∙ s .counted) (omega arith) (c .item-unit .result) (rw (s .whole, ← w) (c .item-unit .ensures .0)), c .item-unit .ensures .1)
 

@@ -48,8 +48,8 @@ returns-2 c =
     k ∙ answer-refused k (c .enum-told2 .given .1) ∙ sym (ue-low _ _ _ _ _ (led (c .before .before .before)) (answer-refused k (c .enum-told2 .given .1)))
 
 -- the bits after the 1
-rest : (c : tie.After-known-told2) →
-    u (c .before .before .before .before .before .zeros .given .0 .0) (c .before .before .before .before .before .before .before .before .before .args .s .now) (c .before .before .before .before .before .zeros .given .0 .1 .0 .0)
+rest : (c : tie.After-known-told2) → let z = c .before .before .before .before .before in
+    u (z .zeros .given .0 .0) (z .before .before .before .before .args .s .now) (z .zeros .given .0 .1 .0 .0)
     ≡ value (c .before .low .given .0 .0) (c .before .low .given .0 .1 .0 .0)
 rest c = answer-value (c .before .before .before .read-bits .ensures) (c .before .low .given .1)
 

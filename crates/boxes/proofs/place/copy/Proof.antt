@@ -57,10 +57,11 @@ loop-less c =
 
 loop-again : tie.Need-loop-again Inv-loop μ-loop
 loop-again c =
-    let a = c .before .before .before .before .before .before .before .before .before .before .args in
-    let l = c .before .before .before .before .before .before .before .loop in
-    let n = c .before .before .before .before .before .block-len .result in
-    let b = c .before .before .before .before .before .block-len .ensures in
+    let bl = c .before .before .before .before .before in
+    let a = bl .before .before .before .before .before .args in
+    let l = bl .before .before .loop in
+    let n = bl .block-len .result in
+    let b = bl .block-len .ensures in
     let e = c .before .before .copy-block .ensures in
     let k : l .done + n - l .done ≡ n = omega arith in (
       omega (arith, b .0),

@@ -38,8 +38,9 @@ same-length c = search needs
 
 returns : tie.Need-returns
 returns c =
-    let st = c .before .before .before .before .before .before .before .before .before .before .before in
-    let first = c .before .before .before .before .before .before .before .copy in
+    let co = c .before .before .before .before .before .before .before in
+    let st = co .before .before .before .before in
+    let first = co .copy in
     let second = c .before .before .copy2 in
     sets-by-block (st .args .out .now) (st .args .src .now) _ (first .last .1 .0) (second .last .1 .0) (first .result - 0) (st .args .at)
     (omega (arith, first .ensures .0)) (first .ensures .1) (st .pre .1) (second .ensures .1)

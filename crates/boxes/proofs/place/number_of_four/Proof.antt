@@ -58,9 +58,10 @@ add-result c = search needs
 
 returns : tie.Need-returns
 returns c =
-    let a = c .before .before .before .before .before .before .before .before .before .args in
-    let w1 = c .before .before .before .before .before .before .wide .ensures in
-    let w2 = c .before .before .before .before .wide2 .ensures in
+    let w = c .before .before .before .before in
+    let a = w .before .before .before .before .before .args in
+    let w1 = w .before .before .wide .ensures in
+    let w2 = w .wide2 .ensures in
     let w3 = c .before .before .wide3 .ensures in
     let w4 = c .wide4 .ensures in
     let e = be-four (a .s .now) (a .at) in

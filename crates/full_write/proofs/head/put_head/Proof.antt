@@ -7,6 +7,10 @@ use Rattle.full_write.proofs.Heads.{first, head-fits, head-part, head-p
 use Rattle.full_write.proofs.head.put_head.Statement.{statement}
 use Rattle.full_write.proofs.head.put_head.Tie as tie
 
+-- Where the function starts, seen from a later place.
+abbrev start : (c : tie.After-put) → tie.Start
+start c = c .before .before .before .before .before
+
 bit-of-requires : tie.Need-bit-of-requires
 bit-of-requires c κs = search needs
 
@@ -27,28 +31,33 @@ put-requires c κs = search needs
 
 put-ptl-part-requires : tie.Need-put-ptl-part-requires
 put-ptl-part-requires c κs =
-    let g = c .before .before .before .before .before .before .before .before .before in
-    let h = head-part (g .args .h) (c .before .if1 .taken) in
-    (head-fits _ (g .pre .0) .part (c .before .if1 .taken), omega (arith, ap length h, g .pre .1, ap length (c .before .before .before .before .put .ensures), length-set (g .args .out .now) 0 (first (g .args .h))))
+    let t = c .before in
+    let pu = t .before .before .before in
+    let g = start pu in
+    let h = head-part (g .args .h) (t .if1 .taken) in
+    (head-fits _ (g .pre .0) .part (t .if1 .taken), omega (arith, ap length h, g .pre .1, ap length (pu .put .ensures), length-set (g .args .out .now) 0 (first (g .args .h))))
 
 same-length : tie.Need-same-length
 same-length c = search needs
 
 returns : tie.Need-returns
 returns c =
-    let h = head-part (c .before .before .before .before .before .before .before .before .before .before .before .before .args .h) (c .before .before .before .before .if1 .taken) in
+    let t = c .before .before .before .before in
+    let pu = t .before .before .before in
+    let h = head-part (start pu .args .h) (t .if1 .taken) in
     let l = ap length h in
     let p = c .before .before .put-ptl-part .ensures in
-    (omega (arith, p .0), p .1 ∙ rw (c .before .before .before .before .before .before .before .put .ensures, c .before .before .before .before .before .before .before .before .before .before .bit-of .ensures .0, h), omega (arith, p .2))
+    (omega (arith, p .0), p .1 ∙ rw (pu .put .ensures, pu .before .before .before .bit-of .ensures .0, h), omega (arith, p .2))
 
 same-length-2 : tie.Need-same-length-2
 same-length-2 c = search needs
 
 returns-2 : tie.Need-returns-2
 returns-2 c =
-    let h = head-plain (c .before .before .before .before .before .before .before .before .args .h) (c .if1 .left) in
+    let pu = c .before .before .before in
+    let h = head-plain (start pu .args .h) (c .if1 .left) in
     let l = ap length h in
-    (omega arith, c .before .before .before .put .ensures ∙ rw (c .before .before .before .before .before .before .bit-of .ensures .0, h), omega arith)
+    (omega arith, pu .put .ensures ∙ rw (pu .before .before .before .bit-of .ensures .0, h), omega arith)
 
 pub put-head-spec : {M : Type 1} → statement M
 put-head-spec =

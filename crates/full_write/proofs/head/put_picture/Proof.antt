@@ -24,8 +24,9 @@ same-length c = search needs
 
 returns : tie.Need-returns
 returns c =
-    let a = c .before .before .before .before .before .before .before .before .before .before .before .before .before .args in
-    rw (c .before .before .put-number3 .ensures, c .before .before .before .before .before .before .put-number2 .ensures, c .before .before .before .before .before .before .before .before .before .before .put-number .ensures) (picture-stored (a .out .now) (a .at) (a .width) (a .height) (a .rate))
+    let pn = c .before .before .before .before .before .before in
+    let a = pn .before .before .before .before .before .before .before .args in
+    rw (c .before .before .put-number3 .ensures, pn .put-number2 .ensures, pn .before .before .before .before .put-number .ensures) (picture-stored (a .out .now) (a .at) (a .width) (a .height) (a .rate))
 
 pub put-picture-spec : {M : Type 1} → statement M
 put-picture-spec =

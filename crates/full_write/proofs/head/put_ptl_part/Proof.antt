@@ -6,6 +6,16 @@ use Rattle.full_write.proofs.Heads.{part-stored}
 use Rattle.full_write.proofs.head.put_ptl_part.Statement.{statement}
 use Rattle.full_write.proofs.head.put_ptl_part.Tie as tie
 
+-- Earlier places of the function, each seen from a later one.
+abbrev start : (c : tie.After-put-number) → tie.Start
+start c = c .before .before .before .before
+
+abbrev after-put-number : (c : tie.After-put) → tie.After-put-number
+after-put-number c = c .before .before .before .before .before
+
+abbrev after-put : (c : tie.After-put-ptl) → tie.After-put
+after-put c = c .before .before .before .before
+
 word-of-requires : tie.Need-word-of-requires
 word-of-requires c κs = search needs
 
@@ -16,10 +26,10 @@ add-put : tie.Need-add-put
 add-put c = search needs
 
 mul-put : tie.Need-mul-put
-mul-put c = let f = small _ (c .before .before .before .before .before .before .before .before .pre .0) in omega (arith, f .depth)
+mul-put c = let f = small _ (start (c .before .before .before .before) .pre .0) in omega (arith, f .depth)
 
 add-put-2 : tie.Need-add-put-2
-add-put-2 c = let f = small _ (c .before .before .before .before .before .before .before .before .pre .0) in omega (arith, f .depth)
+add-put-2 c = let f = small _ (start (c .before .before .before .before) .pre .0) in omega (arith, f .depth)
 
 put-requires : tie.Need-put-requires
 put-requires c κs = search needs
@@ -29,14 +39,14 @@ add-put-ptl c = search needs
 
 put-ptl-requires : tie.Need-put-ptl-requires
 put-ptl-requires c κs =
-    let g = c .before .before .before .before .before .before .before .before .before .before .before .before in
+    let g = start (after-put-number (c .before .before .before)) in
     let f = small _ (g .pre .0) in
     let l = length-part (g .args .h) in
     (f .ptl, f .sublayers, search needs)
 
 put-picture-requires : tie.Need-put-picture-requires
 put-picture-requires c κs =
-    let g = c .before .before .before .before .before .before .before .before .before .before .before .before .before .before .before .before in
+    let g = start (after-put-number (after-put (c .before .before .before))) in
     let l = length-part (g .args .h) in
     search needs
 
@@ -48,12 +58,14 @@ same-length c = search needs
 
 returns : tie.Need-returns
 returns c =
-    let g = c .before .before .before .before .before .before .before .before .before .before .before .before .before .before .before .before .before .before .before in
-    let a = g .args in
-    let p = c .before .before .before .before .before .before .put-ptl .ensures in
+    let pp = c .before .before .before .before .before .before in
+    let pu = pp .before .before .before .before in
+    let pn = pu .before .before .before .before .before in
+    let a = start pn .args in
+    let p = pp .put-ptl .ensures in
     let l = length-part (a .h) in (
       omega (arith, p .0, l),
-      rw (c .before .before .put-picture .ensures, p .1, c .before .before .before .before .before .before .before .before .before .before .put .ensures, c .before .before .before .before .before .before .before .before .before .before .before .before .before .before .before .put-number .ensures, c .before .before .before .before .before .before .before .before .before .before .before .before .before .before .before .before .before .word-of .ensures) (part-stored (a .h) (a .out .now) (a .at) (c .before .before .before .before .before .before .put-ptl .result) (p .0)),
+      rw (c .before .before .put-picture .ensures, p .1, pu .put .ensures, pn .put-number .ensures, pn .before .before .word-of .ensures) (part-stored (a .h) (a .out .now) (a .at) (pp .put-ptl .result) (p .0)),
       omega (arith, p .2),
     )
 

@@ -16,6 +16,10 @@ Inv-loop list c here₀ seen₀ len₀ here seen len = Readable list here × Sum
 abbrev μ-loop : tie.MeasureT-loop
 μ-loop list c here₀ seen₀ len₀ here seen len = length list - here .at
 
+-- An earlier place of the function, seen from a later one.
+abbrev at-loop : (c : tie.Then1 Inv-loop μ-loop) → tie.At-loop Inv-loop μ-loop
+at-loop c = c .before .before .before .before .before .before
+
 loop-holds : tie.Need-loop-holds Inv-loop μ-loop
 loop-holds c = (c .before .pre, summed-start _ _)
 
@@ -50,16 +54,16 @@ array-write-seen c = omega (arith, c .before .wide .ensures .0, step-here (c .be
 
 add-len : tie.Need-add-len Inv-loop μ-loop
 add-len c =
-    let i = c .before .before .before .before .before .before .loop .inv in
+    let i = at-loop c .loop .inv in
     let f = i .0 .fits in
     omega (arith, i .1 .few, f .before, f .within, f .lent)
 
 group-len-requires : tie.Need-group-len-requires Inv-loop μ-loop
-group-len-requires c κs = c .before .before .before .before .before .before .before .before .pre
+group-len-requires c κs = at-loop c .before .before .pre
 
 add-len-2 : tie.Need-add-len-2 Inv-loop μ-loop
 add-len-2 c =
-    let i = c .before .before .before .before .before .before .before .loop .inv in
+    let i = at-loop (c .before) .loop .inv in
     let f = i .0 .fits in
     omega (arith, i .1 .few, f .before, f .within, f .lent, c .group-len .ensures .1)
 
@@ -70,7 +74,7 @@ loop-again : tie.Need-loop-again Inv-loop μ-loop
 loop-again c =
     let u = step-here (c .before .before .before) in
     let g = c .group-len .ensures in
-    (u .readable, summed-new _ _ _ _ _ (c .before .before .before .before .before .before .before .loop .inv .1) _ _ _ (u .turn) _ _ (u .type-is) (u .small) (c .before .before .wide .ensures .0) (not-true _ (c .before .if1 .taken)) _ (g .0) (g .1))
+    (u .readable, summed-new _ _ _ _ _ (at-loop (c .before) .loop .inv .1) _ _ _ (u .turn) _ _ (u .type-is) (u .small) (c .before .before .wide .ensures .0) (not-true _ (c .before .if1 .taken)) _ (g .0) (g .1))
 
 loop-less-2 : tie.Need-loop-less-2 Inv-loop μ-loop
 loop-less-2 c = nearer _ _ _ _ _ (step-here (c .before .before))

@@ -35,9 +35,10 @@ same-length c = search needs
 
 returns : tie.Need-returns
 returns c =
-    let a = c .before .before .before .before .before .before .before .before .before .before .args in
+    let pgu = c .before .before .before .before .before .before in
+    let a = pgu .before .before .before .before .args in
     let us = unitsAt (a .list .now) (a .c) in
-    let y = c .before .before .before .before .before .before .put-group-units in
+    let y = pgu .put-group-units in
     let h = y .ensures .0 in (
       omega (arith, array-long us (a .t)),
       array-stored us (a .t) (a .out .now) _ _ (a .at) (y .result - (a .at + 4)) (y .ensures .1) (c .before .before .put-array-head .ensures) (omega arith),

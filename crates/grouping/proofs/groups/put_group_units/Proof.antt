@@ -16,6 +16,16 @@ Inv-loop list t out₀ at here₀ to₀ out here to = Readable list here × Stor
 abbrev μ-loop : tie.MeasureT-loop
 μ-loop list t out₀ at here₀ to₀ out here to = length list - here .at
 
+-- Earlier places of the function, each seen from a later one.
+abbrev start : (c : tie.At-loop Inv-loop μ-loop) → tie.Start Inv-loop μ-loop
+start c = c .before .before .before
+
+abbrev at-loop : (c : tie.Then1 Inv-loop μ-loop) → tie.At-loop Inv-loop μ-loop
+at-loop c = c .before .before .before .before .before
+
+abbrev at-then1 : (c : tie.After-struct-known Inv-loop μ-loop) → tie.Then1 Inv-loop μ-loop
+at-then1 c = c .before .before .before .before .before
+
 loop-holds : tie.Need-loop-holds Inv-loop μ-loop
 loop-holds c = (c .before .before .pre .0, stored-start _ _ _ _)
 
@@ -36,14 +46,15 @@ returns c = stored-end _ _ _ _ _ _ _ (c .before .before .before .loop .inv .1) (
 
 -- the unit that the step found
 step-here : (c : tie.After-known-told Inv-loop μ-loop)
-    → UnitStepped (c .before .before .before .before .before .before .before .args .list .now) (c .before .before .before .before .loop .here) (c .before .a .given .0 .0) (c .before .a .given .0 .1 .0) (c .before .a .given .0 .1 .1 .0)
+    → let l = c .before .before .before .before in UnitStepped (start l .args .list .now) (l .loop .here) (c .before .a .given .0 .0) (c .before .a .given .0 .1 .0) (c .before .a .given .0 .1 .1 .0)
 step-here c = stepped-to _ _ _ (c .before .before .before .next-unit .ensures) _ _ _ (c .before .a .given .1)
 
 -- the output has room for it if it is of the type
-room-here : (c : tie.Then1 Inv-loop μ-loop) → c .before .before .before .before .before .loop .to + 4 + c .before .before .a .given .0 .0 .len ≤ length (c .before .before .before .before .before .loop .out)
+room-here : (c : tie.Then1 Inv-loop μ-loop) → let l = at-loop c in l .loop .to + 4 + c .before .before .a .given .0 .0 .len ≤ length (l .loop .out)
 room-here c =
+    let l = at-loop c in
     let u = step-here (c .before) in
-    omega (arith, u .long, stored-room _ _ _ _ _ _ _ (c .before .before .before .before .before .loop .inv .1) _ _ _ _ (u .turn) (c .before .before .before .before .before .before .before .before .pre .1) (sym (u .type-is) ∙ c .if1 .taken))
+    omega (arith, u .long, stored-room _ _ _ _ _ _ _ (l .loop .inv .1) _ _ _ _ (u .turn) (start l .pre .1) (sym (u .type-is) ∙ c .if1 .taken))
 
 put-unit-requires : tie.Need-put-unit-requires Inv-loop μ-loop
 put-unit-requires c κs = (step-here (c .before .before) .inside, omega arith, room-here (c .before))
@@ -52,15 +63,16 @@ add-to : tie.Need-add-to Inv-loop μ-loop
 add-to c = omega (arith, room-here (c .before .before .before .before))
 
 add-to-2 : tie.Need-add-to-2 Inv-loop μ-loop
-add-to-2 c = omega (arith, room-here (c .before .before .before .before .before))
+add-to-2 c = omega (arith, room-here (at-then1 c))
 
 loop-less : tie.Need-loop-less Inv-loop μ-loop
-loop-less c = nearer _ _ _ _ _ (step-here (c .before .before .before .before .before .before))
+loop-less c = nearer _ _ _ _ _ (step-here (at-then1 c .before))
 
 loop-again : tie.Need-loop-again Inv-loop μ-loop
 loop-again c =
-    let u = step-here (c .before .before .before .before .before .before) in
-    (u .readable, stored-same _ _ _ _ _ _ _ (c .before .before .before .before .before .before .before .before .before .before .loop .inv .1) _ _ _ _ (u .turn) (sym (u .type-is) ∙ c .before .before .before .before .before .if1 .taken) _ (u .long) _ (c .before .before .before .put-unit .ensures))
+    let th = at-then1 c in
+    let u = step-here (th .before) in
+    (u .readable, stored-same _ _ _ _ _ _ _ (at-loop th .loop .inv .1) _ _ _ _ (u .turn) (sym (u .type-is) ∙ th .if1 .taken) _ (u .long) _ (c .before .before .before .put-unit .ensures))
 
 loop-less-2 : tie.Need-loop-less-2 Inv-loop μ-loop
 loop-less-2 c = nearer _ _ _ _ _ (step-here (c .before))

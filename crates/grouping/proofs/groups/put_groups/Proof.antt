@@ -16,6 +16,13 @@ Inv-loop list c out₀ at here₀ stored₀ to₀ out here stored to = Readable 
 abbrev μ-loop : tie.MeasureT-loop
 μ-loop list c out₀ at here₀ stored₀ to₀ out here stored to = length list - here .at
 
+-- Earlier places of the function, each seen from a later one.
+abbrev start : (c : tie.At-loop Inv-loop μ-loop) → tie.Start Inv-loop μ-loop
+start c = c .before .before .before
+
+abbrev at-loop : (c : tie.After-wide Inv-loop μ-loop) → tie.At-loop Inv-loop μ-loop
+at-loop c = c .before .before .before .before .before
+
 loop-holds : tie.Need-loop-holds Inv-loop μ-loop
 loop-holds c = (c .before .before .pre .0, laid-start _ _ _)
 
@@ -36,7 +43,7 @@ returns c = laid-end _ _ _ _ _ _ _ (c .before .before .before .loop .inv .1) (en
 
 -- the unit that the step found
 step-here : (c : tie.After-known-told Inv-loop μ-loop)
-    → UnitStepped (c .before .before .before .before .before .before .before .args .list .now) (c .before .before .before .before .loop .here) (c .before .t .given .0 .0) (c .before .t .given .0 .1 .0) (c .before .t .given .0 .1 .1 .0)
+    → let l = c .before .before .before .before in UnitStepped (start l .args .list .now) (l .loop .here) (c .before .t .given .0 .0) (c .before .t .given .0 .1 .0) (c .before .t .given .0 .1 .1 .0)
 step-here c = stepped-to _ _ _ (c .before .before .before .next-unit .ensures) _ _ _ (c .before .t .given .1)
 
 wide-requires : tie.Need-wide-requires Inv-loop μ-loop
@@ -50,9 +57,12 @@ array-write-stored c = omega (arith, c .before .wide .ensures .0, step-here (c .
 
 put-group-requires : tie.Need-put-group-requires Inv-loop μ-loop
 put-group-requires c κs =
-    let u = step-here (c .before .before .before) in (
-      c .before .before .before .before .before .before .before .before .before .before .pre .0,
-      laid-room _ _ _ _ _ _ _ (c .before .before .before .before .before .before .before .loop .inv .1) _ _ _ _ (u .turn) _ _ (u .type-is) (u .small) (c .before .before .wide .ensures .0) (not-true _ (c .before .if1 .taken)) (c .before .before .before .before .before .before .before .before .before .before .pre .1),
+    let w = c .before .before in
+    let l = at-loop w in
+    let s = start l in
+    let u = step-here (w .before) in (
+      s .pre .0,
+      laid-room _ _ _ _ _ _ _ (l .loop .inv .1) _ _ _ _ (u .turn) _ _ (u .type-is) (u .small) (w .wide .ensures .0) (not-true _ (c .before .if1 .taken)) (s .pre .1),
     )
 
 loop-less : tie.Need-loop-less Inv-loop μ-loop
@@ -60,10 +70,11 @@ loop-less c = nearer _ _ _ _ _ (step-here (c .before .before .before .before .be
 
 loop-again : tie.Need-loop-again Inv-loop μ-loop
 loop-again c =
-    let u = step-here (c .before .before .before .before .before .before) in
+    let w = c .before .before .before .before .before in
+    let u = step-here (w .before) in
     let p = c .before .before .put-group .ensures in (
       u .readable,
-      laid-new _ _ _ _ _ _ _ (c .before .before .before .before .before .before .before .before .before .before .loop .inv .1) _ _ _ _ (u .turn) _ _ (u .type-is) (u .small) (c .before .before .before .before .before .wide .ensures .0) (not-true _ (c .before .before .before .before .if1 .taken)) _ _ (p .0) (p .1),
+      laid-new _ _ _ _ _ _ _ (at-loop w .loop .inv .1) _ _ _ _ (u .turn) _ _ (u .type-is) (u .small) (w .wide .ensures .0) (not-true _ (c .before .before .before .before .if1 .taken)) _ _ (p .0) (p .1),
     )
 
 loop-less-2 : tie.Need-loop-less-2 Inv-loop μ-loop
@@ -72,7 +83,7 @@ loop-less-2 c = nearer _ _ _ _ _ (step-here (c .before .before))
 loop-again-2 : tie.Need-loop-again-2 Inv-loop μ-loop
 loop-again-2 c =
     let u = step-here (c .before .before) in
-    (u .readable, laid-met _ _ _ _ _ _ _ (c .before .before .before .before .before .before .loop .inv .1) _ _ _ _ (u .turn) _ _ (u .type-is) (u .small) (c .before .wide .ensures .0) (not-false _ (c .if1 .left)))
+    (u .readable, laid-met _ _ _ _ _ _ _ (at-loop (c .before) .loop .inv .1) _ _ _ _ (u .turn) _ _ (u .type-is) (u .small) (c .before .wide .ensures .0) (not-false _ (c .if1 .left)))
 
 pub put-groups-spec : {M : Type 1} → statement M
 put-groups-spec =

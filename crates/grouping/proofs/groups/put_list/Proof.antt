@@ -12,14 +12,19 @@ use Rattle.grouping.proofs.ArrayWalk.{allArrays}
 use Rattle.grouping.proofs.groups.put_list.Statement.{statement}
 use Rattle.grouping.proofs.groups.put_list.Tie as tie
 
+-- Where the function starts, seen from a later place.
+abbrev start : (c : tie.After-put) → tie.Start
+start c = c .before .before .before .before
+
 put-requires : tie.Need-put-requires
 put-requires c κs = search needs
 
 put-groups-requires : tie.Need-put-groups-requires
 unfolding encode
 put-groups-requires c κs =
-    let l = ap length (c .before .before .before .put .ensures) ∙ length-set (c .before .before .before .before .before .before .before .args .out .now) 0 1 in
-    (c .before .before .before .before .before .before .before .pre .0, omega (arith, c .before .before .before .before .before .before .before .pre .1))
+    let s = start (c .before .before .before) in
+    let l = ap length (c .before .before .before .put .ensures) ∙ length-set (s .args .out .now) 0 1 in
+    (s .pre .0, omega (arith, s .pre .1))
 
 same-length : tie.Need-same-length
 same-length c = search needs
@@ -27,8 +32,9 @@ same-length c = search needs
 returns : tie.Need-returns
 unfolding encode
 returns c =
-    let a = c .before .before .before .before .before .before .before .before .before .before .args in
-    c .before .before .put-groups .ensures ∙ ap (λ (l : List ℕ). sets l 1 (allArrays (unitsAt (a .list .now) (a .c)))) (c .before .before .before .before .before .before .put .ensures)
+    let p = c .before .before .before .before .before .before in
+    let a = start p .args in
+    c .before .before .put-groups .ensures ∙ ap (λ (l : List ℕ). sets l 1 (allArrays (unitsAt (a .list .now) (a .c)))) (p .put .ensures)
 
 pub put-list-spec : {M : Type 1} → statement M
 put-list-spec = tie.close (tie.spec put-requires put-groups-requires same-length returns)

@@ -19,6 +19,10 @@ Inv-loop list t here₀ here = Readable list here × (havingType t (unitsAt list
 abbrev μ-loop : tie.MeasureT-loop
 μ-loop list t here₀ here = length list - here .at
 
+-- Where the function starts, seen from a later place.
+abbrev start : (c : tie.After-known-told Inv-loop μ-loop) → tie.Start Inv-loop μ-loop
+start c = c .before .before .before .before .before .before
+
 loop-holds : tie.Need-loop-holds Inv-loop μ-loop
 loop-holds c = (c .before .pre .0, refl)
 
@@ -39,30 +43,32 @@ returns c =
 
 -- the unit that the step found
 step-here : (c : tie.After-known-told Inv-loop μ-loop)
-    → UnitStepped (c .before .before .before .before .before .before .args .list .now) (c .before .before .before .before .loop .here) (c .before .a .given .0 .0) (c .before .a .given .0 .1 .0) (c .before .a .given .0 .1 .1 .0)
+    → UnitStepped (start c .args .list .now) (c .before .before .before .before .loop .here) (c .before .a .given .0 .0) (c .before .a .given .0 .1 .0) (c .before .a .given .0 .1 .1 .0)
 step-here c = stepped-to _ _ _ (c .before .before .before .next-unit .ensures) _ _ _ (c .before .a .given .1)
 
 is-record-of-requires : tie.Need-is-record-of-requires Inv-loop μ-loop
 is-record-of-requires c κs = search needs
 
 -- the test of the kind is the test of the type
-tested : (c : tie.After-is-record-of Inv-loop μ-loop) → c .is-record-of .result ≡ eqb (c .before .before .a .given .0 .1 .0) (c .before .before .before .before .before .before .before .args .t)
-tested c = c .is-record-of .ensures ∙ record-of _ _ (c .before .before .before .before .before .before .before .pre .1)
+tested : (c : tie.After-is-record-of Inv-loop μ-loop) → c .is-record-of .result ≡ eqb (c .before .before .a .given .0 .1 .0) (start (c .before) .args .t)
+tested c = c .is-record-of .ensures ∙ record-of _ _ (start (c .before) .pre .1)
 
 returns-2 : tie.Need-returns-2 Inv-loop μ-loop
 returns-2 c =
-    let u = step-here (c .before .before) in
-    let h = having-same (c .before .before .before .before .before .before .before .before .args .t) _ _ _ _ _ (u .turn) (sym (u .type-is) ∙ eqb-true _ _ (sym (tested (c .before)) ∙ c .if1 .taken)) in
-    (sym (ap firstElement h) ∙ ap firstElement (c .before .before .before .before .before .before .loop .inv .1), u .inside)
+    let kt = c .before .before in
+    let u = step-here kt in
+    let h = having-same (start kt .args .t) _ _ _ _ _ (u .turn) (sym (u .type-is) ∙ eqb-true _ _ (sym (tested (c .before)) ∙ c .if1 .taken)) in
+    (sym (ap firstElement h) ∙ ap firstElement (kt .before .before .before .before .loop .inv .1), u .inside)
 
 loop-less : tie.Need-loop-less Inv-loop μ-loop
 loop-less c = nearer _ _ _ _ _ (step-here (c .before .before))
 
 loop-again : tie.Need-loop-again Inv-loop μ-loop
 loop-again c =
-    let u = step-here (c .before .before) in
-    let h = having-other (c .before .before .before .before .before .before .before .before .args .t) _ _ _ _ _ (u .turn) (λ e. eqb-false _ _ (sym (tested (c .before)) ∙ c .if1 .left) (u .type-is ∙ e)) in
-    (u .readable, sym h ∙ c .before .before .before .before .before .before .loop .inv .1)
+    let kt = c .before .before in
+    let u = step-here kt in
+    let h = having-other (start kt .args .t) _ _ _ _ _ (u .turn) (λ e. eqb-false _ _ (sym (tested (c .before)) ∙ c .if1 .left) (u .type-is ∙ e)) in
+    (u .readable, sym h ∙ kt .before .before .before .before .loop .inv .1)
 
 pub first-having-spec : {M : Type 1} → statement M
 first-having-spec =

@@ -10,6 +10,10 @@ use borrow.Author.Needs.{needs}
 use Rattle.ptl.proofs.constraints.read_constraints.Statement.{statement}
 use Rattle.ptl.proofs.constraints.read_constraints.Tie as tie
 
+-- Where the function starts, seen from a later place.
+abbrev start : (c : tie.After-known-told) → tie.Start
+start c = c .before .before .before .before .before .before .before
+
 -- the three reads
 reads : (c : tie.After-general-constraints-info) → FlagsAndInfo (c .before .before .before .before .args .rbsp .now) (c .before .before .before .before .args .prior) (c .before .before .read-bits .result) (c .before .read-bits2 .result) (c .general-constraints-info .result)
 reads c = record { frame-only = c .before .before .read-bits .ensures; multilayer = c .before .read-bits2 .ensures; info = c .general-constraints-info .ensures }
@@ -45,7 +49,7 @@ position-requires : tie.Need-position-requires
 position-requires c κs = search needs
 
 byte-offset-requires : tie.Need-byte-offset-requires
-byte-offset-requires c κs = omega (arith, c .position .ensures, c .before .before .before .before .before .before .before .before .pre .1)
+byte-offset-requires c κs = omega (arith, c .position .ensures, start (c .before) .pre .1)
 
 byte-offset-requires-2 : tie.Need-byte-offset-requires-2
 byte-offset-requires-2 c κs = run (c .before .before) .whole
@@ -54,7 +58,7 @@ bytes-between-requires : tie.Need-bytes-between-requires
 bytes-between-requires c κs = omega (arith, run (c .before .before .before), c .byte-offset2 .ensures, c .before .byte-offset .ensures, c .before .before .position .ensures)
 
 constraint-bytes-requires : tie.Need-constraint-bytes-requires
-constraint-bytes-requires c κs = let t = c .before in omega (arith, run (t .before .before .before), t .byte-offset2 .ensures, t .before .byte-offset .ensures, t .before .before .position .ensures, t .before .before .before .before .before .before .before .before .before .before .pre .1)
+constraint-bytes-requires c κs = let t = c .before in omega (arith, run (t .before .before .before), t .byte-offset2 .ensures, t .before .byte-offset .ensures, t .before .before .position .ensures, start (t .before .before .before) .pre .1)
 
 number-requires : tie.Need-number-requires
 number-requires c κs = search needs

@@ -40,19 +40,23 @@ add-read-sub-profiles c = search needs
 
 read-sub-profiles-requires : tie.Need-read-sub-profiles-requires
 read-sub-profiles-requires c κs =
-    let e = c .before .wide .ensures .0 ∙ c .before .before .byte4 .ensures in
-    (omega (arith, c .before .wide .ensures .1), omega (arith, e, c .before .before .before .before .before .before .before .before .before .before .pre))
+    let w = c .before in
+    let b = w .before .before .before .before .before in
+    let e = w .wide .ensures .0 ∙ w .before .byte4 .ensures in
+    (omega (arith, w .wide .ensures .1), omega (arith, e, b .before .before .before .before .pre))
 
 returns : tie.Need-returns
 returns c =
-    let e = c .before .before .wide .ensures .0 ∙ c .before .before .before .byte4 .ensures in
+    let w = c .before .before in
+    let b = w .before .before .before .before .before in
+    let e = w .wide .ensures .0 ∙ w .before .byte4 .ensures in
     rw (
       c .read-sub-profiles .ensures,
       e,
-      c .before .before .before .before .before .before .read-constraint-info .ensures,
-      c .before .before .before .before .before .before .before .byte3 .ensures,
-      c .before .before .before .before .before .before .before .before .byte2 .ensures,
-      c .before .before .before .before .before .before .before .before .before .byte .ensures,
+      w .before .before .before .before .read-constraint-info .ensures,
+      b .byte3 .ensures,
+      b .before .byte2 .ensures,
+      b .before .before .byte .ensures,
     )
 
 pub ptl-fields-spec : {M : Type 1} → statement M

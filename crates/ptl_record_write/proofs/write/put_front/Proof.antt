@@ -6,6 +6,16 @@ use borrow.Author.Needs.{needs}
 use Rattle.ptl_record_write.proofs.write.put_front.Statement.{statement}
 use Rattle.ptl_record_write.proofs.write.put_front.Tie as tie
 
+-- Earlier places of the function, each seen from a later one.
+abbrev start : (c : tie.After-put) → tie.Start
+start c = c .before .before .before .before .before
+
+abbrev after-put : (c : tie.After-put2) → tie.After-put
+after-put c = c .before .before .before .before .before
+
+abbrev after-put2 : (c : tie.After-put3) → tie.After-put2
+after-put2 c = c .before .before .before .before
+
 constraint-len-requires : tie.Need-constraint-len-requires
 constraint-len-requires c κs = search needs
 
@@ -41,8 +51,9 @@ add-put-info c = search needs
 
 put-info-requires : tie.Need-put-info-requires
 put-info-requires c κs =
-    let g = c .before .before .before .before .before .before .before .before .before .before .before .before .before .before .before .before .before in
-    let n = c .before .before .before .before .before .before .before .before .before .before .before .before .before .before .before .constraint-len .ensures in
+    let pu = after-put (after-put2 (c .before .before .before)) in
+    let g = start pu in
+    let n = pu .before .before .before .constraint-len .ensures in
     let f = length-front (g .args .p) in
     (g .pre .1, n .0, n .2, search needs)
 
@@ -57,12 +68,14 @@ same-length c = search needs
 
 returns : tie.Need-returns
 returns c =
-    let g = c .before .before .before .before .before .before .before .before .before .before .before .before .before .before .before .before .before .before .before .before in
-    let a = g .args in
-    let n = c .before .before .before .before .before .before .before .before .before .before .before .before .before .before .before .before .before .before .constraint-len .ensures in
+    let w = c .before .before .before .before .before .before in
+    let q = w .before .before .before .before in
+    let pu = q .before .before .before .before .before in
+    let a = start pu .args in
+    let n = pu .before .before .before .constraint-len .ensures in
     let f = length-front (a .p) in (
       omega (arith, n, f),
-      rw (c .before .before .put-info .ensures, c .before .before .before .before .before .before .put3 .ensures, c .before .before .before .before .before .before .before .before .before .before .put2 .ensures, c .before .before .before .before .before .before .before .before .before .before .before .before .before .before .before .put .ensures, c .before .before .before .before .before .before .before .before .before .before .before .before .before .before .before .before .before .bit-of .ensures .0, n .0) (front-stored (a .p) (a .out .now) (a .at)),
+      rw (c .before .before .put-info .ensures, w .put3 .ensures, q .put2 .ensures, pu .put .ensures, pu .before .before .bit-of .ensures .0, n .0) (front-stored (a .p) (a .out .now) (a .at)),
       omega (arith, n),
     )
 

@@ -43,14 +43,15 @@ loop-less c = search needs
 
 loop-again : tie.Need-loop-again Inv-loop μ-loop
 loop-again c =
-    let l = c .before .before .before .before .before .before .before .loop in
-    let a = c .before .before .before .before .before .before .before .before .before .args in
+    let hl = c .before .before .before .before in
+    let l = hl .before .before .before .loop in
+    let a = hl .before .before .before .before .before .args in
     let j = l .i - 1 in
     let e : l .i ≡ suc j = omega arith in
     let v = rw e at (l .inv .1) in
     let w = rw e at (l .inv .2) in
     let o = c .before .before .put-level .ensures in
-    let h = c .before .before .before .before .has-level .ensures in
+    let h = hl .has-level .ensures in
     let o0 = rw h at (o .0) in
     let o1 = rw h at (o .1) in
     (search needs, omega (arith, levels-longer (a .t3) j), rw (o1, o0) (levels-more (a .t3) j (l .out) (l .w) ∙ w))

@@ -6,6 +6,13 @@ use Rattle.record_arrays_write.proofs.Measures.{entered, end-measured, 
 use Rattle.record_arrays_write.proofs.measure.measure_array.Statement.{statement}
 use Rattle.record_arrays_write.proofs.measure.measure_array.Tie as tie
 
+-- Earlier places of the function, each seen from a later one.
+abbrev start : (c : tie.After-first) → tie.Start
+start c = c .before .before .before .before
+
+abbrev after-first : (c : tie.After-units) → tie.After-first
+after-first c = c .before .before .before .before
+
 array-step-requires : tie.Need-array-step-requires
 array-step-requires c κs = search needs
 
@@ -14,9 +21,10 @@ enum-known-first c = search needs
 
 measure-units-requires : tie.Need-measure-units-requires
 measure-units-requires c κs =
-    let t = c .before .before .before .array-step in
-    let a = c .before .before .before .before .before .args in
-    let g = c .before .first .given in
+    let f = c .before in
+    let t = f .before .before .array-step in
+    let a = start f .args in
+    let g = f .first .given in
     entered (a .list .now) (a .c) (t .result) (t .ensures) (g .0 .0) (g .0 .1 .0) (g .1) .1 .fits
 
 enum-known-units : tie.Need-enum-known-units
@@ -27,17 +35,19 @@ enum-told c = search needs
 
 returns : tie.Need-returns
 returns c =
-    let t = c .before .before .before .before .before .before .array-step in
-    let a = c .before .before .before .before .before .before .before .before .args in
-    let g = c .before .before .before .before .first .given in
+    let f = c .before .before .before .before in
+    let t = f .before .before .array-step in
+    let a = start f .args in
+    let g = f .first .given in
     let m = c .before .before .measure-units in
     (unread-measured (a .list .now) (a .c) (t .result) (t .ensures) (g .0 .0) (g .0 .1 .0) (g .1) (sym (ap measureOf (c .enum-told .given .1)) ∙ m .ensures .0), tt)
 
 of-array-requires : tie.Need-of-array-requires
 of-array-requires c κs =
-    let t = c .before .before .before .before .before .before .before .array-step in
-    let a = c .before .before .before .before .before .before .before .before .before .args in
-    let g = c .before .before .before .before .before .first .given in
+    let f = after-first (c .before) in
+    let t = f .before .before .array-step in
+    let a = start f .args in
+    let g = f .first .given in
     let m = c .before .before .before .measure-units in
     let u = c .before .units .given in
     units-few (a .list .now) (a .c) (t .result) (t .ensures) (g .0 .0) (g .0 .1 .0) (g .1) (u .0 .0)
@@ -51,11 +61,13 @@ enum-told-3 c = search needs
 
 returns-2 : tie.Need-returns-2
 returns-2 c =
-    let t = c .before .before .before .before .before .before .before .before .array-step in
-    let a = c .before .before .before .before .before .before .before .before .before .before .args in
-    let g = c .before .before .before .before .before .before .first .given in
-    let m = c .before .before .before .before .measure-units in
-    let u = c .before .before .units .given in
+    let un = c .before .before in
+    let f = after-first un in
+    let t = f .before .before .array-step in
+    let a = start f .args in
+    let g = f .first .given in
+    let m = un .before .before .measure-units in
+    let u = un .units .given in
     let e = sym (ap measureOf (u .1)) ∙ m .ensures .0 in
     let w = subst (UnitsWithin (g .0 .1 .0)) (u .1) (m .ensures .1) in
     rw (c .of-array .ensures) (

@@ -12,6 +12,10 @@ Inv-loop list c sum₀ here sum = MeasuringUnits list c here sum
 abbrev μ-loop : tie.MeasureT-loop
 μ-loop list c sum₀ here sum = length list - here .at
 
+-- Where the function starts, seen from a later place.
+abbrev start : (c : tie.After-unit-step Inv-loop μ-loop) → tie.Start Inv-loop μ-loop
+start c = c .before .before .before
+
 loop-holds : tie.Need-loop-holds Inv-loop μ-loop
 loop-holds c = let b = c .before in units-start (b .args .list .now) (b .args .c) (b .pre)
 
@@ -23,32 +27,38 @@ enum-known-a c = search needs
 
 of-unit-requires : tie.Need-of-unit-requires Inv-loop μ-loop
 of-unit-requires c κs =
-    let t = c .before .before .before .unit-step in
-    let l = c .before .before .before .before .loop in
-    let a = c .before .before .before .before .before .before .args in
+    let us = c .before .before .before in
+    let t = us .unit-step in
+    let l = us .before .loop in
+    let a = start us .args in
     let g = c .before .a .given in
     unit-small (a .list .now) (a .c) (l .here) (l .sum) (l .inv) (t .result) (t .ensures) (g .0 .0) (g .0 .1 .0) (g .1)
 
 add-requires : tie.Need-add-requires Inv-loop μ-loop
 add-requires c κs =
-    let t = c .before .before .before .before .unit-step in
-    let l = c .before .before .before .before .before .loop in
-    let a = c .before .before .before .before .before .before .before .args in
+    let us = c .before .before .before .before in
+    let t = us .unit-step in
+    let l = us .before .loop in
+    let a = start us .args in
     let g = c .before .before .a .given in
     rw (c .of-unit .ensures) (units-add (a .list .now) (a .c) (l .here) (l .sum) (l .inv) (t .result) (t .ensures) (g .0 .0) (g .0 .1 .0) (g .1))
 
 loop-less : tie.Need-loop-less Inv-loop μ-loop
 loop-less c =
-    let t = c .before .before .before .before .before .unit-step in
-    let g = c .before .before .before .a .given in
-    ahead (c .before .before .before .before .before .before .before .before .args .list .now) (c .before .before .before .before .before .before .loop .here) (t .result) (t .ensures) (g .0 .0) (g .0 .1 .0) (g .1) .less
+    let p = c .before .before .before in
+    let us = p .before .before in
+    let t = us .unit-step in
+    let g = p .a .given in
+    ahead (start us .args .list .now) (us .before .loop .here) (t .result) (t .ensures) (g .0 .0) (g .0 .1 .0) (g .1) .less
 
 loop-again : tie.Need-loop-again Inv-loop μ-loop
 loop-again c =
-    let t = c .before .before .before .before .before .unit-step in
-    let l = c .before .before .before .before .before .before .loop in
-    let a = c .before .before .before .before .before .before .before .before .args in
-    let g = c .before .before .before .a .given in
+    let p = c .before .before .before in
+    let us = p .before .before in
+    let t = us .unit-step in
+    let l = us .before .loop in
+    let a = start us .args in
+    let g = p .a .given in
     rw (c .add .ensures, c .before .of-unit .ensures)
     (units-again (a .list .now) (a .c) (l .here) (l .sum) (l .inv) (t .result) (t .ensures) (g .0 .0) (g .0 .1 .0) (g .1))
 
@@ -57,9 +67,10 @@ enum-told c = search needs
 
 returns : tie.Need-returns Inv-loop μ-loop
 returns c =
-    let t = c .before .before .unit-step in
-    let l = c .before .before .before .loop in
-    let a = c .before .before .before .before .before .args in
+    let us = c .before .before in
+    let t = us .unit-step in
+    let l = us .before .loop in
+    let a = start us .args in
     units-ended (a .list .now) (a .c) (l .here) (l .sum) (l .inv) (t .result) (t .ensures) (c .enum-told .given .1)
 
 enum-told-2 : tie.Need-enum-told-2 Inv-loop μ-loop
@@ -67,9 +78,10 @@ enum-told-2 c = search needs
 
 returns-2 : tie.Need-returns-2 Inv-loop μ-loop
 returns-2 c =
-    let t = c .before .before .unit-step in
-    let l = c .before .before .before .loop in
-    let a = c .before .before .before .before .before .args in
+    let us = c .before .before in
+    let t = us .unit-step in
+    let l = us .before .loop in
+    let a = start us .args in
     (units-refused (a .list .now) (a .c) (l .here) (l .sum) (l .inv) (t .result) (t .ensures) (c .enum-told2 .given .1), tt)
 
 pub measure-units-spec : {M : Type 1} → statement M

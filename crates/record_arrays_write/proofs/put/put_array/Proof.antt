@@ -5,6 +5,13 @@ use Rattle.record_arrays_write.proofs.Stores.{count-puts, units-puts, a
 use Rattle.record_arrays_write.proofs.put.put_array.Statement.{statement}
 use Rattle.record_arrays_write.proofs.put.put_array.Tie as tie
 
+-- Earlier places of the function, each seen from a later one.
+abbrev start : (c : tie.After-put) → tie.Start
+start c = c .before .before .before .before .before
+
+abbrev after-put : (c : tie.After-put-count) → tie.After-put
+after-put c = c .before .before .before .before
+
 array-byte-requires : tie.Need-array-byte-requires
 array-byte-requires c κs = search needs
 
@@ -16,16 +23,19 @@ add-put-count c = search needs
 
 put-count-requires : tie.Need-put-count-requires
 put-count-requires c κs =
-    let b = c .before .before .before .before .before .before .before .before in
+    let p = c .before .before .before in
+    let b = start p in
     let a = b .args in
-    (b .pre .2, count-puts (a .list .now) (a .complete) (a .c .«unit_type») (arrayUnitsFrom (a .list .now) (a .c)) (a .out .now) (a .to) (b .pre .3) _ (c .before .before .before .before .before .array-byte .ensures) _ (c .before .before .before .put .ensures))
+    (b .pre .2, count-puts (a .list .now) (a .complete) (a .c .«unit_type») (arrayUnitsFrom (a .list .now) (a .c)) (a .out .now) (a .to) (b .pre .3) _ (p .before .before .array-byte .ensures) _ (p .put .ensures))
 
 put-units-requires : tie.Need-put-units-requires
 put-units-requires c κs =
-    let b = c .before .before .before .before .before .before .before .before .before .before .before .before in
+    let pc = c .before .before .before in
+    let p = after-put pc in
+    let b = start p in
     let a = b .args in (
       b .pre .2,
-      units-puts (a .list .now) (a .complete) (a .c .«unit_type») (arrayUnitsFrom (a .list .now) (a .c)) (a .out .now) (a .to) (b .pre .3) _ (c .before .before .before .before .before .before .before .before .before .array-byte .ensures) _ (c .before .before .before .before .before .before .before .put .ensures) _ _ (c .before .before .before .put-count .ensures),
+      units-puts (a .list .now) (a .complete) (a .c .«unit_type») (arrayUnitsFrom (a .list .now) (a .c)) (a .out .now) (a .to) (b .pre .3) _ (p .before .before .array-byte .ensures) _ (p .put .ensures) _ _ (pc .put-count .ensures),
     )
 
 same-length : tie.Need-same-length
@@ -33,10 +43,12 @@ same-length c = search needs
 
 returns : tie.Need-returns
 returns c =
-    let b = c .before .before .before .before .before .before .before .before .before .before .before .before .before .before .before in
+    let pc = c .before .before .before .before .before .before in
+    let p = after-put pc in
+    let b = start p in
     let a = b .args in
     array-stored (a .list .now) (a .complete) (a .c .«unit_type») (arrayUnitsFrom (a .list .now) (a .c)) (a .out .now) (a .to) (b .pre .3)
-    _ (c .before .before .before .before .before .before .before .before .before .before .before .before .array-byte .ensures) _ (c .before .before .before .before .before .before .before .before .before .before .put .ensures) _ _ (c .before .before .before .before .before .before .put-count .ensures) _ _ (c .before .before .put-units .ensures)
+    _ (p .before .before .array-byte .ensures) _ (p .put .ensures) _ _ (pc .put-count .ensures) _ _ (c .before .before .put-units .ensures)
 
 pub put-array-spec : {M : Type 1} → statement M
 put-array-spec =

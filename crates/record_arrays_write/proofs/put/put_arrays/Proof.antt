@@ -12,6 +12,10 @@ Inv-loop list out₀ to c next₀ out here next = PuttingArrays list c out₀ to
 abbrev μ-loop : tie.MeasureT-loop
 μ-loop list out₀ to c next₀ out here next = length list - here .end
 
+-- Where the function starts, seen from a later place.
+abbrev start : (c : tie.After-complete Inv-loop μ-loop) → tie.Start Inv-loop μ-loop
+start c = c .before .before .before .before .before .before
+
 loop-holds : tie.Need-loop-holds Inv-loop μ-loop
 loop-holds c = let b = c .before .before in arrays-start (b .args .list .now) (b .args .c) (b .args .out .now) (b .args .to) (b .pre)
 
@@ -33,26 +37,29 @@ returns c =
 
 put-array-requires : tie.Need-put-array-requires Inv-loop μ-loop
 put-array-requires c κs =
-    let t = c .before .before .before .before .array-step in
-    let l = c .before .before .before .before .before .loop in
-    let a = c .before .before .before .before .before .before .before .before .args in
-    let g = c .before .before .complete .given in
+    let co = c .before .before in
+    let t = co .before .before .array-step in
+    let l = co .before .before .before .loop in
+    let a = start co .args in
+    let g = co .complete .given in
     array-needs (a .list .now) (a .c) (a .out .now) (a .to) (l .here) (l .out) (l .next) (l .inv) (t .result) (t .ensures) (g .0 .0) (g .0 .1 .0) (g .1)
 
 loop-less : tie.Need-loop-less Inv-loop μ-loop
 loop-less c =
-    let t = c .before .before .before .before .before .before .before .array-step in
-    let l = c .before .before .before .before .before .before .before .before .loop in
-    let a = c .before .before .before .before .before .before .before .before .before .before .before .args in
-    let g = c .before .before .before .before .before .complete .given in
+    let co = c .before .before .before .before .before in
+    let t = co .before .before .array-step in
+    let l = co .before .before .before .loop in
+    let a = start co .args in
+    let g = co .complete .given in
     arrays-less (a .list .now) (a .c) (a .out .now) (a .to) (l .here) (l .out) (l .next) (l .inv) (t .result) (t .ensures) (g .0 .0) (g .0 .1 .0) (g .1)
 
 loop-again : tie.Need-loop-again Inv-loop μ-loop
 loop-again c =
-    let t = c .before .before .before .before .before .before .before .array-step in
-    let l = c .before .before .before .before .before .before .before .before .loop in
-    let a = c .before .before .before .before .before .before .before .before .before .before .before .args in
-    let g = c .before .before .before .before .before .complete .given in
+    let co = c .before .before .before .before .before in
+    let t = co .before .before .array-step in
+    let l = co .before .before .before .loop in
+    let a = start co .args in
+    let g = co .complete .given in
     arrays-again (a .list .now) (a .c) (a .out .now) (a .to) (l .here) (l .out) (l .next) (l .inv) (t .result) (t .ensures) (g .0 .0) (g .0 .1 .0) (g .1)
     _ _ (c .before .before .put-array .ensures)
 

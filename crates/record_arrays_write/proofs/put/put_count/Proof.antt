@@ -11,6 +11,10 @@ use Rattle.record_arrays_write.proofs.put.put_count.Statement.{statemen
 use Rattle.record_arrays_write.proofs.put.put_count.Tie as tie
 use Rattle.parse.proofs.Stores.{put-room}
 
+-- Where the function starts, seen from a later place.
+abbrev start : (c : tie.After-measure-units) → tie.Start
+start c = c .before .before .before .before .before
+
 holds-one-requires : tie.Need-holds-one-requires
 holds-one-requires c κs = search needs
 
@@ -31,17 +35,18 @@ enum-told c = search needs
 
 returns-2 : tie.Need-returns-2
 returns-2 c =
-    let b = c .before .before .before .before .before .before .before in
+    let b = start (c .before .before) in
     let a = b .args in
     absurd (count-never (a .list .now) (a .c .«unit_type») (arrayUnitsFrom (a .list .now) (a .c)) (a .out .now) (a .to) 21 (b .pre .1)
     (sym (ap measureOf (c .enum-told .given .1)) ∙ c .before .before .measure-units .ensures .0))
 
 put-number-requires : tie.Need-put-number-requires
 put-number-requires c κs =
-    let b = c .before .before .before .before .before .before .before .before .before in
+    let mu = c .before .before .before .before in
+    let b = start mu in
     let a = b .args in
     let u = c .before .before .units .given in
-    let e = count-two (a .list .now) (a .c .«unit_type») (arrayUnitsFrom (a .list .now) (a .c)) (sym (c .before .before .before .before .before .before .holds-one .ensures) ∙ c .before .before .before .before .before .if1 .left) (u .0 .0) (sym (ap measureOf (u .1)) ∙ c .before .before .before .before .measure-units .ensures .0) in
+    let e = count-two (a .list .now) (a .c .«unit_type») (arrayUnitsFrom (a .list .now) (a .c)) (sym (mu .before .before .holds-one .ensures) ∙ mu .before .if1 .left) (u .0 .0) (sym (ap measureOf (u .1)) ∙ mu .measure-units .ensures .0) in
     let l = ap length e ∙ length-toBe 2 (u .0 .0 .count) in
     let r = put-room (countBytes (a .list .now) (a .c .«unit_type»)) (arrayUnitsFrom (a .list .now) (a .c)) (a .out .now) (a .to) (b .pre .1) in
     (omega arith, omega arith)
@@ -54,9 +59,11 @@ same-length c = search needs
 
 returns-3 : tie.Need-returns-3
 returns-3 c =
-    let a = c .before .before .before .before .before .before .before .before .before .before .before .before .args in
-    let u = c .before .before .before .before .before .units .given in
-    let e = count-two (a .list .now) (a .c .«unit_type») (arrayUnitsFrom (a .list .now) (a .c)) (sym (c .before .before .before .before .before .before .before .before .before .holds-one .ensures) ∙ c .before .before .before .before .before .before .before .before .if1 .left) (u .0 .0) (sym (ap measureOf (u .1)) ∙ c .before .before .before .before .before .before .before .measure-units .ensures .0) in
+    let un = c .before .before .before .before .before in
+    let mu = un .before .before in
+    let a = start mu .args in
+    let u = un .units .given in
+    let e = count-two (a .list .now) (a .c .«unit_type») (arrayUnitsFrom (a .list .now) (a .c)) (sym (mu .before .before .holds-one .ensures) ∙ mu .before .if1 .left) (u .0 .0) (sym (ap measureOf (u .1)) ∙ mu .measure-units .ensures .0) in
     let l = ap length e ∙ length-toBe 2 (u .0 .0 .count) in
     (omega arith, rw e (c .before .before .put-number .ensures))
 

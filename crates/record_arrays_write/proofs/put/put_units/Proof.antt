@@ -1,5 +1,5 @@
 -- `put_units` stores the units after a cursor. Invariant: those stored and those left are the whole.
-use Prim.Native.Nat.{_-_}
+use Prim.Native.Nat.{_+_, _-_, _≤_}
 use native.Mathlib.Omega.{arith}
 use borrow.Author.Needs.{needs}
 use lib.ListN.{length}
@@ -12,6 +12,13 @@ Inv-loop list out₀ to c at₀ out here at = PuttingUnits list c out₀ to here
 
 abbrev μ-loop : tie.MeasureT-loop
 μ-loop list out₀ to c at₀ out here at = length list - here .at
+
+-- Earlier places of the function, each seen from a later one.
+abbrev start : (c : tie.After-a Inv-loop μ-loop) → tie.Start Inv-loop μ-loop
+start c = c .before .before .before .before .before .before
+
+abbrev after-a : (c : tie.After-slice-known2 Inv-loop μ-loop) → tie.After-a Inv-loop μ-loop
+after-a c = c .before .before .before .before .before
 
 loop-holds : tie.Need-loop-holds Inv-loop μ-loop
 loop-holds c = let b = c .before .before in units-start (b .args .list .now) (b .args .c) (b .args .out .now) (b .args .to) (b .pre .0) (b .pre .1)
@@ -32,47 +39,42 @@ returns c =
     let a = c .before .before .before .before .before .args in
     units-done (a .list .now) (a .c) (a .out .now) (a .to) (l .here) (l .out) (l .at) (l .inv) (t .result) (t .ensures) (c .match .keys2)
 
+-- The unit of a turn lies within the list, and there is room for it.
+room-at : (c : tie.After-a Inv-loop μ-loop)
+    → let u = c .a .given .0 .0 in let l = c .before .before .before .loop in
+    (u .start + u .len ≤ length (start c .args .list .now)) × (l .at + 2 + u .len ≤ length (l .out))
+room-at c =
+    let t = c .before .before .unit-step in
+    let l = c .before .before .before .loop in
+    let a = start c .args in
+    let g = c .a .given in
+    unit-room (a .list .now) (a .c) (a .out .now) (a .to) (l .here) (l .out) (l .at) (l .inv) (t .result) (t .ensures) (g .0 .0) (g .0 .1 .0) (g .1)
+
 put-unit-requires : tie.Need-put-unit-requires Inv-loop μ-loop
-put-unit-requires c κs =
-    let t = c .before .before .before .before .unit-step in
-    let l = c .before .before .before .before .before .loop in
-    let a = c .before .before .before .before .before .before .before .before .args in
-    let g = c .before .before .a .given in
-    let h = unit-room (a .list .now) (a .c) (a .out .now) (a .to) (l .here) (l .out) (l .at) (l .inv) (t .result) (t .ensures) (g .0 .0) (g .0 .1 .0) (g .1) in
-    (h .0, omega arith, h .1)
+put-unit-requires c κs = let h = room-at (c .before .before) in (h .0, omega arith, h .1)
 
 add-at : tie.Need-add-at Inv-loop μ-loop
-add-at c =
-    let t = c .before .before .before .before .before .before .before .unit-step in
-    let l = c .before .before .before .before .before .before .before .before .loop in
-    let a = c .before .before .before .before .before .before .before .before .before .before .before .args in
-    let g = c .before .before .before .before .before .a .given in
-    let h = unit-room (a .list .now) (a .c) (a .out .now) (a .to) (l .here) (l .out) (l .at) (l .inv) (t .result) (t .ensures) (g .0 .0) (g .0 .1 .0) (g .1) in
-    omega arith
+add-at c = let h = room-at (after-a c) in omega arith
 
 add-at-2 : tie.Need-add-at-2 Inv-loop μ-loop
-add-at-2 c =
-    let t = c .before .before .before .before .before .before .before .before .unit-step in
-    let l = c .before .before .before .before .before .before .before .before .before .loop in
-    let a = c .before .before .before .before .before .before .before .before .before .before .before .before .args in
-    let g = c .before .before .before .before .before .before .a .given in
-    let h = unit-room (a .list .now) (a .c) (a .out .now) (a .to) (l .here) (l .out) (l .at) (l .inv) (t .result) (t .ensures) (g .0 .0) (g .0 .1 .0) (g .1) in
-    omega arith
+add-at-2 c = let h = room-at (after-a (c .before)) in omega arith
 
 loop-less : tie.Need-loop-less Inv-loop μ-loop
 loop-less c =
-    let t = c .before .before .before .before .before .before .before .before .unit-step in
-    let l = c .before .before .before .before .before .before .before .before .before .loop in
-    let a = c .before .before .before .before .before .before .before .before .before .before .before .before .args in
-    let g = c .before .before .before .before .before .before .a .given in
+    let p = after-a (c .before) in
+    let t = p .before .before .unit-step in
+    let l = p .before .before .before .loop in
+    let a = start p .args in
+    let g = p .a .given in
     units-less (a .list .now) (a .c) (a .out .now) (a .to) (l .here) (l .out) (l .at) (l .inv) (t .result) (t .ensures) (g .0 .0) (g .0 .1 .0) (g .1)
 
 loop-again : tie.Need-loop-again Inv-loop μ-loop
 loop-again c =
-    let t = c .before .before .before .before .before .before .before .before .unit-step in
-    let l = c .before .before .before .before .before .before .before .before .before .loop in
-    let a = c .before .before .before .before .before .before .before .before .before .before .before .before .args in
-    let g = c .before .before .before .before .before .before .a .given in
+    let p = after-a (c .before) in
+    let t = p .before .before .unit-step in
+    let l = p .before .before .before .loop in
+    let a = start p .args in
+    let g = p .a .given in
     units-again (a .list .now) (a .c) (a .out .now) (a .to) (l .here) (l .out) (l .at) (l .inv) (t .result) (t .ensures) (g .0 .0) (g .0 .1 .0) (g .1) _ (c .before .before .before .put-unit .ensures)
 
 pub put-units-spec : {M : Type 1} → statement M

@@ -10,16 +10,23 @@ use Rattle.unit_list.proofs.Steps.{chunk-bytes, chunk-refused, arrays-e
 use Rattle.unit_list.proofs.walk.array_step.Statement.{statement}
 use Rattle.unit_list.proofs.walk.array_step.Tie as tie
 
-left-at : (c : tie.After-rest) → c .before .before .before .before .before .before .args .c .end < length (c .before .before .before .before .before .before .args .list .now)
-left-at c = omega (arith, c .before .before .before .if1 .left, c .before .before .before .before .before .before .pre .within)
+-- Earlier places of the function, each seen from a later one.
+abbrev start : (c : tie.After-rest) → tie.Start
+start c = c .before .before .before .before .before .before
+
+abbrev after-rest : (c : tie.Else3) → tie.After-rest
+after-rest c = c .before .before .before .before .before .before
+
+left-at : (c : tie.After-rest) → let a = start c .args in a .c .end < length (a .list .now)
+left-at c = omega (arith, c .before .before .before .if1 .left, start c .pre .within)
 
 read-at : (c : tie.After-rest)
-    → chunk 4 (take (length (c .before .before .before .before .before .before .args .list .now)) (c .before .before .before .before .before .before .args .list .now)) (c .before .before .before .before .before .before .args .c .end)
+    → let a = start c .args in chunk 4 (take (length (a .list .now)) (a .list .now)) (a .c .end)
     ≡ value (c .rest .given .0 .0) (c .rest .given .0 .0 .start + c .rest .given .0 .0 .len)
 read-at c = chunk-bytes (c .before .before .chunk .result) _ (c .rest .given .0 .0) (c .before .before .chunk .ensures) (c .rest .given .1)
 
-inside-at : (c : tie.After-rest) → c .rest .given .0 .0 .start + c .rest .given .0 .0 .len ≤ length (c .before .before .before .before .before .before .args .list .now)
-inside-at c = let a = c .before .before .before .before .before .before .args in array-inside (a .list .now) (a .c) (left-at c) (c .rest .given .0 .0) (read-at c)
+inside-at : (c : tie.After-rest) → c .rest .given .0 .0 .start + c .rest .given .0 .0 .len ≤ length (start c .args .list .now)
+inside-at c = let a = start c .args in array-inside (a .list .now) (a .c) (left-at c) (c .rest .given .0 .0) (read-at c)
 
 returns : tie.Need-returns
 returns c = let a = c .before .before .before .args in (arrays-end (a .list .now) (a .c) (omega arith), omega arith)
@@ -35,13 +42,14 @@ enum-told c = search needs
 
 returns-2 : tie.Need-returns-2
 returns-2 c =
-    let a = c .before .before .before .before .before .before .args in
-    (arrays-unread (a .list .now) (a .c) (omega (arith, c .before .before .before .if1 .left, c .before .before .before .before .before .before .pre .within)) (chunk-refused (c .before .before .chunk .result) _ (c .before .before .chunk .ensures) (c .enum-told .given .1)), tt)
+    let s = c .before .before .before .before .before .before in
+    let a = s .args in
+    (arrays-unread (a .list .now) (a .c) (omega (arith, c .before .before .before .if1 .left, s .pre .within)) (chunk-refused (c .before .before .chunk .result) _ (c .before .before .chunk .ensures) (c .enum-told .given .1)), tt)
 
 returns-3 : tie.Need-returns-3
 returns-3 c =
     let r = c .before .before .before in
-    let a = r .before .before .before .before .before .before .args in
+    let a = start r .args in
     (arrays-short (a .list .now) (a .c) (left-at r) (r .rest .given .0 .0) (read-at r) (c .if2 .taken), tt)
 
 shared-slice-read-complete : tie.Need-shared-slice-read-complete
@@ -56,24 +64,24 @@ shared-slice-read-unit-type c = omega (arith, inside-at (c .before .before .befo
 returns-4 : tie.Need-returns-4
 returns-4 c =
     let r = c .before .before .before .before .before .before in
-    let a = r .before .before .before .before .before .before .args in
+    let a = start r .args in
     (arrays-complete (a .list .now) (a .c) (left-at r) (r .rest .given .0 .0) (read-at r) (c .if3 .taken), tt)
 
 returns-5 : tie.Need-returns-5
 returns-5 c =
-    let r = c .before .before .before .before .before .before .before in
-    let a = r .before .before .before .before .before .before .args in
+    let r = after-rest (c .before) in
+    let a = start r .args in
     (arrays-type (a .list .now) (a .c) (left-at r) (r .rest .given .0 .0) (read-at r) (omega (arith, c .before .before .before .before .if2 .left)) (c .before .if3 .left) (c .if4 .taken), tt)
 
 add-first : tie.Need-add-first
-add-first c = omega (arith, inside-at (c .before .before .before .before .before .before .before), c .before .before .before .before .if2 .left)
+add-first c = omega (arith, inside-at (after-rest (c .before)), c .before .before .before .before .if2 .left)
 
 add-first-2 : tie.Need-add-first-2
-add-first-2 c = omega (arith, inside-at (c .before .before .before .before .before .before .before .before))
+add-first-2 c = omega (arith, inside-at (after-rest (c .before .before)))
 
 returns-6 : tie.Need-returns-6
 returns-6 c =
-    let r = c .before .before .before .before .before .before .before .before in
+    let r = after-rest (c .before .before) in
     let b = r .before .before .before .before .before .before in
     let a = b .args in
     arrays-entered (a .list .now) (a .c) (left-at r) (r .rest .given .0 .0) (read-at r) (omega (arith, c .before .before .before .before .before .if2 .left)) (c .before .before .if3 .left) (b .pre .lent) (c .before .if4 .left)

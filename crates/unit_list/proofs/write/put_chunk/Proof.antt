@@ -18,8 +18,9 @@ same-length c = search needs
 
 returns : tie.Need-returns
 returns c =
-    let a = c .before .before .before .before .before .before .before .before .before .before .args in
-    let n = c .before .before .before .before .before .before .put-number in
+    let pn = c .before .before .before .before .before .before in
+    let a = pn .before .before .before .before .args in
+    let n = pn .put-number in
     let y = c .before .before .copy in
     chunk-written (a .out .now) (n .last .0) (y .last .1 .0) (a .src .now) (a .at) (a .width) (n .ensures) (y .ensures)
 

@@ -1,6 +1,5 @@
 pub mod Numbers
 pub mod Chain
-pub mod Examples
 pub mod Readers
 pub mod ReaderCalls
 pub mod ReadsOfBits

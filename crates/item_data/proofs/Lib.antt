@@ -1,4 +1,3 @@
 pub mod Stills
 pub mod Measured
-pub mod Restored
 pub mod Examples

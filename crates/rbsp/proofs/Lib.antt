@@ -1,4 +1,3 @@
 pub mod Removal
 pub mod Below
 pub mod Filling
-pub mod Examples

@@ -105,9 +105,6 @@ module _ {A : Type 0} (P : Parser A) (f : List ℕ → A → List ℕ) (F : List
   storing-start n p out to h = record { putting = putting-start (F s) out to (outcome (times n P s p)) h; place = refl }
 
   module _ (out₀ : List ℕ) (start : ℕ) (x₀ : Parsed (List A)) (n p : ℕ) (out : List ℕ) (to : ℕ) (i : Storing out₀ start x₀ n p out to) where
-    pub storing-same : length out ≡ length out₀
-    storing-same = i .putting .same
-
     pub storing-done : n ≤ 0 → StoredAt F s x₀ out₀ start out (record { from = p; to = to })
     storing-done h =
         let e = times-done n p h in

@@ -23,7 +23,6 @@ use Rattle.split.specs.Stream.{trim, segment, nonEmpty, allRead, streamU
 use Rattle.split.specs.Answers.{Next, firstNext, nextOf, nextGiven}
 use Rattle.split.specs.declared.NextUnit.{NextUnit}
 use Rattle.split.specs.declared.NextUnit.the-variants as N
-use Rattle.split.proofs.Spans.{Apart}
 use Rattle.split.proofs.Trim.{trim-le}
 use Rattle.split.specs.inner.Walk.{UnitAhead}
 use Rattle.parse.specs.inner.Walk.{more}
@@ -193,18 +192,6 @@ module _ (s : List ℕ) where
 
   pub cursor : (p : ℕ) (a : Span) (rest : List Span) → streamUnitsFrom s p ≡ a ∷ rest → streamUnitsFrom s (a .start + a .len) ≡ rest
   cursor p a rest e = units-after p a rest e .rest-from
-
-  -- where the units lie
-  pub units-apart : (p : ℕ) → p ≤ length s → Apart (length s) p (streamUnitsFrom s p)
-  units-apart p = within (length s) p (omega arith)
-    where
-      go : (p : ℕ) → p ≤ length s → ((q : ℕ) → p < q → q ≤ length s → Apart (length s) q (streamUnitsFrom s q)) → View p → Apart (length s) p (streamUnitsFrom s p)
-      go p k later (View.ends z) = rw z (Apart.none k)
-      go p k later (View.unit a g w) = rw w (Apart.more (g .ahead) (g .some) (later (a .start + a .len) (omega arith) (g .inside)))
-
-      within : (f p : ℕ) → length s ≤ p + f → p ≤ length s → Apart (length s) p (streamUnitsFrom s p)
-      within zero p h k = rw (units-end p (omega arith)) (Apart.none k)
-      within (suc f) p h k = go p k (λ q l m. within f q (omega arith) m) (view p)
 
   -- ### what the calls answer
 

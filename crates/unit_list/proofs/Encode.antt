@@ -13,11 +13,11 @@ use Rattle.boxes.specs.declared.Span.{Span}
 use Rattle.boxes.proofs.Numbers.{length-toBe}
 use Rattle.parse.proofs.Many.{many-nil, many-step}
 use Rattle.boxes.proofs.Fields.{chunk-toChunk, held-toChunk, chunk-advances}
-use Rattle.unit_list.specs.UnitList.{Array, array, largestType, decode, unitsOf, unitsOfType, heldArray, heldArrays, encodeUnits, encodeArray, encodeArrays, encode}
-use Rattle.unit_list.specs.Answers.{listUnits, listUnitsOfType}
+use Rattle.unit_list.specs.UnitList.{Array, array, largestType, decode, unitsOf, heldArray, heldArrays, encodeUnits, encodeArray, encodeArrays, encode}
+use Rattle.unit_list.specs.Answers.{listUnits}
 use Rattle.unit_list.proofs.Arrays.{Sound, sound-none, sound-more, array-reads, array-advances}
 use Rattle.unit_list.proofs.Left.{decode-arrays}
-use Rattle.unit_list.proofs.Units.{units-held, units-of-type-held}
+use Rattle.unit_list.proofs.Units.{units-held}
 
 -- where the units of an array that is written from p on lie, and where its array's do
 unfoldable pub placedUnits : ℕ → ℕ → List (List ℕ) → List Span
@@ -193,19 +193,11 @@ module _ (xs : List (Array (List ℕ))) (fits : length (encode xs) ≤ 2 ^ 30) w
         decode-arrays (1 ∷ encodeArrays 4 xs) fits refl
         ∙ ap (outcomeOr 21) (arrays-written 4 (1 ∷ encodeArrays 4 xs) (omega arith) sound (1 ∷ []) 1 refl refl fits-width)
 
-    -- and so its units do, all of them and those of a type
+    -- and so its units do
     pub units-encode : UnitsRead (encode xs) (listUnits (encode xs)) (unitsOf xs)
     units-encode =
         record {
           spans = unitsOf (placedArrays 4 1 xs);
           read = rw decode-encode;
           bytes = units-held (encode xs) (placedArrays 4 1 xs) ∙ ap unitsOf held-encode;
-        }
-
-    pub units-of-type-encode : (t : ℕ) → UnitsRead (encode xs) (listUnitsOfType t (encode xs)) (unitsOfType t xs)
-    units-of-type-encode t =
-        record {
-          spans = unitsOfType t (placedArrays 4 1 xs);
-          read = rw decode-encode;
-          bytes = units-of-type-held (encode xs) t (placedArrays 4 1 xs) ∙ ap (unitsOfType t) held-encode;
         }

@@ -3,7 +3,6 @@ use Prim.Native.Nat.{ℕ}
 use mathlib.Core.Path.{_≡_, refl, ap, _∙_}
 use mathlib.Core.Bool.{Bool, true, false}
 use mathlib.Core.List.{List, [], _∷_, _++_, map, map-append}
-use lib.Dec.{eqb}
 use Rattle.parse.specs.Logic.{if_then_else_}
 use Rattle.parse.specs.Outcome.{Outcome, accept, refuse, andThen}
 use Rattle.boxes.specs.Parts.{held}
@@ -38,14 +37,6 @@ unfolding typedUnits wantedUnits unitsOfType
 wanted-type t [] = refl
 wanted-type t (a ∷ xs) = wanted-typed (OfType t) (a .unitType) (a .units) (typedUnits xs) ∙ rw (wanted-type t xs)
 
-pub units-every : (xs : List TypedUnit) → map (λ (x : TypedUnit). x .unit) xs ≡ wantedUnits Every xs
-unfolding wantedUnits
-units-every [] = refl
-units-every (x ∷ xs) = ap (λ (l : List Span). x .unit ∷ l) (units-every xs)
-
-pub units-typed : (xs : List (Array Span)) → map (λ (x : TypedUnit). x .unit) (typedUnits xs) ≡ unitsOf xs
-units-typed xs = units-every (typedUnits xs) ∙ wanted-every xs
-
 -- the same of a list: what holds of the units of all arrays holds of those of a list
 lifted : (f : List TypedUnit → List Span) (g : List (Array Span) → List Span) → ((xs : List (Array Span)) → f (typedUnits xs) ≡ g xs) → (o : Outcome (List (Array Span)))
     → andThen (andThen o (λ xs. accept (typedUnits xs))) (λ xs. accept (f xs)) ≡ andThen o (λ xs. accept (g xs))
@@ -63,14 +54,3 @@ pub units-held : (s : List ℕ) (xs : List (Array Span)) → map (held s) (units
 unfolding unitsOf
 units-held s [] = refl
 units-held s (a ∷ xs) = map-append (held s) (a .units) (unitsOf xs) ∙ rw (units-held s xs)
-
-pub units-of-type-held : (s : List ℕ) (t : ℕ) (xs : List (Array Span)) → map (held s) (unitsOfType t xs) ≡ unitsOfType t (heldArrays s xs)
-unfolding unitsOfType
-units-of-type-held s t [] = refl
-units-of-type-held s t (a ∷ xs) = go (eqb (a .unitType) t) (units-of-type-held s t xs)
-  where
-    go : (b : Bool) → map (held s) (unitsOfType t xs) ≡ unitsOfType t (heldArrays s xs)
-        → map (held s) (if b then a .units ++ unitsOfType t xs else unitsOfType t xs)
-        ≡ (if b then map (held s) (a .units) ++ unitsOfType t (heldArrays s xs) else unitsOfType t (heldArrays s xs))
-    go true h = map-append (held s) (a .units) (unitsOfType t xs) ∙ rw h
-    go false h = h

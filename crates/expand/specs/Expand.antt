@@ -16,6 +16,7 @@ use Rattle.sps.specs.declared.SpsHead.{SpsHead}
 use Rattle.grouping.specs.Grouping.{havingType, firstElement, grouped}
 use Rattle.compact.specs.declared.CompactVvcConfig.{CompactVvcConfig}
 use Rattle.full.specs.declared.VvcConfig.{VvcConfig}
+use Rattle.expand.specs.declared.Picture.{Picture}
 
 -- "with the flag set, 16 no VPS, then its refusals"
 unfoldable pub multiLayerVps : Bool → List (List ℕ) → Outcome (Unit {0})
@@ -33,13 +34,6 @@ ptlOfSets sps us =
       vps ← orRefuse 18 (firstElement (havingType 14 us))
       vpsFirstPtl vps
 
--- what the caller knows of the picture
-pub record Picture : Type 0 where
-  pub chroma : ℕ
-  pub depth : ℕ
-  pub width : ℕ
-  pub height : ℕ
-
 -- "Head: size kept, PTL flag 1, operating point 0, sublayers 1, constant rate 1, chroma as given, depth minus 8 (0 below 8),
 -- dimensions cut at 65,535, average rate 0"
 abbrev pub expandedHead : CompactVvcConfig → Picture → VvcPtlRecord → VvcConfig
@@ -49,8 +43,8 @@ expandedHead c pic ptl = record {
   «ols_idx» = 0;
   «num_sublayers» = 1;
   «constant_frame_rate» = 1;
-  «chroma_format_idc» = pic .chroma;
-  «bit_depth_minus8» = pic .depth - 8;
+  «chroma_format_idc» = pic .«chroma_format_idc»;
+  «bit_depth_minus8» = pic .«bit_depth» - 8;
   «native_ptl» = ptl;
   «max_picture_width» = min (pic .width) 65535;
   «max_picture_height» = min (pic .height) 65535;

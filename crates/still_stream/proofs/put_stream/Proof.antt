@@ -24,11 +24,11 @@ enum-known-answer c = search needs
 -- what expansion gave stands at the front of the array
 expanded-at : (c : tie.After-known-told)
     → Expanded (c .before .before .before .before .before .before .before .before .before .before .args .config) anyPicture (c .before .before .before .before .before .before .before .before .before .before .args .list .now)
-    (c .before .before .before .before .before .to-full .result .head) (c .before .answer .given .0 .0) (c .before .before .before .before .before .to-full .last .1 .1 .1 .1 .1 .1 .0)
+    (c .before .before .before .before .before .to-full .result .head) (c .before .answer .given .0 .0) (c .before .before .before .before .before .to-full .last .1 .1 .1 .0)
 expanded-at c =
     let y = c .before .before .before .before .before .to-full in
     was-expanded _ anyPicture _ (c .before .before .before .before .before .before .before .before .before .before .pre .0) _ (y .result .head) _ _
-    (ap (λ (x : ExpandAnswer). ((expandAnswerOf x (y .result .head), y .result .head), y .last .1 .1 .1 .1 .1 .1 .0)) (sym (c .before .answer .given .1)) ∙ y .ensures) (omega arith)
+    (ap (λ (x : ExpandAnswer). ((expandAnswerOf x (y .result .head), y .result .head), y .last .1 .1 .1 .0)) (sym (c .before .answer .given .1)) ∙ y .ensures) (omega arith)
 
 array-share-prefix-grouped : tie.Need-array-share-prefix-grouped
 array-share-prefix-grouped c = expanded-at c .within
@@ -52,7 +52,7 @@ returns-2 : tie.Need-returns-2
 returns-2 c =
     let a = c .before .before .before .before .before .before .before .before .before .before .args in
     let y = c .before .before .before .before .before .to-full in
-    let e = ap (λ (x : ExpandAnswer). ((expandAnswerOf x (y .result .head), y .result .head), y .last .1 .1 .1 .1 .1 .1 .0)) (sym (c .before .answer2 .given .1)) ∙ y .ensures in
+    let e = ap (λ (x : ExpandAnswer). ((expandAnswerOf x (y .result .head), y .result .head), y .last .1 .1 .1 .0)) (sym (c .before .answer2 .given .1)) ∙ y .ensures in
     written-refused (streamFrom (a .config) (a .list .now) (a .stored .now) (tolsOf (a .tols))) (a .out .now) _
     (stream-unexpanded (a .config) (a .list .now) (a .stored .now) (tolsOf (a .tols)) _
     (not-expanded (a .config) anyPicture (a .list .now) (c .before .before .before .before .before .before .before .before .before .before .pre .0) _ _ _ _ e (omega arith)))

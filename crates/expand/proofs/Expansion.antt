@@ -15,7 +15,8 @@ use Rattle.compact.specs.declared.CompactVvcConfig.{CompactVvcConfig}
 use Rattle.full.specs.Read.{zeroHead}
 use Rattle.full.specs.declared.VvcConfig.{VvcConfig}
 use Rattle.grouping.specs.Grouping.{grouped}
-use Rattle.expand.specs.Expand.{FullHead, Picture, expandUnits, toFull}
+use Rattle.expand.specs.Expand.{FullHead, expandUnits, toFull}
+use Rattle.expand.specs.declared.Picture.{Picture}
 use Rattle.expand.specs.Answers.{expandedGiven}
 use Rattle.grouping.specs.inner.Units.{heldUnits}
 use Rattle.expand.specs.inner.ParameterSets.{withUnits}

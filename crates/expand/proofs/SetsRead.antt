@@ -20,7 +20,8 @@ use Rattle.vps.specs.declared.PtlRead.{PtlRead}
 use Rattle.sps.specs.declared.SpsHead.{SpsHead}
 use Rattle.compact.specs.declared.CompactVvcConfig.{CompactVvcConfig}
 use Rattle.grouping.specs.Grouping.{havingType, firstElement}
-use Rattle.expand.specs.Expand.{multiLayerVps, ptlOfSets, expandUnits, Picture, expandedHead}
+use Rattle.expand.specs.Expand.{multiLayerVps, ptlOfSets, expandUnits, expandedHead}
+use Rattle.expand.specs.declared.Picture.{Picture}
 use Rattle.expand.specs.inner.ParameterSets.{ptlOrZeros, firstVpsPtl, firstSpsPtl, setsPtl, withUnits}
 
 -- ### a value beside an answer

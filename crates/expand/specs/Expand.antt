@@ -16,6 +16,7 @@ use Rattle.sps.specs.declared.SpsHead.{SpsHead}
 use Rattle.grouping.specs.Grouping.{havingType, firstElement, grouped}
 use Rattle.compact.specs.declared.CompactVvcConfig.{CompactVvcConfig}
 use Rattle.full.specs.declared.VvcConfig.{VvcConfig}
+use Rattle.expand.specs.declared.Picture.{Picture}
 
 -- step 1: with the flag set, 16 if there is no VPS, then the refusals of the first
 unfoldable pub multiLayerVps : Bool → List (List ℕ) → Outcome (Unit {0})
@@ -34,12 +35,6 @@ ptlOfSets sps us =
       vpsFirstPtl vps
 
 -- the picture, as the caller knows it
-pub record Picture : Type 0 where
-  pub chroma : ℕ
-  pub depth : ℕ
-  pub width : ℕ
-  pub height : ℕ
-
 -- the head, field by field as in SCOPE 3.8; a depth below 8 is written as 0, a side above 65,535 as 65,535
 abbrev pub expandedHead : CompactVvcConfig → Picture → VvcPtlRecord → VvcConfig
 expandedHead c pic ptl = record {
@@ -48,8 +43,8 @@ expandedHead c pic ptl = record {
   «ols_idx» = 0;
   «num_sublayers» = 1;
   «constant_frame_rate» = 1;
-  «chroma_format_idc» = pic .chroma;
-  «bit_depth_minus8» = pic .depth - 8;
+  «chroma_format_idc» = pic .«chroma_format_idc»;
+  «bit_depth_minus8» = pic .«bit_depth» - 8;
   «native_ptl» = ptl;
   «max_picture_width» = min (pic .width) 65535;
   «max_picture_height» = min (pic .height) 65535;

@@ -1,4 +1,5 @@
 // Internal: the head of an expanded record (SCOPE 3.8).
+use super::Picture;
 use compact::CompactVvcConfig;
 use full::VvcConfig;
 use ptl::VvcPtlRecord;
@@ -27,26 +28,19 @@ fn depth_minus8(bit_depth: u8) -> u8
 }
 
 // The head that a compact record with this PTL expands to, for the caller's picture.
-pub fn expanded_head(
-    config: CompactVvcConfig,
-    chroma_format_idc: u8,
-    bit_depth: u8,
-    width: u32,
-    height: u32,
-    ptl: VvcPtlRecord,
-) -> VvcConfig
-    ensures { λ r. ⌜ r ≡ expandedHead config (record { chroma = «chroma_format_idc»; depth = «bit_depth»; width = width; height = height }) ptl ⌝ }
+pub fn expanded_head(config: CompactVvcConfig, picture: Picture, ptl: VvcPtlRecord) -> VvcConfig
+    ensures { λ r. ⌜ r ≡ expandedHead config picture ptl ⌝ }
 {
-    let depth = depth_minus8(bit_depth);
-    let max_width = cut(width);
-    let max_height = cut(height);
+    let depth = depth_minus8(picture.bit_depth);
+    let max_width = cut(picture.width);
+    let max_height = cut(picture.height);
     VvcConfig {
         length_size: config.length_size,
         ptl_present_flag: true,
         ols_idx: 0,
         num_sublayers: 1,
         constant_frame_rate: 1,
-        chroma_format_idc: chroma_format_idc,
+        chroma_format_idc: picture.chroma_format_idc,
         bit_depth_minus8: depth,
         native_ptl: ptl,
         max_picture_width: max_width,

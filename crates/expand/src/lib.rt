@@ -18,6 +18,14 @@ ghost use Rattle.expand.specs.Answers.{expandedOf, expandedGiven};
 ghost use Rattle.grouping.specs.inner.Units.{Readable, unitsAt};
 ghost use Rattle.expand.specs.inner.ParameterSets.{withUnits};
 
+// What the caller knows of the picture.
+pub struct Picture {
+    pub chroma_format_idc: u8,
+    pub bit_depth: u8,
+    pub width: u32,
+    pub height: u32,
+}
+
 // The length of the unit list in the output, or the refusal.
 pub enum ExpandAnswer {
     List(usize),
@@ -64,14 +72,11 @@ fn expand_units(
     config: CompactVvcConfig,
     list: &[u8],
     c: ListCursor,
-    chroma_format_idc: u8,
-    bit_depth: u8,
-    width: u32,
-    height: u32,
+    picture: Picture,
     out: &mut [u8],
 ) -> Expanded
     requires { ⌜ Readable (now list) c ⌝ }
-    ensures { λ r. ⌜ (expandedOf r, now (out .exit)) ≡ expandedGiven (expandUnits config (record { chroma = «chroma_format_idc»; depth = «bit_depth»; width = width; height = height }) (unitsAt (now (list .entry)) c)) (now (out .entry)) ⌝ }
+    ensures { λ r. ⌜ (expandedOf r, now (out .exit)) ≡ expandedGiven (expandUnits config picture (unitsAt (now (list .entry)) c)) (now (out .entry)) ⌝ }
 {
     let flag = config.multi_layer_flag;
     let read = parameter_sets::sets_ptl(flag, list, c);
@@ -79,14 +84,7 @@ fn expand_units(
     let ptl = read.ptl;
     match answer {
         ParamsAnswer::Read => {
-            let full_head = head::expanded_head(
-                config,
-                chroma_format_idc,
-                bit_depth,
-                width,
-                height,
-                ptl,
-            );
+            let full_head = head::expanded_head(config, picture, ptl);
             put_expanded(full_head, list, c, out)
         }
         ParamsAnswer::Refused(e) => refused(e),
@@ -95,28 +93,11 @@ fn expand_units(
 
 // Expands a compact record with the units of a list (the original's `CompactVvcConfig::to_full`); the units go to the output grouped by type.
 // Refusals: 23, 21; with the flag set 16 and the VPS's; 17, the SPS's, 18, the VPS's, 20.
-pub fn to_full(
-    config: CompactVvcConfig,
-    list: &[u8],
-    chroma_format_idc: u8,
-    bit_depth: u8,
-    width: u32,
-    height: u32,
-    out: &mut [u8],
-) -> Expanded
-    ensures { λ r. ⌜ (expandedOf r, now (out .exit)) ≡ expandedGiven (toFull config (record { chroma = «chroma_format_idc»; depth = «bit_depth»; width = width; height = height }) (now (list .entry))) (now (out .entry)) ⌝ }
+pub fn to_full(config: CompactVvcConfig, list: &[u8], picture: Picture, out: &mut [u8]) -> Expanded
+    ensures { λ r. ⌜ (expandedOf r, now (out .exit)) ≡ expandedGiven (toFull config picture (now (list .entry))) (now (out .entry)) ⌝ }
 {
     match units::start(list) {
-        ListStart::At(c) => expand_units(
-            config,
-            list,
-            c,
-            chroma_format_idc,
-            bit_depth,
-            width,
-            height,
-            out,
-        ),
+        ListStart::At(c) => expand_units(config, list, c, picture, out),
         ListStart::Refused(e) => refused(e),
     }
 }

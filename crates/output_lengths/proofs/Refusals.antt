@@ -32,7 +32,8 @@ use Rattle.record_arrays.specs.Read.{holdsOne, recordArray}
 use Rattle.full.specs.Write.{serializeFull}
 use Rattle.full.specs.declared.VvcConfig.{VvcConfig}
 use Rattle.grouping.specs.Grouping.{firstElement, havingType}
-use Rattle.expand.specs.Expand.{Picture, multiLayerVps, ptlOfSets, expandUnits, toFull}
+use Rattle.expand.specs.Expand.{multiLayerVps, ptlOfSets, expandUnits, toFull}
+use Rattle.expand.specs.declared.Picture.{Picture}
 use Rattle.access_unit.specs.AccessUnit.{Source, targetOf, arranged, notEmpty, accessUnit, assemble}
 use Rattle.still.specs.Stills.{anyPicture, stillRecord, streamWith, stillStream}
 use Rattle.vvcc_c.specs.Exports.{readBeside}

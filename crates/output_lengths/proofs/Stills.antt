@@ -20,7 +20,8 @@ use Rattle.full.specs.Write.{headBytes, fullBytes, serializeFull}
 use Rattle.record_arrays.specs.Write.{arraysBytes}
 use Rattle.full.specs.declared.VvcConfig.{VvcConfig}
 use Rattle.grouping.specs.Grouping.{grouped}
-use Rattle.expand.specs.Expand.{Picture, FullHead, expandedHead, toFull}
+use Rattle.expand.specs.Expand.{FullHead, expandedHead, toFull}
+use Rattle.expand.specs.declared.Picture.{Picture}
 use Rattle.access_unit.specs.AccessUnit.{startCode, assemble}
 use Rattle.access_unit.specs.inner.Gathered.{lengths}
 use Rattle.path.proofs.Expansion.{then-accept}

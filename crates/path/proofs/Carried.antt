@@ -30,7 +30,8 @@ use Rattle.full.specs.declared.VvcConfig.{VvcConfig}
 use Rattle.full.proofs.HeadRoundTrip.{Writable, withPtl}
 use Rattle.full.proofs.RecordRoundTrip.{read-written}
 use Rattle.grouping.specs.Grouping.{grouped}
-use Rattle.expand.specs.Expand.{Picture, expandedHead}
+use Rattle.expand.specs.Expand.{expandedHead}
+use Rattle.expand.specs.declared.Picture.{Picture}
 use Rattle.grouping.proofs.GroupedFits.{Every, grouped-sound, grouped-few, grouped-count, every-grouped, units-long, grouped-long}
 use Rattle.expand.proofs.WrittenGroups.{Groupable, grouped-fit}
 use Rattle.access_unit.specs.AccessUnit.{startCode, assemble}
@@ -53,8 +54,8 @@ pub record Expanded (c : CompactVvcConfig) (pic : Picture) (ptl : VvcPtlRecord) 
   pub size-low : 1 ≤ c .«length_size»
   pub size-high : c .«length_size» ≤ 4
   pub size : c .«length_size» ≡ 3 → ⊥
-  pub chroma : pic .chroma ≤ 3
-  pub depth : pic .depth ≤ 15
+  pub chroma : pic .«chroma_format_idc» ≤ 3
+  pub depth : pic .«bit_depth» ≤ 15
   pub ptl-ok : P.Writable ptl
   pub units : Groupable us
   pub few : length us ≤ 33
@@ -78,7 +79,7 @@ module _ (c : CompactVvcConfig) (pic : Picture) (ptl : VvcPtlRecord) (us : List 
   unfolding headFits ptlPartFits
   head-fits =
       let a = k .size-low in let b = k .size-high in let d = k .chroma in let e = k .depth in
-      rw (not-outside (c .«length_size») a b, le-leb (pic .chroma) 3 d, le-leb (pic .depth - 8) 7 (omega arith)) (k .ptl-ok .fits)
+      rw (not-outside (c .«length_size») a b, le-leb (pic .«chroma_format_idc») 3 d, le-leb (pic .«bit_depth» - 8) 7 (omega arith)) (k .ptl-ok .fits)
 
   record-fits : recordFits head (grouped us) ≡ true
   unfolding recordFits

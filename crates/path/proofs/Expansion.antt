@@ -19,7 +19,8 @@ use Rattle.vps.specs.Vps.{vpsFirstPtl}
 use Rattle.sps.specs.declared.SpsHead.{SpsHead}
 use Rattle.compact.specs.declared.CompactVvcConfig.{CompactVvcConfig}
 use Rattle.grouping.specs.Grouping.{havingType, firstElement, grouped}
-use Rattle.expand.specs.Expand.{Picture, FullHead, multiLayerVps, ptlOfSets, expandedHead, withList, expandUnits, toFull}
+use Rattle.expand.specs.Expand.{FullHead, multiLayerVps, ptlOfSets, expandedHead, withList, expandUnits, toFull}
+use Rattle.expand.specs.declared.Picture.{Picture}
 use Rattle.grouping.proofs.GroupedFits.{Every}
 use Rattle.path.proofs.Ptls.{sps-ptl, vps-ptl}
 use Rattle.boxes.specs.Bytes.{AllBytes}

@@ -18,7 +18,8 @@ use Rattle.split.specs.Stream.{annexB}
 use Rattle.compact.specs.Compact.{atEnd, compactRecord, parseCompact}
 use Rattle.grouping.specs.Grouping.{havingType, without, firsts, grouped}
 use Rattle.grouping.proofs.Grouping.{grouped-as}
-use Rattle.expand.specs.Expand.{Picture, multiLayerVps, ptlOfSets, expandUnits, toFull}
+use Rattle.expand.specs.Expand.{multiLayerVps, ptlOfSets, expandUnits, toFull}
+use Rattle.expand.specs.declared.Picture.{Picture}
 use Rattle.path.specs.Still.{unitsIn, Still}
 use Rattle.path.specs.Path.{Paths}
 use Rattle.path.proofs.Worked.{P, Q, C}
@@ -55,7 +56,7 @@ instances = record {
 }
 
 -- the theorem for these two
-module _ (pic pic′ : Picture) (chroma : pic .chroma ≤ 3) (depth : pic .depth ≤ 15) (chroma′ : pic′ .chroma ≤ 3) (depth′ : pic′ .depth ≤ 15) (tols tols′ : Option ℕ) where
+module _ (pic pic′ : Picture) (chroma : pic .«chroma_format_idc» ≤ 3) (depth : pic .«bit_depth» ≤ 15) (chroma′ : pic′ .«chroma_format_idc» ≤ 3) (depth′ : pic′ .«bit_depth» ≤ 15) (tols tols′ : Option ℕ) where
   pub both : Paths C (0x9A ∷ []) mixed [] pic pic′ tols tols′
   both = whole-path C (0x9A ∷ []) mixed [] (instances .worked) (instances .interleaved) pic pic′ chroma depth chroma′ depth′ tols tols′
 

@@ -18,7 +18,8 @@ use Rattle.record_arrays.specs.Read.{holdsOne}
 use Rattle.record_arrays.specs.Write.{arrayBytes, arraysBytes}
 use Rattle.full.specs.Write.{headBytes, ptlPart}
 use Rattle.full.specs.declared.VvcConfig.{VvcConfig}
-use Rattle.expand.specs.Expand.{Picture, expandedHead}
+use Rattle.expand.specs.Expand.{expandedHead}
+use Rattle.expand.specs.declared.Picture.{Picture}
 
 -- units one after the other
 encoded-append : (w : ℕ) (us vs : List (List ℕ)) → length (encodeUnits w (us ++ vs)) ≡ length (encodeUnits w us) + length (encodeUnits w vs)

@@ -13,7 +13,7 @@ use Rattle.unit_list.specs.UnitList.{unitsOf}
 use Rattle.split.specs.Stream.{streamUnitsFrom, splitStream}
 use Rattle.grouping.specs.Grouping.{grouped}
 use Rattle.grouping.proofs.Grouping.{grouped-as}
-use Rattle.expand.specs.Expand.{Picture}
+use Rattle.expand.specs.declared.Picture.{Picture}
 use Rattle.path.specs.Still.{unitsIn, Still}
 use Rattle.path.specs.Path.{Path, WholePath}
 use Rattle.path.proofs.Writes.{writes-of, counts-of}
@@ -21,7 +21,7 @@ use Rattle.path.proofs.Carried.{splits, split-count, unit-below, unit-l
 use Rattle.path.proofs.Steps.{config, expansion-of, listOf, streamOf, reads-as, carries, headOf, recordOf, headBack, itemOf, is-expanded, is-written, is-read-back, is-restored, is-assembled}
 
 -- one still
-module _ (C S : List ℕ) (still : Still C S) (pic : Picture) (chroma : pic .chroma ≤ 3) (depth : pic .depth ≤ 15) where
+module _ (C S : List ℕ) (still : Still C S) (pic : Picture) (chroma : pic .«chroma_format_idc» ≤ 3) (depth : pic .«bit_depth» ≤ 15) where
   path : (tols : Option ℕ) → Path C S pic tols
   path tols =
       let k = carries C S still pic chroma depth in

@@ -17,7 +17,8 @@ use Rattle.compact.specs.Compact.{CompactParsed, oneArray, parseCompact}
 use Rattle.compact.specs.declared.CompactVvcConfig.{CompactVvcConfig}
 use Rattle.grouping.specs.Grouping.{havingType, grouped}
 use Rattle.grouping.specs.Order.{typeAt}
-use Rattle.expand.specs.Expand.{Picture, FullHead, expandedHead, withList, toFull}
+use Rattle.expand.specs.Expand.{FullHead, expandedHead, withList, toFull}
+use Rattle.expand.specs.declared.Picture.{Picture}
 use Rattle.ptl.proofs.Examples.{ptlOfP}
 use Rattle.path.specs.Still.{Clean, AtMostOne, unitsIn, Still}
 use Rattle.boxes.specs.Bytes.{AllBytes}
@@ -69,7 +70,7 @@ one-at t (v ∷ us) e zero (suc j) h k f g = let z = eq-eqb (typeOr31 v) t f in 
 one-at t (v ∷ us) e (suc i) (suc j) h k f g = one-at t us (fewer v (eqb (typeOr31 v) t) (havingType t us) 1 e) i j (omega arith) (omega arith) f g
 
 abbrev pub picture : Picture
-picture = record { chroma = 1; depth = 8; width = 16; height = 8 }
+picture = record { «chroma_format_idc» = 1; «bit_depth» = 8; width = 16; height = 8 }
 
 -- C with these units, a prefix size, the PTL of P and the flag clear
 module _ (C S : List ℕ) (size : ℕ) (us : List (List ℕ)) where

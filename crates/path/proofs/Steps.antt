@@ -22,7 +22,8 @@ use Rattle.full.specs.Write.{fullBytes, serializeFull}
 use Rattle.full.specs.declared.VvcConfig.{VvcConfig}
 use Rattle.grouping.specs.Grouping.{havingType, grouped}
 use Rattle.grouping.proofs.GroupedFits.{Every}
-use Rattle.expand.specs.Expand.{Picture, expandedHead, withList, expandUnits, toFull}
+use Rattle.expand.specs.Expand.{expandedHead, withList, expandUnits, toFull}
+use Rattle.expand.specs.declared.Picture.{Picture}
 use Rattle.expand.proofs.Expansion.{list-expanded}
 use Rattle.expand.proofs.WrittenGroups.{Groupable}
 use Rattle.access_unit.specs.AccessUnit.{startCode, assemble}
@@ -80,7 +81,7 @@ module _ (C S : List ℕ) (still : Still C S) where
   pub reads-as : parseCompact C ≡ accept (record { config = config; unitCount = length us; listLength = length (still .list) }, still .list)
   reads-as = is-read C (still .bytes) (still .read) (still .list) (still .reads)
 
-  module _ (pic : Picture) (chroma : pic .chroma ≤ 3) (depth : pic .depth ≤ 15) where
+  module _ (pic : Picture) (chroma : pic .«chroma_format_idc» ≤ 3) (depth : pic .«bit_depth» ≤ 15) where
     pub carries : Expanded config pic (expansion-of .ptl) us S
     carries = record {
       plain = still .plain;

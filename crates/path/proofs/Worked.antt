@@ -44,7 +44,7 @@ plain size = record { «multi_layer_flag» = false; «length_size» = size }
 abbrev written : Outcome (CompactParsed × List ℕ) → Outcome (List ℕ)
 written o =
     andThen o (λ r.
-    andThen (toFull (r .0 .config) (record { chroma = 1; depth = 8; width = 16; height = 8 }) (r .1)) (λ f.
+    andThen (toFull (r .0 .config) (record { «chroma_format_idc» = 1; «bit_depth» = 8; width = 16; height = 8 }) (r .1)) (λ f.
     serializeFull (f .0 .head) (f .1)))
 
 -- a full record read and written again: the bytes consumed, and the new record

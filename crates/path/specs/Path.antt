@@ -15,7 +15,8 @@ use Rattle.compact.specs.declared.CompactVvcConfig.{CompactVvcConfig}
 use Rattle.full.specs.Read.{parseFull}
 use Rattle.full.specs.Write.{serializeFull}
 use Rattle.full.specs.declared.VvcConfig.{VvcConfig}
-use Rattle.expand.specs.Expand.{Picture, toFull}
+use Rattle.expand.specs.Expand.{toFull}
+use Rattle.expand.specs.declared.Picture.{Picture}
 use Rattle.grouping.specs.Order.{GroupedAs}
 use Rattle.access_unit.specs.AccessUnit.{assemble}
 use Rattle.path.specs.Still.{unitsIn, Still}
@@ -67,5 +68,5 @@ pub record Paths (C S C′ S′ : List ℕ) (pic pic′ : Picture) (tols tols′
 -- The claim, for any two stills that meet the premises and any targets, with chroma at most 3, depth at most 15 and any dimensions.
 abbrev pub WholePath : Type 0
 WholePath =
-    (C S C′ S′ : List ℕ) → Still C S → Still C′ S′ → (pic pic′ : Picture) → pic .chroma ≤ 3 → pic .depth ≤ 15 → pic′ .chroma ≤ 3 → pic′ .depth ≤ 15
+    (C S C′ S′ : List ℕ) → Still C S → Still C′ S′ → (pic pic′ : Picture) → pic .«chroma_format_idc» ≤ 3 → pic .«bit_depth» ≤ 15 → pic′ .«chroma_format_idc» ≤ 3 → pic′ .«bit_depth» ≤ 15
     → (tols tols′ : Option ℕ) → Paths C S C′ S′ pic pic′ tols tols′

@@ -10,7 +10,8 @@ use Rattle.boxes.specs.Parts.{held}
 use Rattle.boxes.specs.declared.Span.{Span}
 use Rattle.compact.specs.Compact.{CompactParsed, compactRecord, parseCompact}
 use Rattle.compact.specs.declared.CompactVvcConfig.{CompactVvcConfig}
-use Rattle.expand.specs.Expand.{Picture, FullHead, toFull}
+use Rattle.expand.specs.Expand.{FullHead, toFull}
+use Rattle.expand.specs.declared.Picture.{Picture}
 use Rattle.grouping.specs.Order.{typeAt}
 use Rattle.boxes.specs.Bytes.{AllBytes}
 

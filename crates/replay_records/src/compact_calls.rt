@@ -2,6 +2,7 @@
 use boxes::place;
 use compact::CompactRead;
 use expand::ExpandAnswer;
+use expand::Picture;
 use replay_text::fields;
 use replay_text::shown;
 use replay_text::text;
@@ -31,11 +32,13 @@ fn put_answer(out: &mut [u8], at: usize, r: ExpandAnswer) -> usize {
 // `to_full`: the answer and the head, which is also shown on a refusal.
 fn to_full(numbers: &[u8], list: &[u8], lent: &mut [u8], out: &mut [u8], at: usize) -> usize {
     let config = replay_heads::compact_head(numbers);
-    let chroma = place::byte(numbers, 2);
-    let depth = place::byte(numbers, 3);
-    let width = fields::four(numbers, 4) as u32;
-    let height = fields::four(numbers, 8) as u32;
-    let r = expand::to_full(config, list, chroma, depth, width, height, lent);
+    let picture = Picture {
+        chroma_format_idc: place::byte(numbers, 2),
+        bit_depth: place::byte(numbers, 3),
+        width: fields::four(numbers, 4) as u32,
+        height: fields::four(numbers, 8) as u32,
+    };
+    let r = expand::to_full(config, list, picture, lent);
     let answer = r.answer;
     let head = r.head;
     let next = put_answer(out, at, answer);

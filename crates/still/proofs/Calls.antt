@@ -10,7 +10,8 @@ use Rattle.compact.specs.Compact.{parseCompact}
 use Rattle.compact.specs.ItemData.{restore}
 use Rattle.full.specs.Read.{parseFull}
 use Rattle.full.specs.Write.{serializeFull}
-use Rattle.expand.specs.Expand.{Picture, toFull}
+use Rattle.expand.specs.Expand.{toFull}
+use Rattle.expand.specs.declared.Picture.{Picture}
 use Rattle.access_unit.specs.AccessUnit.{assemble}
 use Rattle.path.specs.Still.{Still}
 use Rattle.path.specs.Path.{Path}
@@ -24,7 +25,7 @@ use Rattle.still.specs.Calls.{Calls, TwoCalls, WholeCalls}
 use Rattle.still.proofs.Pictures.{any-picture}
 
 -- one still: the steps of its path are those of the calls
-module _ {C S : List ℕ} {pic : Picture} {tols : Option ℕ} (still : Still C S) (chroma : pic .chroma ≤ 3) (depth : pic .depth ≤ 15) (p : Path C S pic tols) where
+module _ {C S : List ℕ} {pic : Picture} {tols : Option ℕ} (still : Still C S) (chroma : pic .«chroma_format_idc» ≤ 3) (depth : pic .«bit_depth» ≤ 15) (p : Path C S pic tols) where
   is-record : stillRecord C pic ≡ accept (p .bytes)
   unfolding stillRecord
   is-record =
@@ -67,13 +68,13 @@ whole-calls C S C′ S′ still still′ pic pic′ chroma depth chroma′ depth
 -- The theorem for the two stills of crates/path/proofs/Instance.antt. The record of the first is that of SCOPE 7; its stream is P, Q and 00 41 9A
 -- after start codes.
 abbrev picture : Picture
-picture = record { chroma = 1; depth = 8; width = 16; height = 8 }
+picture = record { «chroma_format_idc» = 1; «bit_depth» = 8; width = 16; height = 8 }
 
 pub worked-calls : (tols tols′ : Option ℕ) → TwoCalls C (0x9A ∷ []) mixed [] picture picture tols tols′
 worked-calls =
     whole-calls C (0x9A ∷ []) mixed [] (instances .worked) (instances .interleaved) picture picture (omega arith) (omega arith) (omega arith) (omega arith)
 
-pub worked-record : stillRecord C (record { chroma = 1; depth = 8; width = 16; height = 8 }) ≡ accept
+pub worked-record : stillRecord C (record { «chroma_format_idc» = 1; «bit_depth» = 8; width = 16; height = 8 }) ≡ accept
     ((0xFF ∷ 0x00 ∷ 0x15 ∷ 0x1F ∷ 0x01 ∷ 0x02 ∷ 0x33 ∷ 0x80 ∷ 0x00 ∷ 0x00 ∷ 0x10 ∷ 0x00 ∷ 0x08 ∷ 0x00 ∷ 0x00 ∷ 0x02 ∷ [])
     ++ (0x8F ∷ 0x00 ∷ 0x01 ∷ 0x00 ∷ 0x0B ∷ P) ++ (0x90 ∷ 0x00 ∷ 0x01 ∷ 0x00 ∷ 0x03 ∷ Q))
 unfolding stillRecord

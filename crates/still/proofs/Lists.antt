@@ -24,7 +24,8 @@ use Rattle.record_arrays.specs.Write.{arraysBytes}
 use Rattle.full.specs.declared.VvcConfig.{VvcConfig}
 use Rattle.full.proofs.RecordRoundTrip.{Typed, headRead, read-after-write}
 use Rattle.grouping.specs.Grouping.{grouped}
-use Rattle.expand.specs.Expand.{Picture, FullHead, expandedHead, withList, expandUnits, toFull}
+use Rattle.expand.specs.Expand.{FullHead, expandedHead, withList, expandUnits, toFull}
+use Rattle.expand.specs.declared.Picture.{Picture}
 use Rattle.grouping.proofs.GroupedFits.{Every, units-long, grouped-sound, grouped-few, grouped-count, every-grouped, grouped-long}
 use Rattle.access_unit.specs.AccessUnit.{accessUnit, assemble}
 use Rattle.path.proofs.Units.{every-of, type-small}

@@ -19,7 +19,8 @@ use Rattle.compact.specs.declared.CompactVvcConfig.{CompactVvcConfig}
 use Rattle.full.specs.Read.{zeroHead}
 use Rattle.full.specs.Write.{serializeFull}
 use Rattle.full.specs.declared.VvcConfig.{VvcConfig}
-use Rattle.expand.specs.Expand.{Picture, FullHead, toFull}
+use Rattle.expand.specs.Expand.{FullHead, toFull}
+use Rattle.expand.specs.declared.Picture.{Picture}
 use Rattle.expand.specs.Answers.{expandedGiven}
 use Rattle.still.specs.Stills.{stillRecord, streamWith, anyPicture, stillStream}
 use Rattle.still.specs.inner.Steps.{ReadFrom, ExpandedFrom, recordFrom, streamExpanded, streamFrom}

@@ -20,7 +20,8 @@ use Rattle.compact.specs.ItemData.{restore}
 use Rattle.compact.specs.declared.CompactVvcConfig.{CompactVvcConfig}
 use Rattle.full.specs.Write.{ptlPartFits, headFits, fullBytes, recordFits, writeFull, serializeFull}
 use Rattle.grouping.specs.Grouping.{havingType, firstElement, grouped}
-use Rattle.expand.specs.Expand.{Picture, FullHead, multiLayerVps, ptlOfSets, expandedHead, withList, expandUnits, toFull}
+use Rattle.expand.specs.Expand.{FullHead, multiLayerVps, ptlOfSets, expandedHead, withList, expandUnits, toFull}
+use Rattle.expand.specs.declared.Picture.{Picture}
 use Rattle.access_unit.specs.AccessUnit.{accessUnit, assemble}
 use Rattle.expand.proofs.Expansion.{list-expanded}
 use Rattle.still.specs.Stills.{streamWith, anyPicture, stillStream}
@@ -69,10 +70,10 @@ module _ (pic any : Picture) where
         first-step (refuse m) e = let z : m ≡ n = cc in ap refuse z
 
   -- full write is refused with both pictures or with neither
-  module _ (c : CompactVvcConfig) (ptl : VvcPtlRecord) (chroma : pic .chroma ≤ 3) (depth : pic .depth ≤ 15) (chroma′ : any .chroma ≤ 3) (depth′ : any .depth ≤ 15) where
+  module _ (c : CompactVvcConfig) (ptl : VvcPtlRecord) (chroma : pic .«chroma_format_idc» ≤ 3) (depth : pic .«bit_depth» ≤ 15) (chroma′ : any .«chroma_format_idc» ≤ 3) (depth′ : any .«bit_depth» ≤ 15) where
     fits-alike : headFits (expandedHead c pic ptl) ≡ headFits (expandedHead c any ptl)
     unfolding headFits ptlPartFits
-    fits-alike = rw (le-leb (pic .chroma) 3 chroma, le-leb (any .chroma) 3 chroma′, le-leb (pic .depth - 8) 7 (omega arith), le-leb (any .depth - 8) 7 (omega arith))
+    fits-alike = rw (le-leb (pic .«chroma_format_idc») 3 chroma, le-leb (any .«chroma_format_idc») 3 chroma′, le-leb (pic .«bit_depth» - 8) 7 (omega arith), le-leb (any .«bit_depth» - 8) 7 (omega arith))
 
     write-alike : (xs : List (Array (List ℕ))) → done (writeFull (expandedHead c pic ptl) xs) ≡ done (writeFull (expandedHead c any ptl) xs)
     unfolding writeFull recordFits
@@ -113,7 +114,7 @@ module _ (pic any : Picture) where
         both (refuse m) (accept b) e = let z : _≡_ {A = ℕ} 0 1 = cc in absurd (omega arith)
         both (refuse m) (refuse n) e = let z : m ≡ n = cc in ap refuse z
 
-module _ (S : List ℕ) (tols : Option ℕ) (pic : Picture) (chroma : pic .chroma ≤ 3) (depth : pic .depth ≤ 15) where
+module _ (S : List ℕ) (tols : Option ℕ) (pic : Picture) (chroma : pic .«chroma_format_idc» ≤ 3) (depth : pic .«bit_depth» ≤ 15) where
   abbrev streamOf : Picture → CompactVvcConfig → List ℕ → Outcome (List ℕ)
   streamOf p c list = andThen (toFull c p list) (λ full. streamExpanded c (full .0 .head) (full .1) S tols)
 

@@ -6,7 +6,7 @@ use mathlib.Core.Option.{Option}
 use mathlib.Core.List.{List}
 use lib.ListN.{length}
 use Rattle.parse.specs.Outcome.{counted}
-use Rattle.expand.specs.Expand.{Picture}
+use Rattle.expand.specs.declared.Picture.{Picture}
 use Rattle.path.specs.Still.{Still}
 use Rattle.path.specs.Path.{Writes, Path, Paths}
 use Rattle.still.specs.Stills.{stillRecord, stillStream}
@@ -27,5 +27,5 @@ pub record TwoCalls (C S C′ S′ : List ℕ) (pic pic′ : Picture) (tols tols
 -- The claim, for any two stills that meet the premises and any targets, with chroma at most 3, depth at most 15 and any dimensions.
 abbrev pub WholeCalls : Type 0
 WholeCalls =
-    (C S C′ S′ : List ℕ) → Still C S → Still C′ S′ → (pic pic′ : Picture) → pic .chroma ≤ 3 → pic .depth ≤ 15 → pic′ .chroma ≤ 3 → pic′ .depth ≤ 15
+    (C S C′ S′ : List ℕ) → Still C S → Still C′ S′ → (pic pic′ : Picture) → pic .«chroma_format_idc» ≤ 3 → pic .«bit_depth» ≤ 15 → pic′ .«chroma_format_idc» ≤ 3 → pic′ .«bit_depth» ≤ 15
     → (tols tols′ : Option ℕ) → TwoCalls C S C′ S′ pic pic′ tols tols′

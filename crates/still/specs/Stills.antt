@@ -9,7 +9,8 @@ use Rattle.compact.specs.Compact.{parseCompact}
 use Rattle.compact.specs.ItemData.{restore}
 use Rattle.full.specs.Read.{parseFull}
 use Rattle.full.specs.Write.{serializeFull}
-use Rattle.expand.specs.Expand.{Picture, toFull}
+use Rattle.expand.specs.Expand.{toFull}
+use Rattle.expand.specs.declared.Picture.{Picture}
 use Rattle.access_unit.specs.AccessUnit.{assemble}
 
 -- the full record of C with the caller's picture: compact read, expand, full write
@@ -31,7 +32,7 @@ streamWith pic C S tols = lentInput S do
 
 -- the stream does not depend on the picture (`any-picture`, crates/still/proofs/Pictures.antt)
 abbrev pub anyPicture : Picture
-anyPicture = record { chroma = 1; depth = 8; width = 0; height = 0 }
+anyPicture = record { «chroma_format_idc» = 1; «bit_depth» = 8; width = 0; height = 0 }
 
 -- so `still_stream` takes no picture
 unfoldable pub stillStream : List ℕ → List ℕ → Option ℕ → Outcome (List ℕ)

@@ -3,6 +3,7 @@ use compact::CompactRead;
 use compact::CompactVvcConfig;
 use error::Counted;
 use expand::ExpandAnswer;
+use expand::Picture;
 use still::COMPACT_LIST;
 use still::EXPANDED_LIST;
 ghost use mathlib.Core.Path.{_≡_};
@@ -12,27 +13,12 @@ ghost use Rattle.still.specs.Stills.{stillRecord};
 ghost use Rattle.still.specs.inner.Steps.{ReadFrom, recordFrom};
 
 // The length of the record of a configuration and a list. Refusals: those of expansion; 3, 22.
-fn record_len(
-    config: CompactVvcConfig,
-    list: &[u8],
-    chroma_format_idc: u8,
-    bit_depth: u8,
-    width: u32,
-    height: u32,
-) -> Counted
+fn record_len(config: CompactVvcConfig, list: &[u8], picture: Picture) -> Counted
     requires { ⌜ ReadFrom config (now list) ⌝ }
-    ensures { λ r. ⌜ countOf r ≡ countFound (recordFrom config (record { chroma = «chroma_format_idc»; depth = «bit_depth»; width = width; height = height }) (now (list .entry))) ⌝ }
+    ensures { λ r. ⌜ countOf r ≡ countFound (recordFrom config picture (now (list .entry))) ⌝ }
 {
     let mut grouped = [0u8; EXPANDED_LIST];
-    let expanded = expand::to_full(
-        config,
-        list,
-        chroma_format_idc,
-        bit_depth,
-        width,
-        height,
-        &mut grouped,
-    );
+    let expanded = expand::to_full(config, list, picture, &mut grouped);
     let answer = expanded.answer;
     let head = expanded.head;
     match answer {
@@ -42,26 +28,13 @@ fn record_len(
 }
 
 // The length of the full record of a still. Refusals: those of `still_record` but for 20.
-pub fn still_record_len(
-    record: &[u8],
-    chroma_format_idc: u8,
-    bit_depth: u8,
-    width: u32,
-    height: u32,
-) -> Counted
-    ensures { λ r. ⌜ countOf r ≡ countFound (stillRecord (now («record» .entry)) (record { chroma = «chroma_format_idc»; depth = «bit_depth»; width = width; height = height })) ⌝ }
+pub fn still_record_len(record: &[u8], picture: Picture) -> Counted
+    ensures { λ r. ⌜ countOf r ≡ countFound (stillRecord (now («record» .entry)) picture) ⌝ }
 {
     let mut list = [0u8; COMPACT_LIST];
     let read = compact_read::parse(record, &mut list);
     match read {
-        CompactRead::Read(config, _, len) => record_len(
-            config,
-            &list[..len],
-            chroma_format_idc,
-            bit_depth,
-            width,
-            height,
-        ),
+        CompactRead::Read(config, _, len) => record_len(config, &list[..len], picture),
         CompactRead::Refused(e) => Counted::Refused(e),
     }
 }

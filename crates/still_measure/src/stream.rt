@@ -10,6 +10,7 @@ use error::LARGEST_INPUT;
 use error::Refusal;
 use expand::ExpandAnswer;
 use full::VvcConfig;
+use still::ANY_PICTURE;
 use still::COMPACT_LIST;
 use still::EXPANDED_LIST;
 ghost use mathlib.Core.Path.{_≡_};
@@ -100,7 +101,7 @@ fn stream_len(config: CompactVvcConfig, list: &[u8], stored: &[u8], tols: Target
     ensures { λ r. ⌜ countOf r ≡ countFound (streamFrom config (now (list .entry)) (now (stored .entry)) (tolsOf tols)) ⌝ }
 {
     let mut grouped = [0u8; EXPANDED_LIST];
-    let expanded = expand::to_full(config, list, 1, 8, 0, 0, &mut grouped);
+    let expanded = expand::to_full(config, list, ANY_PICTURE, &mut grouped);
     let answer = expanded.answer;
     let head = expanded.head;
     match answer {

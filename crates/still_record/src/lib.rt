@@ -3,6 +3,7 @@ use compact::CompactRead;
 use compact::CompactVvcConfig;
 use error::Written;
 use expand::ExpandAnswer;
+use expand::Picture;
 use still::COMPACT_LIST;
 use still::EXPANDED_LIST;
 ghost use mathlib.Core.Path.{_≡_};
@@ -12,28 +13,12 @@ ghost use Rattle.still.specs.Stills.{stillRecord};
 ghost use Rattle.still.specs.inner.Steps.{ReadFrom, recordFrom};
 
 // Writes the record of a configuration and a list. Refusals: those of expansion; 3, 22; 20.
-fn put_still(
-    config: CompactVvcConfig,
-    list: &[u8],
-    chroma_format_idc: u8,
-    bit_depth: u8,
-    width: u32,
-    height: u32,
-    out: &mut [u8],
-) -> Written
+fn put_still(config: CompactVvcConfig, list: &[u8], picture: Picture, out: &mut [u8]) -> Written
     requires { ⌜ ReadFrom config (now list) ⌝ }
-    ensures { λ r. ⌜ (writtenOf r, now (out .exit)) ≡ lentOutput (counted (recordFrom config (record { chroma = «chroma_format_idc»; depth = «bit_depth»; width = width; height = height }) (now (list .entry)))) (now (out .entry)) ⌝ }
+    ensures { λ r. ⌜ (writtenOf r, now (out .exit)) ≡ lentOutput (counted (recordFrom config picture (now (list .entry)))) (now (out .entry)) ⌝ }
 {
     let mut grouped = [0u8; EXPANDED_LIST];
-    let expanded = expand::to_full(
-        config,
-        list,
-        chroma_format_idc,
-        bit_depth,
-        width,
-        height,
-        &mut grouped,
-    );
+    let expanded = expand::to_full(config, list, picture, &mut grouped);
     let answer = expanded.answer;
     let head = expanded.head;
     match answer {
@@ -44,28 +29,13 @@ fn put_still(
 
 // Writes the full record of a compact record with the caller's picture.
 // Refusals: 23, 1, 7; with the flag set 16 and the VPS's; 17, the SPS's, 18, the VPS's; 3, 22; 20.
-pub fn still_record(
-    record: &[u8],
-    chroma_format_idc: u8,
-    bit_depth: u8,
-    width: u32,
-    height: u32,
-    out: &mut [u8],
-) -> Written
-    ensures { λ r. ⌜ (writtenOf r, now (out .exit)) ≡ lentOutput (counted (stillRecord (now («record» .entry)) (record { chroma = «chroma_format_idc»; depth = «bit_depth»; width = width; height = height }))) (now (out .entry)) ⌝ }
+pub fn still_record(record: &[u8], picture: Picture, out: &mut [u8]) -> Written
+    ensures { λ r. ⌜ (writtenOf r, now (out .exit)) ≡ lentOutput (counted (stillRecord (now («record» .entry)) picture)) (now (out .entry)) ⌝ }
 {
     let mut list = [0u8; COMPACT_LIST];
     let read = compact_read::parse(record, &mut list);
     match read {
-        CompactRead::Read(config, _, len) => put_still(
-            config,
-            &list[..len],
-            chroma_format_idc,
-            bit_depth,
-            width,
-            height,
-            out,
-        ),
+        CompactRead::Read(config, _, len) => put_still(config, &list[..len], picture, out),
         CompactRead::Refused(e) => Written::Refused(e),
     }
 }

@@ -8,6 +8,7 @@ use error::Refusal;
 use error::Written;
 use expand::ExpandAnswer;
 use full::VvcConfig;
+use still::ANY_PICTURE;
 use still::COMPACT_LIST;
 use still::EXPANDED_LIST;
 use still_measure::stream;
@@ -57,7 +58,7 @@ fn put_stream(
     ensures { λ r. ⌜ (writtenOf r, now (out .exit)) ≡ lentOutput (counted (streamFrom config (now (list .entry)) (now (stored .entry)) (tolsOf tols))) (now (out .entry)) ⌝ }
 {
     let mut grouped = [0u8; EXPANDED_LIST];
-    let expanded = expand::to_full(config, list, 1, 8, 0, 0, &mut grouped);
+    let expanded = expand::to_full(config, list, ANY_PICTURE, &mut grouped);
     let answer = expanded.answer;
     let head = expanded.head;
     match answer {

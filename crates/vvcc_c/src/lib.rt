@@ -4,6 +4,7 @@ pub mod answers;
 use access_unit_annex_b::access_unit_annex_b;
 use error::LARGEST_INPUT;
 use error::Refusal;
+use expand::Picture;
 use full_read::FullAnswer;
 ghost use mathlib.Core.Path.{_≡_};
 ghost use Rattle.split.specs.Answers.{nextItemUnit, nextGiven};
@@ -37,16 +38,15 @@ pub extern "C" fn vvcc_still_record(
     height: u32,
     out: &mut [u8],
 ) -> VvccWritten
-    ensures { λ r. ⌜ (r, now (out .exit)) ≡ writtenGiven (stillRecord (now («record» .entry)) (record { chroma = «chroma_format_idc»; depth = «bit_depth»; width = width; height = height })) (now (out .entry)) ⌝ }
+    ensures { λ r. ⌜ (r, now (out .exit)) ≡ writtenGiven (stillRecord (now («record» .entry)) (record { «chroma_format_idc» = «chroma_format_idc»; «bit_depth» = «bit_depth»; width = width; height = height })) (now (out .entry)) ⌝ }
 {
-    let written = still_record::still_record(
-        record,
+    let picture = Picture {
         chroma_format_idc,
         bit_depth,
         width,
         height,
-        out,
-    );
+    };
+    let written = still_record::still_record(record, picture, out);
     answers::written(written)
 }
 

@@ -6,7 +6,7 @@ use borrow.Author.Needs.{needs}
 use Rattle.parse.specs.Outcome.{Outcome}
 use Rattle.ptl.specs.Ptl.{zeroPtl}
 use Rattle.full.specs.declared.VvcConfig.{VvcConfig}
-use Rattle.expand.specs.Expand.{FullHead, Picture}
+use Rattle.expand.specs.Expand.{FullHead}
 use Rattle.expand.specs.Answers.{expandedGiven}
 use Rattle.grouping.specs.inner.Units.{unitsAt}
 use Rattle.expand.specs.inner.ParameterSets.{withUnits, setsPtl}
@@ -41,23 +41,21 @@ returns c =
     let eh = c .before .before .before .before in
     let a = eh .before .before .before .before .before .before .before .args in
     let us = unitsAt (a .list .now) (a .c) in
-    let pic : Picture = record { chroma = a .chroma-format-idc; depth = a .bit-depth; width = a .width; height = a .height } in
     let y = eh .before .before .before .before .sets-ptl in
     let p = read-value zeroPtl (y .result .answer) (y .result .ptl) (setsPtl (a .config .«multi_layer_flag») us) (y .ensures) (eh .before .enum-told .given .1) in
     c .before .before .put-expanded .ensures
     ∙ ap (λ (o : Outcome (FullHead × List ℕ)). expandedGiven o (a .out .now))
-    (ap (λ (h : VvcConfig). withUnits h us) (eh .expanded-head .ensures) ∙ sym (sets-read (a .config) pic us (y .result .ptl) p))
+    (ap (λ (h : VvcConfig). withUnits h us) (eh .expanded-head .ensures) ∙ sym (sets-read (a .config) (a .picture) us (y .result .ptl) p))
 
 returns-2 : tie.Need-returns-2
 returns-2 c =
     let an = c .before .before in
     let a = an .before .before .before .before .before .before .args in
     let us = unitsAt (a .list .now) (a .c) in
-    let pic : Picture = record { chroma = a .chroma-format-idc; depth = a .bit-depth; width = a .width; height = a .height } in
     let y = an .before .before .before .sets-ptl in
     let n = read-refusal zeroPtl (y .result .answer) (y .result .ptl) (setsPtl (a .config .«multi_layer_flag») us) (y .ensures) _ (an .answer .given .1) in
     ap (λ (p : Outcome FullHead × VvcConfig). (p, a .out .now)) (c .refused .ensures)
-    ∙ expanded-refused _ (a .out .now) _ (sets-refused (a .config) pic us _ n)
+    ∙ expanded-refused _ (a .out .now) _ (sets-refused (a .config) (a .picture) us _ n)
 
 pub expand-units-spec : {M : Type 1} → statement M
 expand-units-spec =

@@ -5,7 +5,7 @@ use mathlib.Core.List.{List}
 use borrow.Author.Needs.{needs}
 use Rattle.parse.specs.Outcome.{Outcome}
 use Rattle.full.specs.declared.VvcConfig.{VvcConfig}
-use Rattle.expand.specs.Expand.{FullHead, Picture}
+use Rattle.expand.specs.Expand.{FullHead}
 use Rattle.expand.specs.Answers.{expandedGiven}
 use Rattle.grouping.specs.inner.Units.{startedUnits, StartReads}
 use Rattle.expand.proofs.Expansion.{expanded-refused, list-expanded, list-refused}
@@ -35,19 +35,17 @@ returns c =
     let q = c .before .before .before .before .before in
     let a = q .before .before .before .before .before .args in
     let s = a .list .now in
-    let pic : Picture = record { chroma = a .chroma-format-idc; depth = a .bit-depth; width = a .width; height = a .height } in
     let y = q .before .before .start in
     let e = sym (ap (startedUnits s) (q .c .given .1)) ∙ y .ensures .0 in
-    c .before .before .expand-units .ensures ∙ ap (λ (o : Outcome (FullHead × List ℕ)). expandedGiven o (a .out .now)) (sym (list-expanded (a .config) pic s _ e))
+    c .before .before .expand-units .ensures ∙ ap (λ (o : Outcome (FullHead × List ℕ)). expandedGiven o (a .out .now)) (sym (list-expanded (a .config) (a .picture) s _ e))
 
 returns-2 : tie.Need-returns-2
 returns-2 c =
     let a = c .before .before .before .before .before .before .before .args in
     let s = a .list .now in
-    let pic : Picture = record { chroma = a .chroma-format-idc; depth = a .bit-depth; width = a .width; height = a .height } in
     let y = c .before .before .before .before .start in
     let e = sym (ap (startedUnits s) (c .before .before .e .given .1)) ∙ y .ensures .0 in
-    ap (λ (p : Outcome FullHead × VvcConfig). (p, a .out .now)) (c .refused .ensures) ∙ expanded-refused _ (a .out .now) _ (list-refused (a .config) pic s _ e)
+    ap (λ (p : Outcome FullHead × VvcConfig). (p, a .out .now)) (c .refused .ensures) ∙ expanded-refused _ (a .out .now) _ (list-refused (a .config) (a .picture) s _ e)
 
 pub to-full-spec : {M : Type 1} → statement M
 to-full-spec =

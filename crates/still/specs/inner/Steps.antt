@@ -17,7 +17,8 @@ use Rattle.compact.specs.declared.CompactVvcConfig.{CompactVvcConfig}
 use Rattle.full.specs.Read.{parseFull}
 use Rattle.full.specs.Write.{serializeFull}
 use Rattle.full.specs.declared.VvcConfig.{VvcConfig}
-use Rattle.expand.specs.Expand.{Picture, FullHead, toFull}
+use Rattle.expand.specs.Expand.{FullHead, toFull}
+use Rattle.expand.specs.declared.Picture.{Picture}
 use Rattle.access_unit.specs.AccessUnit.{startCode, assemble}
 use Rattle.still.specs.Stills.{anyPicture}
 

@@ -4,7 +4,6 @@ use mathlib.Core.Path.{sym, ap, _∙_}
 use borrow.Author.Needs.{needs}
 use Rattle.compact.specs.Answers.{compactOf}
 use Rattle.compact.specs.declared.CompactRead.{CompactRead}
-use Rattle.expand.specs.Expand.{Picture}
 use Rattle.parse.proofs.Output.{written-refused}
 use Rattle.still.specs.Stills.{stillRecord}
 use Rattle.still.proofs.LocalArrays.{Read, was-read, not-read, given-as, record-read, record-unread}
@@ -64,10 +63,9 @@ returns-2 c =
     let p = c .before .before .before .before in
     let a = start p .args in
     let y = p .parse in
-    let pic : Picture = record { chroma = a .chroma-format-idc; depth = a .bit-depth; width = a .width; height = a .height } in
     let e = ap (λ (x : CompactRead). (compactOf x, y .last .1 .0)) (sym (c .before .read2 .given .1)) ∙ y .ensures in
-    written-refused (stillRecord (a .«record» .now) pic) (a .out .now) _
-    (record-unread (a .«record» .now) pic _ (not-read (a .«record» .now) (bytes-at (p .before)) _ _ _ e (omega arith)))
+    written-refused (stillRecord (a .«record» .now) (a .picture)) (a .out .now) _
+    (record-unread (a .«record» .now) (a .picture) _ (not-read (a .«record» .now) (bytes-at (p .before)) _ _ _ e (omega arith)))
 
 pub still-record-spec : {M : Type 1} → statement M
 still-record-spec =

@@ -1,6 +1,6 @@
 -- `vvcc_still_record` gives what `still_record` gives.
 use borrow.Author.Needs.{needs}
-use Rattle.expand.specs.Expand.{Picture}
+use Rattle.expand.specs.declared.Picture.{Picture}
 use Rattle.still.specs.Stills.{stillRecord}
 use Rattle.vvcc_c.proofs.Given.{given-by}
 use Rattle.vvcc_c.proofs.vvcc_still_record.Statement.{statement}
@@ -18,7 +18,7 @@ same-length c = search needs
 returns : tie.Need-returns
 returns c =
     let a = c .before .before .before .before .before .before .before .args in
-    let pic : Picture = record { chroma = a .chroma-format-idc; depth = a .bit-depth; width = a .width; height = a .height } in
+    let pic : Picture = record { «chroma_format_idc» = a .chroma-format-idc; «bit_depth» = a .bit-depth; width = a .width; height = a .height } in
     given-by (stillRecord (a .«record» .now) pic) (a .out .now) _ _ _ (c .written .ensures) (c .before .before .before .still-record .ensures)
 
 pub vvcc-still-record-spec : {M : Type 1} → statement M

@@ -4,7 +4,6 @@ use mathlib.Core.Path.{sym, ap, _∙_}
 use borrow.Author.Needs.{needs}
 use Rattle.compact.specs.Answers.{compactOf}
 use Rattle.compact.specs.declared.CompactRead.{CompactRead}
-use Rattle.expand.specs.Expand.{Picture}
 use Rattle.still.specs.Stills.{stillRecord}
 use Rattle.still.proofs.LocalArrays.{Read, was-read, not-read, counted-as, counted-refused, record-read, record-unread}
 use Rattle.still_measure.proofs.record.still_record_len.Statement.{statement}
@@ -51,10 +50,9 @@ returns-2 : tie.Need-returns-2
 returns-2 c =
     let a = c .before .before .before .before .before .before .before .args in
     let y = c .before .before .before .before .parse in
-    let pic : Picture = record { chroma = a .chroma-format-idc; depth = a .bit-depth; width = a .width; height = a .height } in
     let e = ap (λ (x : CompactRead). (compactOf x, y .last .1 .0)) (sym (c .before .read2 .given .1)) ∙ y .ensures in
-    counted-refused (stillRecord (a .«record» .now) pic) _
-    (record-unread (a .«record» .now) pic _ (not-read (a .«record» .now) (bytes-at (c .before .before .before .before .before)) _ _ _ e (omega arith)))
+    counted-refused (stillRecord (a .«record» .now) (a .picture)) _
+    (record-unread (a .«record» .now) (a .picture) _ (not-read (a .«record» .now) (bytes-at (c .before .before .before .before .before)) _ _ _ e (omega arith)))
 
 pub still-record-len-spec : {M : Type 1} → statement M
 still-record-len-spec =

@@ -18,7 +18,7 @@ struct Unit {
     found: u32,
     start: usize,
     len: usize,
-    behind: usize,
+    next: usize,
 }
 
 extern "C" {
@@ -103,7 +103,7 @@ fn units_of<'a>(s: &'a [u8], next: impl Fn(usize) -> Unit) -> Vec<&'a [u8]> {
             return units;
         }
         units.push(&s[u.start..u.start + u.len]);
-        at = u.behind;
+        at = u.next;
     }
 }
 

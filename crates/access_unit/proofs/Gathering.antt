@@ -16,38 +16,32 @@ use Rattle.boxes.specs.declared.Span.{Span}
 use Rattle.unit_list.specs.UnitList.{Array, decode, unitsOf}
 use Rattle.unit_list.specs.Answers.{listUnits}
 use Rattle.unit_list.proofs.Accepted.{accepted}
-use Rattle.unit_list.proofs.Accepted as U
 use Rattle.split.specs.Item.{splitItem}
 use Rattle.split.proofs.Items.{split-sound, split-lent, split-apart, items-outside, items-left}
 use Rattle.split.proofs.Spans.{apart-sum}
-use Rattle.split.proofs.Spans as H
 use Rattle.access_unit.specs.AccessUnit.{keeps, leading, kept}
 use Rattle.access_unit.specs.inner.Gathered.{keptLeft, lengths, itemSum, listSum, Gathered, someGathered, gather, sizesOf, bothSums, sizesWith}
 use Rattle.access_unit.specs.declared.sizes.UnitSum.{UnitSum}
 use Rattle.access_unit.specs.declared.sizes.Sizes.{Sizes}
 use Rattle.split.specs.inner.Walk.{itemUnitsFrom}
 use Rattle.boxes.specs.Bytes.{outside}
+use Rattle.boxes.proofs.Spans.{spanLengths}
 
 -- ### bounds of the sums
 
-lengths-le : (s : List ℕ) (us : List Span) → lengths (map (held s) us) ≤ H.lengths us
+lengths-le : (s : List ℕ) (us : List Span) → lengths (map (held s) us) ≤ spanLengths us
 unfolding lengths
 lengths-le s [] = omega arith
 lengths-le s (a ∷ us) = let h = lengths-le s us in let l = length-take (a .len) (drop (a .start) s) in omega arith
 
-same-lengths : (us : List Span) → U.lengths us ≡ H.lengths us
-unfolding U.lengths
-same-lengths [] = refl
-same-lengths (a ∷ us) = let h = same-lengths us in omega arith
-
-kept-fewer : (item : List ℕ) (target : Option ℕ) (xs : List Span) → length (kept item target xs) + H.lengths (kept item target xs) ≤ length xs + H.lengths xs
+kept-fewer : (item : List ℕ) (target : Option ℕ) (xs : List Span) → length (kept item target xs) + spanLengths (kept item target xs) ≤ length xs + spanLengths xs
 unfolding kept
 kept-fewer item target [] = omega arith
 kept-fewer item target (a ∷ xs) = go (keeps target (held item a)) (kept-fewer item target xs)
   where
-    go : (b : Bool) → length (kept item target xs) + H.lengths (kept item target xs) ≤ length xs + H.lengths xs
-        → length (if b then a ∷ kept item target xs else kept item target xs) + H.lengths (if b then a ∷ kept item target xs else kept item target xs)
-        ≤ suc (length xs) + (a .len + H.lengths xs)
+    go : (b : Bool) → length (kept item target xs) + spanLengths (kept item target xs) ≤ length xs + spanLengths xs
+        → length (if b then a ∷ kept item target xs else kept item target xs) + spanLengths (if b then a ∷ kept item target xs else kept item target xs)
+        ≤ suc (length xs) + (a .len + spanLengths xs)
     go true h = omega arith
     go false h = omega arith
 
@@ -60,7 +54,6 @@ list-few list us e = go (decode list) refl e
         let y : unitsOf xs ≡ us = cc in
         let w = accepted list xs d in
         let l = lengths-le list (unitsOf xs) in
-        let m = same-lengths (unitsOf xs) in
         rw (← y) (omega (arith, w .together, w .lent))
 
 item-few : (size : ℕ) (target : Option ℕ) (item : List ℕ) (split : List Span) → splitItem size item ≡ accept split

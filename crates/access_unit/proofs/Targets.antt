@@ -14,7 +14,6 @@ use Rattle.boxes.specs.declared.Span.{Span}
 use Rattle.parse.proofs.Lent.{lent-within}
 use Rattle.nal.specs.Kinds.{kindOf, isAud, isRecordOf}
 use Rattle.nal.specs.declared.UnitKind.{UnitKind}
-use Rattle.unit_list.proofs.Accepted.{held-long}
 use Rattle.opi.specs.Opi.{opiOlsIdx}
 use Rattle.opi.specs.Answers.{olsIdxOf, olsIdxGiven}
 use Rattle.opi.specs.declared.OlsIdx.{OlsIdx}
@@ -24,6 +23,7 @@ use Rattle.access_unit.specs.AccessUnit.{targetOf, agrees, isOpi, keeps,
 use Rattle.access_unit.specs.Answers.{tolsOf}
 use Rattle.access_unit.specs.declared.Target.{Target}
 use Rattle.access_unit.specs.declared.Target.the-variants as T
+use Rattle.boxes.proofs.Spans.{held-long}
 
 -- the target
 module _ (h : VvcConfig) (x : Target) where

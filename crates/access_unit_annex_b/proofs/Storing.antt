@@ -10,7 +10,6 @@ use Rattle.boxes.specs.Bytes.{toBe}
 use Rattle.boxes.specs.Parts.{held}
 use Rattle.boxes.specs.declared.Span.{Span}
 use Rattle.boxes.proofs.Walk.{total}
-use Rattle.unit_list.proofs.Accepted.{held-long}
 use Rattle.split.specs.Stream.{annexB}
 use Rattle.access_unit.specs.AccessUnit.{startCode}
 use Rattle.access_unit.specs.inner.Gathered.{bytesAt}
@@ -19,6 +18,7 @@ use Rattle.parse.specs.inner.Walk.{more}
 use Rattle.parse.proofs.General.{sets-append}
 use Rattle.parse.specs.inner.Stores.{bytesOf}
 use Rattle.parse.proofs.Stores.{puts-found, Putting, putting-start, putting-end, putting-room, putting-again}
+use Rattle.boxes.proofs.Spans.{held-long}
 
 pub stream-one : (u : List ℕ) (us : List (List ℕ)) → annexB startCode (u ∷ us) ≡ (startCode ++ u) ++ annexB startCode us
 unfolding annexB

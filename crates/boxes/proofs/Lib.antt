@@ -4,3 +4,4 @@ pub mod Fields
 pub mod Walk
 pub mod Places
 pub mod PrefixSizes
+pub mod Spans

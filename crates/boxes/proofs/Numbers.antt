@@ -74,3 +74,8 @@ below-four n (suc (suc zero)) h k = omega arith
 below-four n (suc (suc (suc zero))) h k = omega arith
 below-four n (suc (suc (suc (suc zero)))) h k = omega arith
 below-four n (suc (suc (suc (suc (suc w))))) h k = absurd (omega arith)
+
+-- the number of one byte
+pub be-one : (s : List ℕ) (p : ℕ) → be s p 1 ≡ getD s p 0
+unfolding be
+be-one s p = let e : p + 0 ≡ p = omega arith in rw e (omega arith)

@@ -23,7 +23,6 @@ use Rattle.unit_list.specs.declared.ListStart.{ListStart}
 use Rattle.unit_list.specs.declared.ListStart.the-variants as S
 use Rattle.unit_list.specs.declared.ListStep.{ListStep}
 use Rattle.unit_list.specs.declared.ListStep.the-variants as L
-use Rattle.unit_list.proofs.Accepted.{held-long}
 use Rattle.unit_list.proofs.Turns.{ListTurn, list-found, list-end, list-malformed, start-units, start-refused}
 use Rattle.compact.specs.Compact.{allAtMost, compactBytes, serializeCompact, compactFirstByte}
 use Rattle.compact_write.specs.inner.Sums.{addingUnit, addingAll, summed, noUnits, recordLength, compactRecordOf}
@@ -35,6 +34,7 @@ use Rattle.parse.specs.inner.Walk.{more}
 use Rattle.unit_list.specs.inner.Written.{unitBytes}
 use Rattle.parse.specs.inner.Stores.{bytesOf, Puts}
 use Rattle.boxes.proofs.PrefixSizes.{size-inside}
+use Rattle.boxes.proofs.Spans.{held-long}
 
 -- one unit added, then the others
 module _ (s : List ℕ) (a : Span) (inside : a .start + a .len ≤ length s) (v : RecordSum) where

@@ -23,7 +23,7 @@ use Rattle.full.specs.RoundTrip.{withPtl, readBack}
 pub use Rattle.full.specs.RoundTrip.{Typed}
 unfoldable pub use Rattle.full.specs.RoundTrip.{headRead}
 use Rattle.full.specs.declared.VvcConfig.{VvcConfig}
-use Rattle.record_arrays.proofs.ArraysRoundTrip.{placedArrays, arrays-read, arrays-held, byte-there}
+use Rattle.record_arrays.proofs.ArraysRoundTrip.{allPlacedInRecord, arrays-read, arrays-held, byte-there}
 use Rattle.full.proofs.HeadRoundTrip.{ReadsAs, small, Writable, head-read}
 use Rattle.parse.proofs.General.{both-true}
 use Rattle.boxes.specs.Bytes.{outside}
@@ -51,7 +51,7 @@ module _ (h : VvcConfig) (q : VvcPtlRecord) (xs : List (Array (List ℕ))) (w : 
   unfolding fullBytes
   length-record = omega (arith, length-append (headBytes h ++ (length xs ∷ [])) (arraysBytes xs), before)
 
-  record-read : vvcRecord s 0 ≡ value (readBack (h .«ptl_present_flag») h q, placedArrays (length (headBytes h) + 1) xs) (length s)
+  record-read : vvcRecord s 0 ≡ value (readBack (h .«ptl_present_flag») h q, allPlacedInRecord (length (headBytes h) + 1) xs) (length s)
   unfolding vvcRecord
   record-read =
       let c : 0 + length (headBytes h) ≡ length (headBytes h) = omega arith in

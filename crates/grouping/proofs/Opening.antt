@@ -14,16 +14,16 @@ use Rattle.grouping.specs.inner.Units.{spansOf, unitsAt, Readable, heldU
 
 module _ (s : List ℕ) (c : ListCursor) (n : ℕ) where
   -- units that were counted read
-  pub counted-read : Fits s c → accept n ≡ countFound (unitsLeft s c) → (accept (unitsAt s c) ≡ heldUnits s (unitsLeft s c)) × Readable s c
+  pub units-counted : Fits s c → accept n ≡ countFound (unitsLeft s c) → (accept (unitsAt s c) ≡ heldUnits s (unitsLeft s c)) × Readable s c
   unfolding unitsAt
-  counted-read f e = go (unitsLeft s c) refl
+  units-counted f e = go (unitsLeft s c) refl
     where
       go : (o : Outcome (List Span)) → unitsLeft s c ≡ o → (accept (map (held s) (spansOf (unitsLeft s c))) ≡ heldUnits s (unitsLeft s c)) × Readable s c
       go (accept us) g = (rw g, record { fits = f; spans = us; left = g })
       go (refuse m) g = absurd (let z : _≡_ {A = ℕ} 0 1 = cc (ap countFound g) in omega arith)
 
-  pub counted-refused : refuse n ≡ countFound (unitsLeft s c) → refuse n ≡ heldUnits s (unitsLeft s c)
-  counted-refused e = go (unitsLeft s c) e
+  pub units-refused : refuse n ≡ countFound (unitsLeft s c) → refuse n ≡ heldUnits s (unitsLeft s c)
+  units-refused e = go (unitsLeft s c) e
     where
       go : (o : Outcome (List Span)) → refuse n ≡ countFound o → refuse n ≡ heldUnits s o
       go (accept us) g = absurd (let z : _≡_ {A = ℕ} 0 1 = cc in omega arith)

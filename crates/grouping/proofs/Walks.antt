@@ -17,12 +17,12 @@ use Rattle.unit_list.specs.declared.ListCursor.{ListCursor}
 use Rattle.unit_list.specs.declared.ListStep.{ListStep}
 use Rattle.unit_list.specs.declared.ListStep.the-variants as L
 use Rattle.unit_list.proofs.ListStep.{the-type}
-use Rattle.unit_list.proofs.Accepted.{held-long}
 use Rattle.unit_list.proofs.Turns.{ListTurn, list-found, list-stops}
 use Rattle.grouping.specs.inner.Units.{spansOf, unitsAt, Readable, UnitStepped, Steps}
 use Rattle.grouping.specs.declared.units.UnitStep.{UnitStep}
 use Rattle.grouping.specs.declared.units.UnitStep.the-variants as U
 use Rattle.parse.specs.inner.Walk.{more}
+use Rattle.boxes.proofs.Spans.{held-long}
 
 -- a step that found no unit: none is left
 pub none-left : (s : List ℕ) (here : ListCursor) (r : ListStep) → stepped s r ≡ typedUnitsFrom s here → OneOf (1 ∷ 2 ∷ []) (tagOf the-type r) → unitsAt s here ≡ []

@@ -18,7 +18,6 @@ use Rattle.boxes.proofs.Walk.{total}
 use Rattle.parse.proofs.Many.{many-bad}
 use Rattle.boxes.proofs.Numbers.{length-toBe}
 use Rattle.unit_list.proofs.Encode.{length-toChunk}
-use Rattle.unit_list.proofs.Accepted.{held-long}
 use Rattle.split.specs.Item.{itemUnit, itemUnits}
 use Rattle.split.proofs.Items.{left-step}
 use Rattle.nal.specs.Header.{nalHeader}
@@ -27,6 +26,7 @@ use Rattle.compact.specs.declared.CompactVvcConfig.{CompactVvcConfig}
 use Rattle.split.specs.inner.Walk.{itemUnitsFrom}
 use Rattle.parse.specs.inner.Walk.{more}
 use Rattle.parse.proofs.General.{sets-append}
+use Rattle.boxes.proofs.Spans.{held-long}
 
 -- ### restored
 

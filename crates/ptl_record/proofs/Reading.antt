@@ -17,6 +17,7 @@ use Rattle.bit_reader.specs.Bits.{isSet}
 use Rattle.ptl.specs.Ptl.{padded, presentFlags, levels}
 use Rattle.ptl_record.specs.Read.{octets, vvcPtlRecord}
 use Rattle.ptl_record.specs.inner.Places.{words, levelsLen, levelIf, levelsAt, flagsAt, levelsStart, countPlace, ptlEnd, ptlFields}
+use Rattle.boxes.proofs.Numbers.{be-one}
 
 -- x is a value that ends at q where q is within the bytes, and refusal 1 where it is not
 pub record Reach {A : Type 0} (end : ℕ) (x : Parsed A) (a : A) (q : ℕ) : Type 0 where
@@ -38,10 +39,6 @@ module _ {A B : Type 0} {end : ℕ} {x : Parsed A} {a : A} {q : ℕ} (f : A → 
 -- a value at a place within the bytes
 pub reach-value : {A : Type 0} {end : ℕ} (a : A) (q : ℕ) → q ≤ end → Reach end (value a q) a q
 reach-value a q h = record { there = λ l. refl; short = λ l. absurd (omega arith) }
-
-pub be-one : (s : List ℕ) (p : ℕ) → be s p 1 ≡ getD s p 0
-unfolding be
-be-one s p = let e : p + 0 ≡ p = omega arith in rw e (omega arith)
 
 only-zero : (m : ℕ) → m ≤ 1 → (m ≡ 1 → ⊥) → m ≡ 0
 only-zero zero h n = refl

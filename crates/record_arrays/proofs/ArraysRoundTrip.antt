@@ -13,11 +13,11 @@ use Rattle.parse.specs.Parse.{value, times, give}
 use Rattle.boxes.specs.Bytes.{toBe, uint, chunk, toChunk}
 use Rattle.boxes.specs.Parts.{held}
 use Rattle.boxes.specs.declared.Span.{Span}
-use Rattle.boxes.proofs.Numbers.{length-toBe, be-toBe-at}
+use Rattle.boxes.proofs.Numbers.{length-toBe, be-toBe-at, be-one}
 use Rattle.parse.proofs.Many.{times-nil, times-step}
 use Rattle.boxes.proofs.Fields.{uint-there, chunk-toChunk, held-toChunk}
 use Rattle.unit_list.specs.UnitList.{Array, largestType, encodeUnits, heldArray, heldArrays}
-use Rattle.unit_list.proofs.Arrays.{Sound, sound-none, sound-more, be-one}
+use Rattle.unit_list.proofs.Arrays.{Sound, sound-none, sound-more}
 use Rattle.unit_list.proofs.Encode.{placedUnits, length-toChunk}
 use Rattle.record_arrays.specs.Read.{holdsOne, recordArray}
 use Rattle.record_arrays.specs.Write.{arrayBytes, arraysBytes, unitsFit, arrayFits, arraysFit}
@@ -88,12 +88,12 @@ abbrev firstByte : Array (List ℕ) → ℕ
 firstByte a = a .complete * 128 + a .unitType
 
 -- the spans of an array's units when the array is written from place p on
-abbrev pub placedArray : ℕ → Array (List ℕ) → Array Span
-placedArray p a = record { complete = a .complete; unitType = a .unitType; units = placedUnits 2 (p + 1 + length (countPart a)) (a .units) }
+abbrev pub placedInRecord : ℕ → Array (List ℕ) → Array Span
+placedInRecord p a = record { complete = a .complete; unitType = a .unitType; units = placedUnits 2 (p + 1 + length (countPart a)) (a .units) }
 
-unfoldable pub placedArrays : ℕ → List (Array (List ℕ)) → List (Array Span)
-placedArrays p [] = []
-placedArrays p (a ∷ xs) = placedArray p a ∷ placedArrays (p + length (arrayBytes a)) xs
+unfoldable pub allPlacedInRecord : ℕ → List (Array (List ℕ)) → List (Array Span)
+allPlacedInRecord p [] = []
+allPlacedInRecord p (a ∷ xs) = placedInRecord p a ∷ allPlacedInRecord (p + length (arrayBytes a)) xs
 
 module _ (s : List ℕ) (a : Array (List ℕ)) (pre post : List ℕ) (p : ℕ) (e : s ≡ pre ++ (arrayBytes a ++ post)) (l : length pre ≡ p)
     (one : a .complete ≤ 1) (small : a .unitType ≤ largestType) (fits : arrayFits a ≡ true) where
@@ -128,7 +128,7 @@ module _ (s : List ℕ) (a : Array (List ℕ)) (pre post : List ℕ) (p : ℕ) (
   unfolding arrayBytes
   length-array = omega (arith, length-append (countPart a) (encodeUnits 2 (a .units)))
 
-  pub array-read : recordArray s p ≡ value (placedArray p a) (p + length (arrayBytes a))
+  pub array-read : recordArray s p ≡ value (placedInRecord p a) (p + length (arrayBytes a))
   unfolding recordArray
   array-read =
       let m : firstByte a % 32 ≡ a .unitType = omega arith in
@@ -136,7 +136,7 @@ module _ (s : List ℕ) (a : Array (List ℕ)) (pre post : List ℕ) (p : ℕ) (
       let z : p + 1 + length (countPart a) + length (encodeUnits 2 (a .units)) ≡ p + length (arrayBytes a) = omega (arith, length-array) in
       rw (byte-there s pre (countPart a ++ (encodeUnits 2 (a .units) ++ post)) (firstByte a) p split-first l, m, count-there (holdsOne (a .unitType)) refl, units-there, d, z)
 
-  pub array-held : heldArray s (placedArray p a) ≡ a
+  pub array-held : heldArray s (placedInRecord p a) ≡ a
   array-held =
       ap (λ (us : List (List ℕ)). record { complete = a .complete; unitType = a .unitType; units = us })
       (units-held 2 s (a .units) (pre ++ (firstByte a ∷ countPart a)) post (p + 1 + length (countPart a)) split-units before-units (fits-below (a .units) (all-fit .1)))
@@ -149,8 +149,8 @@ module _ (s : List ℕ) where
   next-arrays a xs pre post e = e ∙ ap (λ (x : List ℕ). pre ++ x) (append-assoc (arrayBytes a) (arraysBytes xs) post)
 
   pub arrays-read : {xs : List (Array (List ℕ))} → Sound xs → (pre post : List ℕ) (p : ℕ) → s ≡ pre ++ (arraysBytes xs ++ post) → length pre ≡ p
-      → arraysFit xs ≡ true → times (length xs) recordArray s p ≡ value (placedArrays p xs) (p + length (arraysBytes xs))
-  unfolding arraysBytes placedArrays arraysFit
+      → arraysFit xs ≡ true → times (length xs) recordArray s p ≡ value (allPlacedInRecord p xs) (p + length (arraysBytes xs))
+  unfolding arraysBytes allPlacedInRecord arraysFit
   arrays-read sound-none pre post p e l fits = times-nil recordArray s p ∙ ap (value []) (omega arith)
   arrays-read (sound-more {a = a} {xs = xs} one small h) pre post p e l fits =
       let g = next-arrays a xs pre post e in
@@ -158,12 +158,12 @@ module _ (s : List ℕ) where
       let m : length (pre ++ arrayBytes a) ≡ p + length (arrayBytes a) = omega (arith, length-append pre (arrayBytes a)) in
       let z : p + length (arrayBytes a) + length (arraysBytes xs) ≡ p + length (arrayBytes a ++ arraysBytes xs) =
       omega (arith, length-append (arrayBytes a) (arraysBytes xs)) in
-      times-step recordArray s (length xs) p (placedArray p a) (p + length (arrayBytes a)) (array-read s a pre (arraysBytes xs ++ post) p g l one small (f .0))
+      times-step recordArray s (length xs) p (placedInRecord p a) (p + length (arrayBytes a)) (array-read s a pre (arraysBytes xs ++ post) p g l one small (f .0))
       ∙ rw (arrays-read h (pre ++ arrayBytes a) post (p + length (arrayBytes a)) (g ∙ sym (append-assoc pre (arrayBytes a) (arraysBytes xs ++ post))) m (f .1), z)
 
   pub arrays-held : {xs : List (Array (List ℕ))} → Sound xs → (pre post : List ℕ) (p : ℕ) → s ≡ pre ++ (arraysBytes xs ++ post) → length pre ≡ p
-      → arraysFit xs ≡ true → heldArrays s (placedArrays p xs) ≡ xs
-  unfolding placedArrays arraysFit
+      → arraysFit xs ≡ true → heldArrays s (allPlacedInRecord p xs) ≡ xs
+  unfolding allPlacedInRecord arraysFit
   arrays-held sound-none pre post p e l fits = refl
   arrays-held (sound-more {a = a} {xs = xs} one small h) pre post p e l fits =
       let g = next-arrays a xs pre post e in

@@ -11,15 +11,13 @@ use Rattle.parse.specs.Parse.{Parsed, value, refused, bind, give, times, outcom
 use Rattle.boxes.specs.Bytes.{be, uint, chunk, toBe, toChunk}
 use Rattle.boxes.specs.Parts.{held}
 use Rattle.boxes.specs.declared.Span.{Span}
-use Rattle.boxes.proofs.Numbers.{length-toBe}
+use Rattle.boxes.proofs.Numbers.{length-toBe, be-one}
 use Rattle.boxes.proofs.Fields.{uint-there, uint-short, chunk-read}
 use Rattle.unit_list.specs.UnitList.{Array, encodeUnits, encodeArray, encodeArrays}
 use Rattle.unit_list.specs.inner.Walk.{chunkStepped}
 use Rattle.unit_list.specs.declared.ChunkRead.{ChunkRead}
 use Rattle.unit_list.specs.declared.ChunkRead.the-variants as C
-use Rattle.unit_list.proofs.Arrays.{be-one}
 use Rattle.unit_list.proofs.Encode.{length-toChunk}
-use Rattle.unit_list.proofs.Accepted.{held-long}
 use Rattle.unit_list.proofs.Steps.{chunk-bytes, chunk-refused}
 use Rattle.record_arrays.specs.Read.{holdsOne, recordArray}
 use Rattle.record_arrays_read.specs.inner.Arrays.{arrayHead, arrayHeadOf, ArrayHeadFits, unitsInList, arrayInList, arraysInList, roomTaken, storedBytes, StoredAt}
@@ -31,6 +29,7 @@ use Rattle.record_arrays.specs.inner.Counts.{countLen}
 use Rattle.parse.proofs.General.{sets-append, sets-before}
 use Rattle.parse.specs.Outcome.{accept}
 use Rattle.parse.specs.inner.Stores.{Puts}
+use Rattle.boxes.proofs.Spans.{held-long}
 
 -- reading a byte that is there
 pub byte-read : (s : List ℕ) (p : ℕ) → p < length s → uint 1 s p ≡ value (getD s p 0) (p + 1)

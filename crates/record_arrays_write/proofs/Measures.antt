@@ -19,7 +19,6 @@ use Rattle.unit_list.specs.declared.ListStep.the-variants as L
 use Rattle.unit_list.specs.declared.ArrayStep.{ArrayStep}
 use Rattle.unit_list.specs.declared.ArrayStep.the-variants as A
 use Rattle.unit_list.proofs.Encode.{length-toChunk}
-use Rattle.unit_list.proofs.Accepted.{held-long}
 use Rattle.record_arrays.specs.Read.{holdsOne}
 use Rattle.record_arrays.specs.Write.{arrayBytes, arraysBytes, unitsFit, arrayFits, arraysFit}
 use Rattle.record_arrays_write.specs.inner.Measures.{joined, nothing, unitMeasure, arrayBy, unitsMeasure, arraysMeasure, measuredBy, afterMeasured, arrayMeasured, Takes, ArrayWithin}
@@ -28,6 +27,7 @@ use Rattle.record_arrays_write.specs.declared.measure.ArrayMeasured.{Arr
 use Rattle.record_arrays_write.specs.declared.measure.ArrayMeasured.the-variants as R
 use Rattle.record_arrays.specs.inner.Counts.{countLen}
 use Rattle.parse.specs.inner.Walk.{more}
+use Rattle.boxes.proofs.Spans.{held-long}
 
 and-yes : (b : Bool) → b && true ≡ b
 and-yes true = refl

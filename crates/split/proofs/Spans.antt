@@ -5,19 +5,15 @@ use native.Mathlib.Omega.{arith}
 use lib.ListN.{length, getD}
 use Rattle.boxes.specs.Parts.{nowhere}
 use Rattle.boxes.specs.declared.Span.{Span}
+use Rattle.boxes.proofs.Spans.{spanLengths}
 
 -- each starts after place p and after the one before it, and the last ends at e or before
 pub data Apart (e : ℕ) : ℕ → List Span → Type 0 where
   none : {p : ℕ} → p ≤ e → Apart e p []
   more : {p : ℕ} {a : Span} {xs : List Span} → p < a .start → 0 < a .len → Apart e (a .start + a .len) xs → Apart e p (a ∷ xs)
 
--- how many bytes they hold together
-abbrev pub lengths : List Span → ℕ
-lengths [] = 0
-lengths (a ∷ xs) = a .len + lengths xs
-
--- their count and their lengths together are no more than the bytes from p to e
-pub apart-sum : {e p : ℕ} {xs : List Span} → Apart e p xs → p + (length xs + lengths xs) ≤ e
+-- their count and their spanLengths together are no more than the bytes from p to e
+pub apart-sum : {e p : ℕ} {xs : List Span} → Apart e p xs → p + (length xs + spanLengths xs) ≤ e
 apart-sum (none h) = omega arith
 apart-sum (more h k r) = let l = apart-sum r in omega arith
 

@@ -4,29 +4,20 @@ use mathlib.Core.Path.{_≡_, refl, sym, _∙_}
 use mathlib.Core.List.{List, [], _∷_}
 use native.Mathlib.Omega.{arith}
 use native.Mathlib.Decide.{decLe}
-use lib.ListN.{length, getD, length-drop}
-use lib.Seq.{length-take-le}
+use lib.ListN.{length, getD}
 use Rattle.parse.specs.Outcome.{accept, refuse}
 use Rattle.parse.specs.Parse.{Parsed, value, refused, many, outcomeOr}
-use Rattle.boxes.specs.Parts.{held, nowhere}
+use Rattle.boxes.specs.Parts.{nowhere}
 use Rattle.boxes.specs.declared.Span.{Span}
 use Rattle.unit_list.specs.UnitList.{Array, array, decode, unitsOf, heldArrays}
 use Rattle.unit_list.proofs.Arrays.{Sound, sound-none, sound-more, room, arrays-lie, arrays-sound}
 use Rattle.unit_list.proofs.Left.{decode-too-long, decode-versionless, decode-arrays}
+use Rattle.boxes.proofs.Spans.{spanLengths}
 
--- the lengths of units together
-unfoldable pub lengths : List Span → ℕ
-lengths [] = 0
-lengths (a ∷ us) = a .len + lengths us
-
-pub room-lengths : (us : List Span) → room 4 us ≡ 4 * length us + lengths us
-unfolding room lengths
+pub room-lengths : (us : List Span) → room 4 us ≡ 4 * length us + spanLengths us
+unfolding room
 room-lengths [] = refl
 room-lengths (a ∷ us) = let e = room-lengths us in omega arith
-
--- a span that lies in s holds as many bytes as it says
-pub held-long : (s : List ℕ) (a : Span) → a .start + a .len ≤ length s → length (held s a) ≡ a .len
-held-long s a h = let l = length-drop (a .start) s in length-take-le (a .len) _ (omega arith)
 
 pub sound-held : (s : List ℕ) {xs : List (Array Span)} → Sound xs → Sound (heldArrays s xs)
 sound-held s sound-none = sound-none
@@ -37,7 +28,7 @@ pub record Accepted (s : List ℕ) (xs : List (Array Span)) : Type 0 where
   pub lent : length s ≤ 2 ^ 30
   pub sound : Sound xs
   pub each : (k : ℕ) → getD (unitsOf xs) k nowhere .start + getD (unitsOf xs) k nowhere .len ≤ length s
-  pub together : 1 + (4 * length (unitsOf xs) + lengths (unitsOf xs)) ≤ length s
+  pub together : 1 + (4 * length (unitsOf xs) + spanLengths (unitsOf xs)) ≤ length s
 
 pub accepted : (s : List ℕ) (xs : List (Array Span)) → decode s ≡ accept xs → Accepted s xs
 accepted s xs e =

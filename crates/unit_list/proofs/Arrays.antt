@@ -9,13 +9,14 @@ use lib.Seq.{getD-take, length-take-le}
 use borrow.Author.Tests.{lt-ltb, le-ltb}
 use Rattle.parse.specs.Outcome.{accept, refuse, andThen}
 use Rattle.parse.specs.Parse.{Parsed, value, refused, bind, Parser, many, outcomeOr}
-use Rattle.boxes.specs.Bytes.{be, uint, chunk, inside}
+use Rattle.boxes.specs.Bytes.{uint, chunk, inside}
 use Rattle.boxes.specs.Parts.{nowhere}
 use Rattle.boxes.specs.declared.Span.{Span}
 use Rattle.parse.proofs.Many.{Advances, many-nil, many-bad, many-step, many-induction}
 use Rattle.boxes.proofs.Fields.{uint-there, uint-short, chunk-read, chunk-advances}
 use Rattle.unit_list.specs.UnitList.{Array, array, arrayRest, largestType, unitsOf}
 use Rattle.parse.specs.inner.Walk.{more}
+use Rattle.boxes.proofs.Numbers.{be-one}
 
 -- each array's complete and type are small
 pub data Sound {U : Type 0} : List (Array U) → Type 0 where
@@ -128,11 +129,6 @@ module _ (w : ℕ) (s : List ℕ) (some : 1 ≤ w) where
       (λ p g h. record { end = omega arith; lies = lies-nil w (length s) p h })
       (λ p a q us r x m h. chunks-turn p a q x us r (m (chunk-read w s p a q x .fits)))
       p us r e h
-
--- the number of one byte
-pub be-one : (s : List ℕ) (p : ℕ) → be s p 1 ≡ getD s p 0
-unfolding be
-be-one s p = let e : p + 0 ≡ p = omega arith in rw e (omega arith)
 
 -- one array, by the chunk that its rest is
 module _ (w : ℕ) (s : List ℕ) (p : ℕ) where

@@ -15,10 +15,10 @@ use Rattle.parse.specs.Parse.{Parsed, value, refused, bind, give, refusing, man
 use Rattle.boxes.specs.Bytes.{be, toBe, uint, chunk, toChunk, inside}
 use Rattle.boxes.specs.Parts.{held}
 use Rattle.boxes.specs.declared.Span.{Span}
-use Rattle.boxes.proofs.Numbers.{be-take}
+use Rattle.boxes.proofs.Numbers.{be-take, be-one}
 use Rattle.boxes.proofs.Fields.{uint-there, uint-short, chunk-read, chunk-advances}
 use Rattle.unit_list.specs.UnitList.{Array, array, arrayRest, largestType, decode, heldArray, heldArrays, encodeUnits, encodeArray, encodeArrays, encode}
-use Rattle.unit_list.proofs.Arrays.{Sound, be-one, run-value, chunks-run, array-read, array-advances}
+use Rattle.unit_list.proofs.Arrays.{Sound, run-value, chunks-run, array-read, array-advances}
 use Rattle.unit_list.proofs.Left.{decode-versionless, decode-arrays}
 use Rattle.unit_list.proofs.Accepted.{sound-held, accepted}
 

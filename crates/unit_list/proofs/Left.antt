@@ -16,8 +16,9 @@ use Rattle.unit_list.specs.declared.ListStep.{ListStep}
 use Rattle.unit_list.specs.declared.ListStep.the-variants as L
 use Rattle.unit_list.specs.declared.ArrayStep.{ArrayStep}
 use Rattle.unit_list.specs.declared.ArrayStep.the-variants as A
-use Rattle.unit_list.proofs.Arrays.{be-one, run-nil}
+use Rattle.unit_list.proofs.Arrays.{run-nil}
 use Rattle.parse.specs.inner.Walk.{more}
+use Rattle.boxes.proofs.Numbers.{be-one}
 
 -- the start: too long, another version or none, and after the version
 pub decode-too-long : (s : List ℕ) → 2 ^ 30 < length s → decode s ≡ refuse 23

@@ -15,7 +15,7 @@ use Rattle.boxes.specs.declared.Span.{Span}
 use Rattle.unit_list.specs.UnitList.{encodeUnits}
 use Rattle.unit_list.specs.inner.Written.{unitBytes}
 use Rattle.unit_list.proofs.Encode.{length-toChunk}
-use Rattle.unit_list.proofs.Accepted.{held-long}
+use Rattle.boxes.proofs.Spans.{held-long}
 
 -- a unit inside s after its length, alone and before others
 module _ (w : ℕ) (s : List ℕ) (a : Span) (inside : a .start + a .len ≤ length s) where

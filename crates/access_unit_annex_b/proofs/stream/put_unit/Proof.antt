@@ -2,12 +2,12 @@
 use mathlib.Core.Path.{ap, _∙_}
 use Rattle.boxes.specs.Parts.{held}
 use lib.ListN.{length}
-use Rattle.unit_list.proofs.Accepted.{held-long}
 use Rattle.access_unit_annex_b.proofs.Storing.{unit-stored}
 use borrow.Author.Needs.{needs}
 use native.Mathlib.Omega.{arith}
 use Rattle.access_unit_annex_b.proofs.stream.put_unit.Statement.{statement}
 use Rattle.access_unit_annex_b.proofs.stream.put_unit.Tie as tie
+use Rattle.boxes.proofs.Spans.{held-long}
 
 part-requires : tie.Need-part-requires
 part-requires c κs = search needs

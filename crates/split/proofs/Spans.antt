@@ -12,7 +12,7 @@ pub data Apart (e : ℕ) : ℕ → List Span → Type 0 where
   none : {p : ℕ} → p ≤ e → Apart e p []
   more : {p : ℕ} {a : Span} {xs : List Span} → p < a .start → 0 < a .len → Apart e (a .start + a .len) xs → Apart e p (a ∷ xs)
 
--- their count and their spanLengths together are no more than the bytes from p to e
+-- their count and their lengths together are no more than the bytes from p to e
 pub apart-sum : {e p : ℕ} {xs : List Span} → Apart e p xs → p + (length xs + spanLengths xs) ≤ e
 apart-sum (none h) = omega arith
 apart-sum (more h k r) = let l = apart-sum r in omega arith

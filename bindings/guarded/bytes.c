@@ -1,4 +1,4 @@
-/* Bytes and bits, put behind those that are there. What would pass the end of the memory is left out. */
+/* Appends bytes and bits. What does not fit is left out. */
 #include "guarded.h"
 
 #include <string.h>
@@ -17,7 +17,7 @@ void add_bytes(bytes *b, const uint8_t *at, size_t len) {
     }
 }
 
-/* Bytes by chance, many of them small. */
+/* Random bytes, many of them small. */
 void add_any_bytes(bytes *b, size_t len) {
     for (size_t i = 0; i < len; i++) {
         uint64_t n = any_number() >> 32;
@@ -41,7 +41,7 @@ void add_bits(bytes *b, size_t *bit, uint32_t value, unsigned width) {
     }
 }
 
-/* Bits by chance. */
+/* Random bits. */
 void add_any_bits(bytes *b, size_t *bit, unsigned width) {
     for (unsigned i = 0; i < width; i++)
         add_bits(b, bit, (uint32_t)below(2), 1);
@@ -62,7 +62,7 @@ void align(size_t *bit) {
     *bit = (*bit + 7) / 8 * 8;
 }
 
-/* An RBSP, with 03 put in behind two zeros where a small byte follows. */
+/* An RBSP, with 03 inserted after two zeros if a small byte follows. */
 void add_escaped(bytes *b, const bytes *rbsp) {
     unsigned zeros = 0;
     for (size_t i = 0; i < rbsp->len; i++) {
@@ -75,13 +75,13 @@ void add_escaped(bytes *b, const bytes *rbsp) {
     }
 }
 
-/* Takes out the byte at a place. */
+/* Removes the byte at a place. */
 static void take_out(bytes *b, size_t at) {
     memmove(b->at + at, b->at + at + 1, b->len - at - 1);
     b->len--;
 }
 
-/* Puts in a byte at a place. */
+/* Inserts a byte at a place. */
 static void put_in(bytes *b, size_t at) {
     if (b->len == MOST)
         return;
@@ -90,12 +90,12 @@ static void put_in(bytes *b, size_t at) {
     b->len++;
 }
 
-/* A place to damage: any, or one of the first, where lengths and counts stand. */
+/* A place to damage: any, or one of the first, where lengths and counts are. */
 static size_t any_place(const bytes *b) {
     return below(one_in(3) && b->len > 4 ? 4 : b->len);
 }
 
-/* One fault: a cut, a byte or a bit changed, a byte put in or taken out, bytes behind. */
+/* One fault: a cut, a byte or a bit changed, a byte inserted or removed, bytes appended. */
 void damage(bytes *b) {
     if (b->len == 0) {
         add_any_bytes(b, below(3));

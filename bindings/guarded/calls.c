@@ -1,4 +1,4 @@
-/* One call, its slices placed, and what must hold of it wherever they lie. */
+/* One call with its slices in their places, and what must hold of every call. */
 #include "guarded.h"
 
 #include <stdio.h>
@@ -22,7 +22,7 @@ static const uint32_t listed[CALLS] = {
     BIT(23) | BIT(4) | BIT(1) | BIT(5),
 };
 
-/* Tells what was wrong, with the case, and ends the program. */
+/* Prints what was wrong and the case, and ends the program. */
 void fail(const test_case *c, const char *what) {
     fprintf(stderr, "guarded: %s: %s\nfirst:", call_names[c->call], what);
     for (size_t i = 0; i < c->first.len; i++)
@@ -35,7 +35,7 @@ void fail(const test_case *c, const char *what) {
     exit(1);
 }
 
-/* Whether a call may give this refusal. */
+/* Whether a call may return this refusal. */
 bool is_listed(enum call call, uint32_t refusal) {
     return refusal >= 1 && refusal <= 24 && (listed[call] & BIT(refusal));
 }
@@ -56,21 +56,21 @@ static uint8_t *place_room(enum place p, enum side side, size_t len, uint8_t fil
     return at;
 }
 
-/* An input is as it was, and so are the bytes beside it. */
+/* An input is unchanged, and so are the bytes next to it. */
 static void check_input(const test_case *c, enum place p, enum side side, const uint8_t *at, const bytes *b, uint8_t around) {
     if (b->len && memcmp(at, b->at, b->len))
         fail(c, "an input was changed");
     if (strayed(p, side, at, b->len, around))
-        fail(c, "a byte beside an input was changed");
+        fail(c, "a byte next to an input was changed");
 }
 
-/* Bytes of a slice from a place on still hold the fill, and those beside the slice what they held. */
+/* The bytes of a slice from `from` on still hold the fill, and those next to the slice are unchanged. */
 static void check_kept(const test_case *c, enum place p, const run *r, const uint8_t *at, size_t from, size_t len) {
     for (size_t i = from; i < len; i++)
         if (at[i] != r->fill)
-            fail(c, p == OUT ? "a byte of the output behind the result was changed" : "a byte of the scratch was changed");
+            fail(c, p == OUT ? "a byte of the output after the result was changed" : "a byte of the scratch was changed");
     if (strayed(p, r->side, at, len, (uint8_t)~r->fill))
-        fail(c, p == OUT ? "a byte beside the output was changed" : "a byte beside the scratch was changed");
+        fail(c, p == OUT ? "a byte next to the output was changed" : "a byte next to the scratch was changed");
 }
 
 /* The call itself. */
@@ -86,7 +86,7 @@ static vvcc_written make_call(const test_case *c, const uint8_t *first, const ui
     }
 }
 
-/* A call that writes: all slices placed on one side, the call made, and what holds of every answer looked at. */
+/* A call that writes: all slices placed on one side, the call made, and what must hold of every answer checked. */
 void perform(const test_case *c, run *r) {
     uint8_t around = (uint8_t)~r->fill;
     uint8_t *first = place_input(FIRST, r->side, &c->first, around), *second = place_input(SECOND, r->side, &c->second, around);
@@ -110,7 +110,7 @@ vvcc_unit step(const test_case *c, enum side side, uint8_t around, size_t from) 
     check_input(c, FIRST, side, at, &c->first, around);
     if (u.refusal && !is_listed(c->call, u.refusal))
         fail(c, "a refusal that the header does not list");
-    if ((u.refusal || !u.found) && (u.found || u.start || u.len || u.behind))
+    if ((u.refusal || !u.found) && (u.found || u.start || u.len || u.next))
         fail(c, "no unit, and numbers that are not 0");
     return u;
 }

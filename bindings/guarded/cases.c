@@ -78,7 +78,7 @@ static void access_unit_case(test_case *c) {
         damage(&c->second);
 }
 
-/* A place to go on from: near, behind the end, or as far as there is. */
+/* A place to continue from: inside or near the end, any, or the largest. */
 static size_t any_from(size_t len) {
     if (one_in(10))
         return SIZE_MAX - below(3);
@@ -120,7 +120,7 @@ static void most_scratch(bytes *b) {
         add_number(b, 0x8C0000, 3);
 }
 
-/* Units of one byte behind prefixes of one byte, which give the longest stream for their length. */
+/* Units of one byte with prefixes of one byte, which have the longest stream for their length. */
 static void shortest_units(bytes *b) {
     for (int i = 0; i < 30000; i++)
         add_number(b, 0x0109, 2);

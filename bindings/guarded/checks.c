@@ -3,14 +3,14 @@
 
 #include <string.h>
 
-/* What the call gave with as much memory as the header names: its answer, its output and the unit list in its scratch. */
+/* What the call returned with the lengths that the header states: its answer, its output and the unit list in its scratch. */
 static struct {
     vvcc_written answer;
     uint8_t out[ROOM], scratch[ROOM];
     size_t list_len;
 } whole;
 
-/* The output that always suffices, by the header. */
+/* The length of the output that is always sufficient, from the header. */
 size_t header_out(const test_case *c) {
     size_t first = c->first.len, second = c->second.len;
     bool layers = first && c->first.at[0] >> 7, four = first && (c->first.at[0] >> 1 & 3) == 3;
@@ -21,7 +21,7 @@ size_t header_out(const test_case *c) {
     return 2 * first + (four ? second : 5 * second / 2);
 }
 
-/* The scratch that always suffices, by the header. */
+/* The length of the scratch that is always sufficient, from the header. */
 static size_t header_scratch(const test_case *c) {
     return c->call == ACCESS_UNIT ? 4 * c->first.len : 0;
 }
@@ -55,14 +55,14 @@ static void check_whole(const test_case *c, uint8_t fill) {
     whole.list_len = written_front(c, &r);
 }
 
-/* What the scratch must hold: the unit list where it fits, and behind it, or everywhere, the fill. */
+/* What the scratch must hold: the unit list if it fits, then the fill. */
 static void check_scratch(const test_case *c, const run *r) {
     size_t n = r->scratch_len < whole.list_len ? 0 : whole.list_len;
     if (n && memcmp(r->scratch, whole.scratch, n))
         fail(c, "the scratch does not hold the unit list");
     for (size_t i = n; i < r->scratch_len; i++)
         if (r->scratch[i] != r->fill)
-            fail(c, "a byte of the scratch behind the unit list was changed");
+            fail(c, "a byte of the scratch after the unit list was changed");
 }
 
 /* With other lengths, at one side: the same answer, or 20 where a length is too short. */
@@ -101,37 +101,37 @@ static void check_written(const test_case *c, counts *n) {
     n->answers[c->call][whole.answer.refusal]++;
 }
 
-/* A unit lies inside, behind the place that was asked for, and is not empty; in a stream behind 00 00 01 and not ending in 00, in an item behind
- * its length. */
+/* A unit lies inside, after the place that was asked for, and is not empty. In a stream it follows 00 00 01 and does not end in 00; in an item it
+ * follows its length. */
 static void check_unit(const test_case *c, const vvcc_unit *u, size_t from) {
     const uint8_t *s = c->first.at;
     size_t ahead = c->call == NEXT_UNIT ? 3 : c->length_size, len = c->first.len;
     if (u->found != 1 || u->len == 0 || u->len > len || u->start > len - u->len || u->start < ahead || u->start - ahead < from)
         fail(c, "a unit that is empty or does not lie inside");
-    if (u->behind < u->start + u->len || u->behind > len)
-        fail(c, "a place behind a unit that is not behind it, or outside");
+    if (u->next < u->start + u->len || u->next > len)
+        fail(c, "a place to continue from that is not after the unit, or outside");
     if (c->call == NEXT_UNIT ? s[u->start + u->len - 1] == 0 || memcmp(s + u->start - 3, "\0\0\1", 3)
-                             : u->start != from + ahead || u->behind != u->start + u->len)
+                             : u->start != from + ahead || u->next != u->start + u->len)
         fail(c, "a unit that does not lie where it should");
 }
 
 /* One step at both placements. */
 static vvcc_unit check_step(const test_case *c, size_t from, uint8_t around) {
     vvcc_unit u = step(c, AT_THE_END, around, from), v = step(c, AT_THE_FRONT, (uint8_t)~around, from);
-    if (u.refusal != v.refusal || u.found != v.found || u.start != v.start || u.len != v.len || u.behind != v.behind)
+    if (u.refusal != v.refusal || u.found != v.found || u.start != v.start || u.len != v.len || u.next != v.next)
         fail(c, "a step differs between the placements");
     if (u.found)
         check_unit(c, &u, from);
     return u;
 }
 
-/* A walk from the front to its end, each unit behind the one before, and one step from any place. */
+/* A walk from the front to its end, each unit after the one before, and one step from any place. */
 static void check_walk(const test_case *c, counts *n) {
     uint8_t around = (uint8_t)any_number();
     size_t from = 0;
     vvcc_unit u = check_step(c, from, around);
     while (u.found) {
-        from = u.behind;
+        from = u.next;
         u = check_step(c, from, around);
     }
     if (c->call == NEXT_ITEM_UNIT && !u.refusal && from != c->first.len)

@@ -1,4 +1,4 @@
-/* That a read and a write outside are noticed; inputs above 2^30 bytes. */
+/* A read and a write outside must be noticed; inputs of more than 2^30 bytes. */
 #include "guarded.h"
 
 #include <stdio.h>
@@ -63,7 +63,7 @@ static size_t must_refuse(uint32_t number, vvcc_written w, const uint8_t *out) {
     return 1;
 }
 
-/* Walks refuse a long input, and take the longest that they may. */
+/* Walks refuse an input that is too long, and accept the longest one. */
 static size_t check_long_walks(const uint8_t *s, size_t most) {
     vvcc_unit answers[] = {vvcc_next_unit(s, most + 1, 0), vvcc_next_item_unit(s, most + 1, 4, 0), vvcc_next_unit(s + 1, most, most - 9),
                            vvcc_next_item_unit(s + 1, most, 4, most - 9)};

@@ -1,4 +1,4 @@
-/* The exports of include/vvcc.h, run with every lent slice against an inaccessible page: what the parts of the program share. */
+/* Runs the functions of include/vvcc.h with every slice next to an inaccessible page: declarations that the parts of the program share. */
 #ifndef GUARDED_H
 #define GUARDED_H
 
@@ -41,7 +41,7 @@ uint64_t any_number(void);
 size_t below(size_t n);
 bool one_in(size_t n);
 
-/* bytes.c: bytes and bits behind those that are there */
+/* bytes.c: appends bytes and bits */
 void add_byte(bytes *b, unsigned byte);
 void add_bytes(bytes *b, const uint8_t *at, size_t len);
 void add_any_bytes(bytes *b, size_t len);
@@ -70,7 +70,7 @@ void stream(bytes *b);
 /* pages.c: memory between two inaccessible pages */
 enum side { AT_THE_END, AT_THE_FRONT };
 
-/* Which of the four places a slice stands in. */
+/* Which of the four places a slice lies in. */
 enum place { FIRST, SECOND, SCRATCH, OUT, PLACES };
 
 void open_places(void);
@@ -81,7 +81,7 @@ uint8_t *long_slice(size_t len);
 /* calls.c: one call */
 extern const char *const call_names[CALLS];
 
-/* What is lent to a call beside its inputs, and the answer. */
+/* What is lent to a call in addition to its inputs, and the answer. */
 typedef struct run {
     enum side side;
     uint8_t fill;
@@ -97,7 +97,7 @@ void fail(const test_case *c, const char *what);
 
 /* checks.c: a case at both placements, and its answers counted */
 typedef struct counts {
-    size_t answers[CALLS][25]; /* by refusal, 0 where accepted; a walk counts by how it ends */
+    size_t answers[CALLS][25]; /* by refusal, 0 for accepted; a walk counts by how it ends */
 } counts;
 
 size_t header_out(const test_case *c);
@@ -107,7 +107,7 @@ void check_case(const test_case *c, counts *n);
 void any_case(test_case *c);
 void longest_case(test_case *c, size_t k);
 
-/* faults.c: that what must be noticed is noticed, and inputs above 2^30 bytes */
+/* faults.c: wrong lengths must be noticed; inputs of more than 2^30 bytes */
 size_t check_faults(void);
 size_t check_long_inputs(void);
 

@@ -1,4 +1,4 @@
-/* Runs the exports with every lent slice against an inaccessible page, then a share of it in a thread with 64 KiB of stack.
+/* Runs the functions of include/vvcc.h with every slice next to an inaccessible page, then some of the cases in a thread with 64 KiB of stack.
  * usage: guarded [SEED] [CASES] */
 #include "guarded.h"
 
@@ -44,7 +44,7 @@ static uint8_t *painted_stack(void) {
     return memset((uint8_t *)all + SHUT, PAINT, STACK);
 }
 
-/* Runs cases in a thread with that stack; gives how many bytes of it were touched. */
+/* Runs cases in a thread with that stack; returns how many bytes of it were touched. */
 static size_t run_on_small_stack(void) {
     uint8_t *stack = painted_stack();
     pthread_attr_t attr;
@@ -79,7 +79,7 @@ static void print_refusals(const counts *n) {
     }
 }
 
-/* The counts by call, accepted and refused; gives how many there are. */
+/* Prints the counts by call, accepted and refused; returns their sum. */
 static size_t print_counts(const counts *n) {
     size_t all = 0;
     for (int c = 0; c < CALLS; c++) {

@@ -21,7 +21,7 @@ size_t below(size_t n) {
     return (size_t)((any_number() >> 20) % n);
 }
 
-/* Whether a thing happens that happens once in n times. */
+/* True once in n times. */
 bool one_in(size_t n) {
     return below(n) == 0;
 }

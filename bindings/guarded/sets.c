@@ -1,4 +1,4 @@
-/* Parameter sets and other units, as H.266 lays them out. Each is put behind the bytes that are there. */
+/* Parameter sets and other units, as H.266 lays them out. Each is appended. */
 #include "guarded.h"
 
 static bytes rbsp;
@@ -23,7 +23,7 @@ static void constraints(size_t *bit) {
     align(bit);
 }
 
-/* The levels of `s` sublayers, and the bits in front that say which there are. */
+/* The levels of `s` sublayers, after the bits that say which are present. */
 static void sublayer_levels(size_t *bit, unsigned s) {
     uint32_t present = (uint32_t)below(256);
     if (s == 0)
@@ -68,7 +68,7 @@ static void sps_rest(size_t *bit) {
     add_bits(&rbsp, bit, 1, 1);
 }
 
-/* An SPS. One in some hundred has subpictures, too large a depth, or a code that is too long. */
+/* An SPS. A few in a hundred have subpictures, too large a depth, or a code that is too long. */
 void sps_unit(bytes *b, bool with_ptl) {
     size_t bit = 0;
     unsigned s = one_in(2) ? 0 : (unsigned)below(8);
@@ -86,7 +86,7 @@ void sps_unit(bytes *b, bool with_ptl) {
     add_escaped(b, &rbsp);
 }
 
-/* A VPS of one layer; one in some hundred has more. */
+/* A VPS of one layer; about one in a hundred has more. */
 void vps_unit(bytes *b) {
     size_t bit = 0;
     unsigned s = one_in(2) ? 0 : (unsigned)below(8);
@@ -101,7 +101,7 @@ void vps_unit(bytes *b) {
     add_escaped(b, &rbsp);
 }
 
-/* An OPI; one in some has no operating point. */
+/* An OPI; some have no operating point. */
 void opi_unit(bytes *b) {
     size_t bit = 0;
     rbsp.len = 0;
@@ -113,7 +113,7 @@ void opi_unit(bytes *b) {
     add_escaped(b, &rbsp);
 }
 
-/* A unit of any other type, of at most `most` bytes behind its header. */
+/* A unit of any other type, with at most `most` bytes after its header. */
 void other_unit(bytes *b, unsigned type, size_t most) {
     header(b, type);
     add_any_bytes(b, below(most + 1));

@@ -6,7 +6,7 @@
 static bytes unit, units;
 static size_t starts[40], lens[40], count;
 
-/* Notes down the unit that was just made. */
+/* Keeps the unit that was just made. */
 static void note_unit(void) {
     if (unit.len > 255)
         unit.len = 255;
@@ -16,7 +16,7 @@ static void note_unit(void) {
     unit.len = 0;
 }
 
-/* A unit that a record may hold beside the first SPS, VPS, OPI and DCI. */
+/* A unit that a record may hold in addition to the first SPS, VPS, OPI and DCI. */
 static void further_unit(void) {
     static const unsigned types[] = {16, 16, 16, 17, 17, 23, 15, 14};
     unsigned type = one_in(12) ? (unsigned)below(32) : types[below(8)];
@@ -32,7 +32,7 @@ static void further_unit(void) {
     note_unit();
 }
 
-/* Swaps the units about. */
+/* Shuffles the units. */
 static void shuffle(void) {
     for (size_t i = count; i > 1; i--) {
         size_t j = below(i), s = starts[j], n = lens[j];
@@ -43,7 +43,7 @@ static void shuffle(void) {
     }
 }
 
-/* The worked SPS of document 01, or one with everything that an SPS may have. */
+/* The SPS of the worked example in docs/SCOPE.md, or one with everything that an SPS may have. */
 static void any_sps(bool with_ptl) {
     static const uint8_t worked[] = {0x00, 0x79, 0x00, 0x0D, 0x02, 0x33, 0x80, 0x00, 0x02, 0x22, 0x4C};
     if (one_in(4))
@@ -80,7 +80,7 @@ static void compact_units(bool layers) {
     shuffle();
 }
 
-/* The noted units as a compact record. */
+/* The kept units as a compact record. */
 static void write_compact(bytes *b, bool layers, unsigned size) {
     b->len = 0;
     add_byte(b, (unsigned)layers << 7 | (size - 1) << 5 | (unsigned)(count - 2));
@@ -132,7 +132,7 @@ static void ptl_record(bytes *b, unsigned sublayers) {
     add_any_bytes(b, 6);
 }
 
-/* What stands under the PTL flag of a full record. */
+/* The part of a full record that is present if its PTL flag is set. */
 static void full_head(bytes *b) {
     unsigned sublayers = one_in(2) ? 1 : (unsigned)below(8);
     unsigned point = (unsigned)below(one_in(4) ? 512 : 3);
@@ -141,7 +141,7 @@ static void full_head(bytes *b) {
     ptl_record(b, sublayers);
 }
 
-/* One unit behind its length of 16 bits. */
+/* One unit after its length of 16 bits. */
 static void counted_unit(bytes *b, unsigned type) {
     unit.len = 0;
     if (type == 15)
@@ -195,7 +195,7 @@ static void item_unit(bytes *b, bool leading, size_t most) {
         picture_unit(b, most);
 }
 
-/* Puts a unit behind its prefix, cut where it is too long for it. */
+/* Appends the length prefix of a unit and the unit, cut if it is too long for the prefix. */
 static void put_prefixed(bytes *b, unsigned length_size) {
     size_t fits = length_size == 1 ? 255 : 65535;
     if (unit.len > fits)
@@ -217,7 +217,7 @@ void item(bytes *b, unsigned length_size, size_t most) {
         add_number(b, 0, length_size);
 }
 
-/* A stream: units behind start codes of three bytes or four with zeros between, or small bytes alone. */
+/* A stream: units after start codes of three or four bytes with zeros between them, or small bytes alone. */
 void stream(bytes *b) {
     size_t n = below(8), small = below(60);
     b->len = 0;

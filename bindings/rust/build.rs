@@ -1,4 +1,4 @@
-//! Links the static library, and where the sources of the original are at hand lets the tests compare with it.
+//! Links the static library. If the sources of the original are available, the tests compare with them.
 use std::env;
 use std::fs;
 use std::path::PathBuf;

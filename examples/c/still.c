@@ -32,12 +32,12 @@ int main(void) {
     print_bytes("stream", stream, w.len);
     size_t stream_len = w.len;
 
-    for (vvcc_unit u = vvcc_next_unit(stream, stream_len, 0); u.found; u = vvcc_next_unit(stream, stream_len, u.behind))
+    for (vvcc_unit u = vvcc_next_unit(stream, stream_len, 0); u.found; u = vvcc_next_unit(stream, stream_len, u.next))
         print_bytes("unit", stream + u.start, u.len);
 
     /* the same stream from the full record and the item */
     static const uint8_t item[] = {0, 0, 0, 4, 0x00, 0x41, 0x9A, 0x80};
-    for (vvcc_unit u = vvcc_next_item_unit(item, sizeof item, 4, 0); u.found; u = vvcc_next_item_unit(item, sizeof item, 4, u.behind))
+    for (vvcc_unit u = vvcc_next_item_unit(item, sizeof item, 4, 0); u.found; u = vvcc_next_item_unit(item, sizeof item, 4, u.next))
         print_bytes("item unit", item + u.start, u.len);
     w = vvcc_access_unit(record, record_len, item, sizeof item, 0, 0, scratch, 4 * record_len, again, sizeof again);
     printf("assembled from record and item: %s\n", w.len == stream_len && !memcmp(again, stream, stream_len) ? "the same stream" : "another stream");

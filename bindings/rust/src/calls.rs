@@ -14,7 +14,7 @@ pub struct Unit {
     pub found: u32,
     pub start: usize,
     pub len: usize,
-    pub behind: usize,
+    pub next: usize,
 }
 
 extern "C" {

@@ -1,6 +1,6 @@
 //! VVC stills: from compact records (ISO/IEC 23008-12 Amd 2, Annex L) and stored bytes to full records (ISO/IEC 14496-15) and Annex B streams
-//! (H.266). The work is done by a static library, `vvcc_c`, whose functions are proved to give what their definitions say on any input.
-//! This crate hands slices to it, and its answers back as `Result`s.
+//! (H.266). The work is done by a static library, `vvcc_c`, whose functions are proved to return what their definitions say on any input.
+//! This crate passes slices to it and returns its answers as `Result`s.
 //!
 //! ```
 //! // a still: a compact record of an SPS and a PPS, prefix size 4, and the stored bytes of its picture
@@ -10,7 +10,7 @@
 //! assert_eq!(units.len(), 3);
 //! assert_eq!(units[2], [0x00, 0x41, 0x9A]);
 //!
-//! // one byte short: the refusal names its ground
+//! // one byte short: the refusal says why
 //! assert_eq!(vvcc::still_stream(&compact[..16], &[0x9A], None), Err(vvcc::Refusal::Truncated));
 //! # Ok::<(), vvcc::Refusal>(())
 //! ```
@@ -24,13 +24,13 @@ pub use units::{item_units, stream_units, ItemUnits, StreamUnits};
 
 use calls::Written;
 
-/// The longest input that a call takes; a longer one is [`Refusal::InputTooLong`].
+/// The longest input of a call. A longer one is refused with [`Refusal::InputTooLong`].
 pub const LONGEST_INPUT: usize = 1 << 30;
 
 /// The longest compact record: 33 units of 255 bytes.
 const LONGEST_COMPACT: usize = 1 + 33 * 256;
 
-/// What a file states of a still beside its compact record.
+/// What a file states of a still in addition to its compact record.
 #[derive(Clone, Copy, Debug, PartialEq, Eq)]
 pub struct Picture {
     pub chroma_format_idc: u8,
@@ -39,7 +39,7 @@ pub struct Picture {
     pub height: u32,
 }
 
-/// A target as the library takes it: whether there is one, and which.
+/// A target as the library expects it: whether there is one, and which.
 fn target_numbers(target: Option<u16>) -> (u8, u16) {
     target.map_or((0, 0), |t| (1, t))
 }
@@ -51,7 +51,7 @@ fn written(w: Written) -> Result<usize, Refusal> {
     }
 }
 
-/// The length of an input, to measure buffers by: 0 where the call will refuse it as too long.
+/// The length of an input for the computation of buffer lengths: 0 if the call will refuse it as too long.
 fn lent(input: &[u8]) -> usize {
     if input.len() > LONGEST_INPUT {
         return 0;
@@ -59,7 +59,7 @@ fn lent(input: &[u8]) -> usize {
     input.len()
 }
 
-/// What `call` writes, given a place and how many bytes there are: `first`, and where those are too few `most`, which always suffice.
+/// What `call` writes to a buffer of `first` bytes or, if that is too short, of `most` bytes, which is always long enough.
 fn into_vec(
     first: usize,
     most: usize,
@@ -71,7 +71,7 @@ fn into_vec(
         out = Vec::with_capacity(most);
         n = written(call(out.as_mut_ptr(), most));
     }
-    // SAFETY: an accepted call has written the first n bytes of those that it was given, and they do not depend on what stood there.
+    // SAFETY: an accepted call has written the first n bytes of the buffer, and they do not depend on what it held before.
     unsafe { out.set_len(n?) };
     Ok(out)
 }
@@ -91,7 +91,8 @@ unsafe fn raw_still_record(compact: &[u8], p: Picture, out: *mut u8, out_len: us
     )
 }
 
-/// The full record of a still, at the front of `out`: how many bytes it has. Bytes behind it, and all of them on a refusal, are as before.
+/// Writes the full record of a still to the front of `out` and returns its length, at most `1100 + 5 * compact.len()`. The bytes after it, and
+/// on a refusal all bytes, are not changed.
 pub fn still_record_into(
     compact: &[u8],
     picture: Picture,
@@ -104,7 +105,7 @@ pub fn still_record_into(
 /// The full record of a still.
 pub fn still_record(compact: &[u8], picture: Picture) -> Result<Vec<u8>, Refusal> {
     let most = 1100 + 5 * compact.len().min(LONGEST_COMPACT);
-    // SAFETY: the place is that of a new `Vec`.
+    // SAFETY: the buffer is that of a new `Vec`.
     into_vec(most, most, |out, n| unsafe {
         raw_still_record(compact, picture, out, n)
     })
@@ -131,7 +132,9 @@ unsafe fn raw_still_stream(
     )
 }
 
-/// The Annex B stream of a still, at the front of `out`: how many bytes it has. Bytes behind it, and all of them on a refusal, are as before.
+/// Writes the Annex B stream of a still to the front of `out` and returns its length: at most `4 * compact.len() + stored.len() + 6` if the
+/// multi-layer flag of the record is clear, and at most `4 * compact.len() + 5 * stored.len() / 2` if it is set. The bytes after it, and on a
+/// refusal all bytes, are not changed.
 pub fn still_stream_into(
     compact: &[u8],
     stored: &[u8],
@@ -149,18 +152,18 @@ pub fn still_stream(
     target: Option<u16>,
 ) -> Result<Vec<u8>, Refusal> {
     let (c, s) = (compact.len().min(LONGEST_COMPACT), lent(stored));
-    // SAFETY: the place is that of a new `Vec`.
+    // SAFETY: the buffer is that of a new `Vec`.
     into_vec(4 * c + s + 6, 4 * c + 5 * s / 2 + 6, |out, n| unsafe {
         raw_still_stream(compact, stored, target, out, n)
     })
 }
 
-/// How many bytes of scratch always suffice for [`access_unit_into`] with this record.
+/// How many bytes of scratch [`access_unit_into`] needs at most for this record: `4 * record.len()`.
 pub fn scratch_len(record: &[u8]) -> usize {
     record.len().saturating_mul(4)
 }
 
-/// SAFETY: `scratch` and `out` may be written for as many bytes as are said, and overlap neither each other nor an input.
+/// SAFETY: `scratch` and `out` may be written for as many bytes as their lengths say, and overlap neither each other nor an input.
 unsafe fn raw_access_unit(
     record: &[u8],
     item: &[u8],
@@ -175,8 +178,9 @@ unsafe fn raw_access_unit(
     )
 }
 
-/// The Annex B stream of a full record and an item of length-prefixed units, at the front of `out`: how many bytes it has. Bytes behind it,
-/// and all of them on a refusal, are as before. `scratch` takes the record's unit list.
+/// Writes the Annex B stream of a full record and an item of length-prefixed units to the front of `out` and returns its length: at most
+/// `2 * record.len() + 5 * item.len() / 2`, and with prefix size 4 at most `2 * record.len() + item.len()`. The bytes after it, and on a refusal
+/// all bytes, are not changed. The unit list of the record is written to `scratch`.
 pub fn access_unit_into(
     record: &[u8],
     item: &[u8],
@@ -197,7 +201,7 @@ pub fn access_unit(record: &[u8], item: &[u8], target: Option<u16>) -> Result<Ve
     let (r, i) = (lent(record), lent(item));
     into_vec(2 * r + i, 2 * r + 5 * i / 2, |out, n| {
         let mut scratch = Vec::<u8>::with_capacity(4 * r);
-        // SAFETY: the places are those of two new `Vec`s.
+        // SAFETY: the buffers are those of two new `Vec`s.
         unsafe {
             raw_access_unit(
                 record,

@@ -10,7 +10,7 @@ pub struct StreamUnits<'a> {
     from: Option<usize>,
 }
 
-/// The units of an item of length-prefixed units. The first refusal is the last that is handed out.
+/// The units of an item of length-prefixed units. The iterator ends after the first refusal.
 #[derive(Clone, Debug)]
 pub struct ItemUnits<'a> {
     item: &'a [u8],
@@ -35,7 +35,7 @@ pub fn item_units(item: &[u8], length_size: u8) -> ItemUnits<'_> {
     }
 }
 
-/// What one step says: the unit and where the walk goes on, the end, or the refusal, which ends it too.
+/// Turns the answer of one step into the next item: the unit, nothing at the end, or the refusal, after which the iterator ends.
 fn step<'a>(s: &'a [u8], from: &mut Option<usize>, u: Unit) -> Option<Result<&'a [u8], Refusal>> {
     *from = None;
     if u.refusal != 0 {
@@ -44,7 +44,7 @@ fn step<'a>(s: &'a [u8], from: &mut Option<usize>, u: Unit) -> Option<Result<&'a
     if u.found == 0 {
         return None;
     }
-    *from = Some(u.behind);
+    *from = Some(u.next);
     Some(Ok(&s[u.start..][..u.len]))
 }
 

@@ -1,4 +1,4 @@
-//! The library held against the original on the same bytes: made and damaged stills, records, items and streams.
+//! Compares the library with the original on the same bytes: made and damaged stills, records, items and streams.
 //! The original's sources are found by the environment variable VVCC_ORIGINAL, the folder with vvcc.rs, hvcc.rs, boxes.rs and error.rs.
 #![cfg_attr(not(original), allow(unused))]
 use ::vvcc::{access_unit, item_units, still_record, still_stream, stream_units, Picture, Refusal};

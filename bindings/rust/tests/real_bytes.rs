@@ -33,7 +33,7 @@ fn full() -> Vec<u8> {
     .concat()
 }
 
-/// Units behind start codes.
+/// Units, each after a start code.
 fn annex_b(units: &[&[u8]]) -> Vec<u8> {
     units
         .iter()
@@ -115,7 +115,7 @@ fn scratch_of_four_times_the_record_suffices() {
     );
 }
 
-/// An item of units of one byte behind prefixes of one byte gives the longest stream for its length.
+/// An item of units of one byte with prefixes of one byte has the longest stream for its length.
 #[test]
 fn the_longest_streams() {
     let item = b"\x01\x09".repeat(1000);
@@ -209,7 +209,7 @@ fn refusals_have_their_numbers() {
     );
     assert_eq!(
         Refusal::InputTooLong.to_string(),
-        "an input is above 2^30 bytes (refusal 23)"
+        "an input has more than 2^30 bytes (refusal 23)"
     );
 }
 

@@ -12,6 +12,9 @@ use borrow.Author.Tests.{lt-ltb, le-ltb}
 use Rattle.parse.specs.Logic.{if_then_else_}
 use Rattle.parse.specs.Outcome.{Outcome, accept, refuse, overlay, lentOutput, counted}
 use Rattle.parse.specs.Parse.{Parsed, value, refused}
+use Rattle.parse.specs.Answers.{writtenOf}
+use Rattle.error.specs.declared.Written.{Written}
+use Rattle.error.specs.declared.Written.the-variants as W
 use Rattle.boxes.specs.Bytes.{chunk}
 use Rattle.boxes.specs.Parts.{held}
 use Rattle.boxes.specs.declared.Span.{Span}
@@ -63,3 +66,7 @@ written-within (accept b) out after n e = go (leb (length b) (length out)) e
         let q : _≡_ {A = Outcome ℕ} (accept n) (refuse 20) = ap (λ (y : Outcome ℕ × List ℕ). y .0) f in
         let z : _≡_ {A = ℕ} 0 1 = cc in
         absurd (omega arith)
+
+-- the same for the answer of a call
+pub answer-within : (o : Outcome (List ℕ)) (out after : List ℕ) (n : ℕ) (w : Written) → w ≡ W.Bytes n → _≡_ {A = Outcome ℕ × List ℕ} (writtenOf w, after) (lentOutput (counted o) out) → n ≤ length after
+answer-within o out after n w h e = written-within o out after n (ap (λ (x : Written). (writtenOf x, after)) (sym h) ∙ e)

@@ -1,4 +1,4 @@
--- What the program answers to its standard input: a compact record after its length of two bytes, and the stored bytes after that.
+-- What the program answers to its standard input: the length of a compact record in two bytes, the record, and the stored bytes.
 use Prim.Native.Nat.{ℕ, _+_}
 use mathlib.Core.List.{List}
 use mathlib.Core.Option.{none}
@@ -12,7 +12,7 @@ use Rattle.boxes.specs.Bytes.{chunk}
 use Rattle.boxes.specs.Parts.{held}
 use Rattle.still.specs.Stills.{stillStream}
 
--- 23 above 64 KiB; 1 where the compact record runs past the end; then the refusals of a still's stream, with no target of the caller's
+-- 23 above 64 KiB; 1 where the compact record runs past the end; then the refusals of a still's stream, with no target
 unfoldable pub inputStream : List ℕ → Outcome (List ℕ)
 inputStream s =
     if ltb 65536 (length s) then refuse 23

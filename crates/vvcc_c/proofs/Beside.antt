@@ -1,4 +1,4 @@
--- Laws of a full record read beside an item: what the scratch holds then, and what the stream is made of.
+-- Laws of a full record that is read for assembly with an item: what the scratch holds afterwards, and what the stream consists of.
 use Prim.Native.Nat.{ℕ, _+_, _-_, _^_, _≤_, _<_}
 use mathlib.Core.Path.{_≡_, refl, sym, ap, _∙_}
 use mathlib.Core.List.{List}
@@ -27,9 +27,9 @@ use Rattle.vvcc_c.specs.declared.VvccWritten.{VvccWritten}
 use Rattle.vvcc_c.proofs.Given.{given-refused, given-target}
 use Rattle.parse.proofs.Output.{OutputAccepted, output-accepted}
 
--- ### a result of bytes in lent memory, and a call that goes on from it
+-- ### a result of bytes in lent memory, and a call that continues with it
 
--- what comes after it where the bytes fit the scratch, else 20
+-- what follows it if the bytes fit the scratch, otherwise 20
 abbrev onward : {A B : Type 0} → Outcome (A × List ℕ) → List ℕ → (A × List ℕ → Outcome B) → Outcome B
 onward o scratch f = andThen o (λ r. if leb (length (r .1)) (length scratch) then f r else refuse 20)
 
@@ -55,7 +55,7 @@ hands-first : {A B : Type 0} (f : A → B) (z : B) (o : Outcome A) → handsBack
 hands-first f z (accept a) = refl
 hands-first f z (refuse e) = refl
 
--- an accepted record: the head and arrays that were read, and their list, as long as reading says
+-- an accepted record: the head and the arrays that were read, and their list, whose length is the one that reading returns
 pub record ReadAs (s : List ℕ) (r : FullParsed) (list : List ℕ) : Type 0 where
   pub what : VvcConfig × List (Array Span)
   pub after : ℕ
@@ -129,7 +129,7 @@ module _ (rec item scratch : List ℕ) (tols : Option ℕ) where
     stream-refused : (n : ℕ) → fullAnswerOf (r .answer) (r .head) ≡ refuse n → streamBeside rec item tols scratch ≡ refuse n
     stream-refused n e = stream-here ∙ onward-refused (parseFull rec) scratch _ n (sym e ∙ answered)
 
-    -- the list comes before the scratch
+    -- the list is at the front of the scratch
     module _ (q n : ℕ) (is : r .answer ≡ A.Read q n) where
       abbrev parsed : FullParsed
       parsed = record { head = r .head; consumed = q; listLength = n }
@@ -156,7 +156,7 @@ module _ (rec item scratch : List ℕ) (tols : Option ℕ) where
     pub read-into : ReadInto exit r
     read-into = record { filled = scratch-filled; refused = stream-refused; fits = list-fits; made = stream-made }
 
--- what assembly of the head and list that were read gave and left
+-- what assembly of the head and the list returned, and what it left in the output
 pub given-assembled : (o : Outcome (List ℕ)) (head : VvcConfig) (list item : List ℕ) (t tols : Option ℕ) (out exit : List ℕ) (w : Outcome ℕ) (r : VvccWritten)
     → r ≡ writtenAnswer w → (w, exit) ≡ lentOutput (counted (assemble head list item t)) out → t ≡ tols → o ≡ assemble head list item tols → (r, exit) ≡ writtenGiven o out
 given-assembled o head list item t tols out exit w r f g h e = rw e (given-target (assemble head list item) t tols out exit w r f g h)

@@ -1,4 +1,5 @@
--- What the exports hand to C: structs of numbers, read off the outcomes of the calls beneath. A refusal is its number and zeros; 0 is no refusal.
+-- What the exported functions return to C: structs of numbers, made from the outcomes of the called functions. A refusal is its number and zeros;
+-- 0 is no refusal.
 use Prim.Native.Nat.{ℕ}
 use mathlib.Core.List.{List}
 use mathlib.Core.Option.{Option, none, some}
@@ -18,29 +19,29 @@ abbrev pub writtenAnswer : Outcome ℕ → VvccWritten
 writtenAnswer (accept n) = record { refusal = 0; len = n }
 writtenAnswer (refuse e) = record { refusal = e; len = 0 }
 
--- a call with a result of bytes: its answer, and what its output then holds
+-- a call whose result is bytes: its answer, and what the output holds afterwards
 abbrev pub writtenGiven : Outcome (List ℕ) → List ℕ → VvccWritten × List ℕ
 writtenGiven o out = (writtenAnswer (lentOutput (counted o) out .0), lentOutput (counted o) out .1)
 
--- where a unit lies and the place after it
+-- where a unit lies, and the place to continue from
 abbrev pub unitAnswer : Outcome (Option Next) → VvccUnit
-unitAnswer (accept (some n)) = record { refusal = 0; found = 1; start = n .unit .start; len = n .unit .len; after = n .next }
-unitAnswer (accept none) = record { refusal = 0; found = 0; start = 0; len = 0; after = 0 }
-unitAnswer (refuse e) = record { refusal = e; found = 0; start = 0; len = 0; after = 0 }
+unitAnswer (accept (some n)) = record { refusal = 0; found = 1; start = n .unit .start; len = n .unit .len; next = n .next }
+unitAnswer (accept none) = record { refusal = 0; found = 0; start = 0; len = 0; next = 0 }
+unitAnswer (refuse e) = record { refusal = e; found = 0; start = 0; len = 0; next = 0 }
 
--- the operating point that a caller asks for: none where the first number is 0
+-- the operating point that a caller asks for: none if the first number is 0
 abbrev pub targetFrom : ℕ → ℕ → Option ℕ
 targetFrom has t = if eqb has 0 then none else some t
 
--- a full record read beside an item: 23 for either, then the reader's refusals
+-- a full record, read for assembly with an item: 23 for either input, then the reader's refusals
 unfoldable pub readBeside : List ℕ → List ℕ → Outcome (FullParsed × List ℕ)
 readBeside rec item = lentInput item (parseFull rec)
 
--- what the scratch holds then: the unit list in front once the record reads and the list fits, else what it held
+-- what the scratch holds afterwards: the unit list at the front if the record is accepted and the list fits, otherwise what it held
 abbrev pub scratchFilled : List ℕ → List ℕ → List ℕ → List ℕ
 scratchFilled rec item scratch = lentOutput (readBeside rec item) scratch .1
 
--- the stream of a full record and an item: those refusals, 20 where the scratch is shorter than the unit list, and assembly's
+-- the stream of a full record and an item: those refusals, 20 if the scratch is shorter than the unit list, then the refusals of assembly
 unfoldable pub streamBeside : List ℕ → List ℕ → Option ℕ → List ℕ → Outcome (List ℕ)
 streamBeside rec item tols scratch = do
   r ← readBeside rec item

@@ -1,4 +1,4 @@
-// Internal: the answers of the calls beneath as structs of numbers.
+// Internal: turns the answers of the called crates into structs of numbers.
 use super::VvccUnit;
 use super::VvccWritten;
 use access_unit::Target;
@@ -35,7 +35,7 @@ pub fn written(w: Written) -> VvccWritten
     }
 }
 
-// The operating point that a caller asks for: none where the first number is 0.
+// The operating point that a caller asks for: none if `has_target` is 0.
 pub fn target_from(has_target: u8, target: u16) -> Target
     ensures { λ r. ⌜ tolsOf r ≡ targetFrom «has_target» target ⌝ }
 {
@@ -54,7 +54,7 @@ pub fn no_unit(e: Refusal) -> VvccUnit
         found: 0,
         start: 0,
         len: 0,
-        after: 0,
+        next: 0,
     }
 }
 
@@ -67,20 +67,20 @@ pub fn end() -> VvccUnit
         found: 0,
         start: 0,
         len: 0,
-        after: 0,
+        next: 0,
     }
 }
 
 // A unit, and the place after it.
-pub fn unit(start: usize, len: usize, after: usize) -> VvccUnit
-    ensures { λ r. ⌜ r ≡ unitAnswer (accept (some (record { unit = record { start = start; len = len }; next = after }))) ⌝ }
+pub fn unit(start: usize, len: usize, next: usize) -> VvccUnit
+    ensures { λ r. ⌜ r ≡ unitAnswer (accept (some (record { unit = record { start = start; len = len }; next = next }))) ⌝ }
 {
     VvccUnit {
         refusal: 0,
         found: 1,
         start: start,
         len: len,
-        after: after,
+        next: next,
     }
 }
 
@@ -89,7 +89,7 @@ pub fn next(n: NextUnit) -> VvccUnit
     ensures { λ r. ⌜ r ≡ unitAnswer (nextOf n) ⌝ }
 {
     match n {
-        NextUnit::Unit(a, after) => unit(a.start, a.len, after),
+        NextUnit::Unit(a, next) => unit(a.start, a.len, next),
         NextUnit::End => end(),
         NextUnit::Refused(e) => no_unit(e),
     }

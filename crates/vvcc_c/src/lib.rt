@@ -1,4 +1,4 @@
-// The library for C and Rust: calls of the crates beneath, with answers that are structs of numbers.
+// The library for C and Rust: the calls on one still, assembly, and the walks over units. Every answer is a struct of numbers.
 pub mod answers;
 
 use access_unit_annex_b::access_unit_annex_b;
@@ -11,21 +11,22 @@ ghost use Rattle.split.specs.Answers.{nextItemUnit, nextGiven};
 ghost use Rattle.still.specs.Stills.{stillRecord, stillStream};
 ghost use Rattle.vvcc_c.specs.Exports.{writtenGiven, unitAnswer, targetFrom, scratchFilled, streamBeside};
 
-// How many bytes now stand at the front of the output, or a refusal's number and 0.
+// The answer of a call that writes: 0 and how many bytes are now at the front of the output, or a refusal's number and 0.
 #[repr(C)]
 pub struct VvccWritten {
     pub refusal: u32,
     pub len: usize,
 }
 
-// Where a unit lies and the place after it, to go on from; zeros at the end; a refusal's number and zeros.
+// The answer of one step of a walk: 0, 1, where the unit lies and the place to continue from; zeros at the end; or a refusal's number and
+// zeros.
 #[repr(C)]
 pub struct VvccUnit {
     pub refusal: u32,
     pub found: u32,
     pub start: usize,
     pub len: usize,
-    pub after: usize,
+    pub next: usize,
 }
 
 // The full record of a still. Refusals: those of `still_record`.
@@ -66,8 +67,8 @@ pub extern "C" fn vvcc_still_stream(
     answers::written(written)
 }
 
-// The stream of a full record and an item. The scratch takes the record's unit list. Refusals: 23, the full reader's, 20 for the scratch,
-// assembly's.
+// The stream of a full record and an item. The record's unit list is written to `scratch`. Refusals: 23, those of `full_read::parse`, 20 where
+// `scratch` is too short, those of `access_unit_annex_b`.
 #[no_mangle]
 pub extern "C" fn vvcc_access_unit(
     record: &[u8],
@@ -96,7 +97,7 @@ pub extern "C" fn vvcc_access_unit(
     }
 }
 
-// The first unit of a stream whose start code stands at or after a place. Refusal: 23.
+// The first unit of a stream whose start code is at or after the place `from`. Refusal: 23.
 #[no_mangle]
 pub extern "C" fn vvcc_next_unit(stream: &[u8], from: usize) -> VvccUnit
     ensures { λ r. ⌜ r ≡ unitAnswer (nextGiven (now (stream .entry)) from) ⌝ }
@@ -104,7 +105,7 @@ pub extern "C" fn vvcc_next_unit(stream: &[u8], from: usize) -> VvccUnit
     answers::next(split::next_unit(stream, from))
 }
 
-// The unit whose length stands at a place of an item. Refusals: 23, 4, then in byte order 1 and 5.
+// The unit of an item whose length prefix is at the place `from`. Refusals: 23, 4, then in byte order 1 and 5.
 #[no_mangle]
 pub extern "C" fn vvcc_next_item_unit(item: &[u8], length_size: u8, from: usize) -> VvccUnit
     ensures { λ r. ⌜ r ≡ unitAnswer (nextItemUnit «length_size» (now (item .entry)) from) ⌝ }

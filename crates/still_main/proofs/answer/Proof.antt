@@ -1,10 +1,8 @@
--- `answer` writes the stream, which lies in the output, or the refusal's number.
-use Rattle.parse.specs.Answers.{writtenOf}
-use Rattle.error.specs.declared.Written.{Written}
+-- `answer` writes the stream, which lies in the output, or the refusal.
 use Rattle.still_main.specs.Input.{inputStream}
-use Rattle.still_main.proofs.Inputs.{written-within}
+use Rattle.still_main.proofs.Inputs.{answer-within}
 use Prim.Native.Nat.{_≤_}
-use mathlib.Core.Path.{sym, ap, _∙_}
+use mathlib.Core.Path.{sym}
 use lib.ListN.{length}
 use lib.Seq.{length-take-le}
 use borrow.Author.Needs.{needs}
@@ -21,35 +19,25 @@ enum-known-written c = search needs
 within-at : (c : tie.After-known-told) → c .before .written .given .0 .0 ≤ length (c .before .before .before .before .before .input-stream .last .1 .0)
 within-at c =
     let a = c .before .before .before .before .before .before .before .before .before .args in
-    let y = c .before .before .before .before .before .input-stream in
-    written-within (inputStream (a .input .now)) (a .out .now) _ _ (ap (λ (x : Written). (writtenOf x, y .last .1 .0)) (sym (c .before .written .given .1)) ∙ y .ensures)
+    answer-within (inputStream (a .input .now)) (a .out .now) _ _ _ (c .before .written .given .1) (c .before .before .before .before .before .input-stream .ensures)
 
-slice-reshare-prefix-write-all : tie.Need-slice-reshare-prefix-write-all
-slice-reshare-prefix-write-all c = within-at c
+slice-aggregate-write-open : tie.Need-slice-aggregate-write-open
+slice-aggregate-write-open c = search needs
 
-slice-aggregate-write-all : tie.Need-slice-aggregate-write-all
-slice-aggregate-write-all c = sym (length-take-le _ _ (within-at (c .before)))
+slice-reshare-prefix-write-open : tie.Need-slice-reshare-prefix-write-open
+slice-reshare-prefix-write-open c = within-at (c .before)
 
-write-all-requires : tie.Need-write-all-requires
-write-all-requires c κs = search needs
+slice-aggregate-write-open-2 : tie.Need-slice-aggregate-write-open-2
+slice-aggregate-write-open-2 c = sym (length-take-le _ _ (within-at (c .before .before)))
+
+write-open-requires : tie.Need-write-open-requires
+write-open-requires c κs = search needs
 
 enum-known-written-2 : tie.Need-enum-known-written-2
 enum-known-written-2 c = search needs
 
-number-requires : tie.Need-number-requires
-number-requires c κs = search needs
-
-cast-print-decimal : tie.Need-cast-print-decimal
-cast-print-decimal c = search needs
-
-print-decimal-requires : tie.Need-print-decimal-requires
-print-decimal-requires c κs = search needs
-
-slice-aggregate-write-all-2 : tie.Need-slice-aggregate-write-all-2
-slice-aggregate-write-all-2 c = search needs
-
-write-all-requires-2 : tie.Need-write-all-requires-2
-write-all-requires-2 c κs = search needs
+refused-requires : tie.Need-refused-requires
+refused-requires c κs = search needs
 
 same-length : tie.Need-same-length
 same-length c = search needs
@@ -69,15 +57,12 @@ answer-spec =
     (tie.spec
     input-stream-requires
     enum-known-written
-    slice-reshare-prefix-write-all
-    slice-aggregate-write-all
-    write-all-requires
+    slice-aggregate-write-open
+    slice-reshare-prefix-write-open
+    slice-aggregate-write-open-2
+    write-open-requires
     enum-known-written-2
-    number-requires
-    cast-print-decimal
-    print-decimal-requires
-    slice-aggregate-write-all-2
-    write-all-requires-2
+    refused-requires
     same-length
     returns
     same-length-2

@@ -1,4 +1,4 @@
--- `input_stream` takes the input apart and gives the stream of its still.
+-- `input_stream` takes the input apart and returns the stream of its still.
 use Rattle.unit_list.specs.inner.Walk.{chunkStepped}
 use Rattle.parse.proofs.Output.{written-refused}
 use Rattle.still.proofs.LocalArrays.{given-as}

@@ -1,4 +1,4 @@
--- `vvcc_access_unit` reads the record into the scratch and assembles, or gives the refusal that comes first.
+-- `vvcc_access_unit` reads the record into the scratch and assembles, or returns the first refusal.
 use mathlib.Core.Path.{ap}
 use borrow.Author.Needs.{needs}
 use Rattle.full_read.specs.Answers.{fullAnswerOf}

@@ -1,4 +1,4 @@
--- `vvcc_next_unit` gives what `next_unit` gives.
+-- `vvcc_next_unit` returns what `next_unit` returns.
 use mathlib.Core.Path.{ap, _∙_}
 use borrow.Author.Needs.{needs}
 use Rattle.vvcc_c.specs.Exports.{unitAnswer}

@@ -1,4 +1,4 @@
--- `vvcc_still_record` gives what `still_record` gives.
+-- `vvcc_still_record` returns what `still_record` returns.
 use borrow.Author.Needs.{needs}
 use Rattle.expand.specs.declared.Picture.{Picture}
 use Rattle.still.specs.Stills.{stillRecord}

@@ -1,4 +1,4 @@
--- `vvcc_still_stream` gives what `still_stream` gives.
+-- `vvcc_still_stream` returns what `still_stream` returns.
 use borrow.Author.Needs.{needs}
 use Rattle.still.specs.Stills.{stillStream}
 use Rattle.vvcc_c.proofs.Given.{given-target}

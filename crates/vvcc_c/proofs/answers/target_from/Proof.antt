@@ -1,4 +1,4 @@
--- `answers::target_from` gives no target for 0, else the second number.
+-- `answers::target_from` returns no target for 0, otherwise the second number.
 use Rattle.vvcc_c.proofs.Given.{no-target, some-target}
 use Rattle.vvcc_c.proofs.answers.target_from.Statement.{statement}
 use Rattle.vvcc_c.proofs.answers.target_from.Tie as tie

@@ -19,8 +19,9 @@ enum-known-written c = search needs
 -- the stream that was written lies in the output
 within-at : (c : tie.After-known-told) → c .before .written .given .0 .0 ≤ length (c .before .before .before .before .before .still-stream .last .1 .1 .1 .0)
 within-at c =
-    let a = c .before .before .before .before .before .before .before .before .before .before .args in
-    answer-within (stillStream (a .«record» .now) (a .stored .now) none) (a .out .now) _ _ _ (c .before .written .given .1) (c .before .before .before .before .before .still-stream .ensures)
+    let s = c .before .before .before .before .before in
+    let a = s .before .before .before .before .before .args in
+    answer-within (stillStream (a .«record» .now) (a .stored .now) none) (a .out .now) _ _ _ (c .before .written .given .1) (s .still-stream .ensures)
 
 slice-reshare-prefix-write : tie.Need-slice-reshare-prefix-write
 slice-reshare-prefix-write c = within-at c

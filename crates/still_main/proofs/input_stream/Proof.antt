@@ -32,12 +32,23 @@ returns-2 c =
     written-refused (inputStream (a .input .now)) (a .out .now) 1
     (input-cut (a .input .now) (c .before .before .before .if1 .left) (sym (ap chunkStepped (c .enum-told .given .1)) ∙ c .before .before .chunk .ensures))
 
+-- Earlier places of the function, each seen from a later one.
+abbrev start : (c : tie.After-chunk) → tie.Start
+start c = c .before .before .before .before
+
+abbrev after-chunk : (c : tie.After-struct-known) → tie.After-chunk
+after-chunk c = c .before .before .before .before
+
 -- the compact record lies in the input
-inside-at : (c : tie.After-struct-known) → c .before .before .read .given .0 .0 .start + c .before .before .read .given .0 .0 .len ≤ length (c .before .before .before .before .before .before .before .before .args .input .now)
-inside-at c = inside (c .before .before .before .before .before .before .before .before .args .input .now) (c .before .before .read .given .0 .0) (sym (ap chunkStepped (c .before .before .read .given .1)) ∙ c .before .before .before .before .chunk .ensures)
+inside-at : (c : tie.After-struct-known)
+    → c .before .before .read .given .0 .0 .start + c .before .before .read .given .0 .0 .len ≤ length (start (after-chunk c) .args .input .now)
+inside-at c =
+    let k = after-chunk c in
+    let g = c .before .before .read .given in
+    inside (start k .args .input .now) (g .0 .0) (sym (ap chunkStepped (g .1)) ∙ k .chunk .ensures)
 
 add-after : tie.Need-add-after
-add-after c = omega (arith, inside-at c, c .before .before .before .before .before .before .before .before .good)
+add-after c = omega (arith, inside-at c, start (after-chunk c) .good)
 
 part-requires : tie.Need-part-requires
 part-requires c κs = inside-at c
@@ -59,9 +70,11 @@ same-length c = search needs
 
 returns-3 : tie.Need-returns-3
 returns-3 c =
-    let g = c .before .before .before .before .before .before .before .before .read .given in
+    let d = c .before .before .before .before .before .before in
+    let g = d .before .before .read .given in
+    let k = after-chunk d in
     given-as _ _ _ _
-    (input-given _ (c .before .before .before .before .before .before .before .before .before .before .before .if1 .left) (g .0 .0) _ (c .before .before .before .before .before .part .ensures .holds) (sym (ap chunkStepped (g .1)) ∙ c .before .before .before .before .before .before .before .before .before .before .chunk .ensures))
+    (input-given _ (k .before .if1 .left) (g .0 .0) _ (c .before .before .before .before .before .part .ensures .holds) (sym (ap chunkStepped (g .1)) ∙ k .chunk .ensures))
     (c .before .before .still-stream .ensures)
 
 pub input-stream-spec : {M : Type 1} → statement M

@@ -34,9 +34,10 @@ part-access-unit-annex-b-start c = search needs
 
 part-access-unit-annex-b-end : tie.Need-part-access-unit-annex-b-end
 part-access-unit-annex-b-end c =
-    let d = c .before .before .before .before .before .before .before .before in
+    let an = c .before .before .before in
+    let d = an .before .before .before .before .before in
     let a = d .before .before .before .before .before .before .before .args in
-    read-into (a .«record» .now) (a .item .now) (a .scratch .now) (targetFrom (a .has-target) (a .target)) (d .before .before .if1 .left) _ (d .parse .result) (d .parse .ensures) .fits _ _ (c .before .before .before .answer .given .1)
+    read-into (a .«record» .now) (a .item .now) (a .scratch .now) (targetFrom (a .has-target) (a .target)) (d .before .before .if1 .left) _ (d .parse .result) (d .parse .ensures) .fits _ _ (an .answer .given .1)
 
 access-unit-annex-b-requires : tie.Need-access-unit-annex-b-requires
 access-unit-annex-b-requires c κs = search needs
@@ -58,10 +59,12 @@ same-length-2 c = search needs
 
 returns-2 : tie.Need-returns-2
 returns-2 c =
-    let d = c .before .before .before .before .before .before .before .before .before .before .before .before .before .before in
+    let tf = c .before .before .before .before .before .before .before in
+    let an = tf .before .before in
+    let d = an .before .before .before .before .before in
     let a = d .before .before .before .before .before .before .before .args in
     let k = read-into (a .«record» .now) (a .item .now) (a .scratch .now) (targetFrom (a .has-target) (a .target)) (d .before .before .if1 .left) _ (d .parse .result) (d .parse .ensures) in
-    (given-assembled _ (d .parse .result .head) _ (a .item .now) _ _ (a .out .now) _ _ _ (c .written .ensures) (c .before .before .before .access-unit-annex-b .ensures) (c .before .before .before .before .before .before .before .target-from .ensures) (k .made _ _ (c .before .before .before .before .before .before .before .before .before .answer .given .1)), k .filled)
+    (given-assembled _ (d .parse .result .head) _ (a .item .now) _ _ (a .out .now) _ _ _ (c .written .ensures) (c .before .before .before .access-unit-annex-b .ensures) (tf .target-from .ensures) (k .made _ _ (an .answer .given .1)), k .filled)
 
 same-length-3 : tie.Need-same-length-3
 same-length-3 c = search needs

@@ -19,7 +19,8 @@ module _ (h : VvcConfig) (list item : List ℕ) (tols target : Option ℕ) (is :
   pub access-unit-is : sources (h .«length_size») target list item ≡ accessUnit h list item tols
   access-unit-is = rw is (access-unit-sources h list item tols)
 
-  pub count-known : (v : Sizes) → Known (h .«length_size») target list item v → accept (v .listed + v .kept) ≡ countFound (accessUnit h list item tols)
+  pub count-known : (v : Sizes) → Known (h .«length_size») target list item v
+      → accept (v .listed + v .kept) ≡ countFound (accessUnit h list item tols)
   count-known v n =
       let e : v .listed + v .kept ≡ length (n .parts .units) + length (n .parts .kept) = ap (λ (w : Sizes). w .listed + w .kept) (n .sized) in
       ap accept (e ∙ sym (order-length item (n .parts)))
@@ -55,7 +56,8 @@ module _ (h : VvcConfig) (list item : List ℕ) (tols target : Option ℕ) (is :
       }
 
   -- the stream's length
-  pub length-known : (v : Sizes) → Known (h .«length_size») target list item v → (n : ℕ) → n ≡ 4 * (v .listed + v .kept) + v .lengths → accept n ≡ countFound (assemble h list item tols)
+  pub length-known : (v : Sizes) → Known (h .«length_size») target list item v → (n : ℕ) → n ≡ 4 * (v .listed + v .kept) + v .lengths
+      → accept n ≡ countFound (assemble h list item tols)
   length-known v k n e = let m = assemble-known v k in ap accept (e ∙ m .long) ∙ ap countFound (sym (m .given))
 
   pub length-unknown : (n : ℕ) → gather (h .«length_size») target list item ≡ refuse n → refuse n ≡ countFound (assemble h list item tols)

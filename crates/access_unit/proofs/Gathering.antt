@@ -34,13 +34,15 @@ unfolding lengths
 lengths-le s [] = omega arith
 lengths-le s (a ∷ us) = let h = lengths-le s us in let l = length-take (a .len) (drop (a .start) s) in omega arith
 
-kept-fewer : (item : List ℕ) (target : Option ℕ) (xs : List Span) → length (kept item target xs) + spanLengths (kept item target xs) ≤ length xs + spanLengths xs
+kept-fewer : (item : List ℕ) (target : Option ℕ) (xs : List Span)
+    → length (kept item target xs) + spanLengths (kept item target xs) ≤ length xs + spanLengths xs
 unfolding kept
 kept-fewer item target [] = omega arith
 kept-fewer item target (a ∷ xs) = go (keeps target (held item a)) (kept-fewer item target xs)
   where
     go : (b : Bool) → length (kept item target xs) + spanLengths (kept item target xs) ≤ length xs + spanLengths xs
-        → length (if b then a ∷ kept item target xs else kept item target xs) + spanLengths (if b then a ∷ kept item target xs else kept item target xs)
+        → length (if b then a ∷ kept item target xs else kept item target xs) + spanLengths
+        (if b then a ∷ kept item target xs else kept item target xs)
         ≤ suc (length xs) + (a .len + spanLengths xs)
     go true h = omega arith
     go false h = omega arith
@@ -48,7 +50,8 @@ kept-fewer item target (a ∷ xs) = go (keeps target (held item a)) (kept-fewer 
 pub list-few : (list : List ℕ) (us : List Span) → listUnits list ≡ accept us → length us + lengths (map (held list) us) ≤ 2 ^ 30
 list-few list us e = go (decode list) refl e
   where
-    go : (o : Outcome (List (Array Span))) → decode list ≡ o → andThen o (λ xs. accept (unitsOf xs)) ≡ accept us → length us + lengths (map (held list) us) ≤ 2 ^ 30
+    go : (o : Outcome (List (Array Span))) → decode list ≡ o → andThen o (λ xs. accept (unitsOf xs)) ≡ accept us
+        → length us + lengths (map (held list) us) ≤ 2 ^ 30
     go (refuse n) d f = absurd (let z : _≡_ {A = ℕ} 0 1 = cc in omega arith)
     go (accept xs) d f =
         let y : unitsOf xs ≡ us = cc in
@@ -82,7 +85,8 @@ module _ (size : ℕ) (target : Option ℕ) (item : List ℕ) (v : UnitSum) (len
       go (accept xs) = refl
       go (refuse n) = refl
 
-  pub item-sum-few : 0 < size → size ≤ 4 → (w : UnitSum) → accept w ≡ andThen (keptLeft size target item 0) (λ ks. accept (itemSum item ks)) → w .count + w .lengths ≤ 2 ^ 30
+  pub item-sum-few : 0 < size → size ≤ 4 → (w : UnitSum) → accept w ≡ andThen (keptLeft size target item 0) (λ ks. accept (itemSum item ks))
+      → w .count + w .lengths ≤ 2 ^ 30
   unfolding keptLeft
   item-sum-few some four w e = go (itemUnitsFrom size item 0) (split-lent size item lent ∙ items-left size item some four) e
     where
@@ -128,7 +132,12 @@ module _ (size : ℕ) (target : Option ℕ) (list item : List ℕ) (lent : lengt
     where
       go : (ks : List Span) (b : Bool)
           → _≡_ {A = Outcome Sizes}
-          (if b then refuse 19 else accept (record { listed = length us; kept = length ks; lead = length (leading item ks); lengths = lengths (map (held list) us) + lengths (map (held item) ks) }))
+          (if b then refuse 19 else accept (record {
+            listed = length us;
+            kept = length ks;
+            lead = length (leading item ks);
+            lengths = lengths (map (held list) us) + lengths (map (held item) ks);
+          }))
           (andThen (if b then refuse 19 else accept (record { units = us; kept = ks })) (λ g. accept (sizesOf list item g)))
       go ks true = refl
       go ks false = refl
@@ -137,7 +146,8 @@ module _ (size : ℕ) (target : Option ℕ) (list item : List ℕ) (lent : lengt
   unfolding gather
   gather-listed v e = go (listUnits list) refl e
     where
-      is : (us : List Span) → listUnits list ≡ accept us → sizesWith size target item (listSum list us) ≡ andThen (gather size target list item) (λ g. accept (sizesOf list item g))
+      is : (us : List Span) → listUnits list ≡ accept us
+          → sizesWith size target item (listSum list us) ≡ andThen (gather size target list item) (λ g. accept (sizesOf list item g))
       is us l = rw (le-leb (length item) (2 ^ 30) lent, l) (both us (splitItem size item))
 
       go : (o : Outcome (List Span)) → listUnits list ≡ o → accept v ≡ andThen o (λ us. accept (listSum list us)) → Listed v
@@ -189,7 +199,8 @@ module _ (size : ℕ) (target : Option ℕ) (list item : List ℕ) (g : Gathered
       ]
     where
       go : length item ≤ 2 ^ 30 → (o : Outcome (List Span)) → listUnits list ≡ o → (x : Outcome (List Span)) → splitItem size item ≡ x
-          → andThen o (λ us. andThen x (λ split. someGathered (record { units = us; kept = kept item target split }))) ≡ accept g → From size target list item g
+          → andThen o (λ us. andThen x (λ split. someGathered (record { units = us; kept = kept item target split }))) ≡ accept g
+          → From size target list item g
       go h (refuse n) l x s f = absurd (let z : _≡_ {A = ℕ} 0 1 = cc in omega arith)
       go h (accept us) l (refuse n) s f = absurd (let z : _≡_ {A = ℕ} 0 1 = cc in omega arith)
       go h (accept us) l (accept split) s f = gathered-from us split h l s f
@@ -204,11 +215,13 @@ module _ (size : ℕ) (target : Option ℕ) (list item : List ℕ) where
   pub known : (v : Sizes) → accept v ≡ andThen (gather size target list item) (λ g. accept (sizesOf list item g)) → Known size target list item v
   known v e = go (gather size target list item) refl e
     where
-      go : (o : Outcome Gathered) → gather size target list item ≡ o → accept v ≡ andThen o (λ g. accept (sizesOf list item g)) → Known size target list item v
+      go : (o : Outcome Gathered) → gather size target list item ≡ o → accept v ≡ andThen o (λ g. accept (sizesOf list item g))
+          → Known size target list item v
       go (accept g) f e = record { parts = g; found = f; sized = cc }
       go (refuse n) f e = absurd (let z : _≡_ {A = ℕ} 0 1 = cc in omega arith)
 
-  pub unknown : (n : ℕ) → refuse n ≡ andThen (gather size target list item) (λ g. accept (sizesOf list item g)) → gather size target list item ≡ refuse n
+  pub unknown : (n : ℕ) → refuse n ≡ andThen (gather size target list item) (λ g. accept (sizesOf list item g))
+      → gather size target list item ≡ refuse n
   unknown n e = go (gather size target list item) e
     where
       go : (o : Outcome Gathered) → refuse n ≡ andThen o (λ g. accept (sizesOf list item g)) → o ≡ refuse n

@@ -36,7 +36,8 @@ module _ (item : List ℕ) where
   leads-and-follows [] = refl
   leads-and-follows (a ∷ xs) = go (leads-and-follows xs) (mayLead (held item a))
     where
-      go : leading item xs ++ following item xs ≡ xs → (b : Bool) → (if b then a ∷ leading item xs else []) ++ (if b then following item xs else a ∷ xs) ≡ a ∷ xs
+      go : leading item xs ++ following item xs ≡ xs
+          → (b : Bool) → (if b then a ∷ leading item xs else []) ++ (if b then following item xs else a ∷ xs) ≡ a ∷ xs
       go h true = ap (λ (l : List Span). a ∷ l) h
       go h false = refl
 
@@ -53,7 +54,8 @@ module _ (item : List ℕ) where
     kept-leading [] = refl
     kept-leading (a ∷ xs) = go (kept-leading xs) (keeps target (held item a)) refl (mayLead (held item a)) refl
       where
-        go : kept item target (leading item xs) ≡ leading item (kept item target xs) → (k : Bool) → keeps target (held item a) ≡ k → (m : Bool) → mayLead (held item a) ≡ m
+        go : kept item target (leading item xs) ≡ leading item (kept item target xs) → (k : Bool) → keeps target (held item a) ≡ k
+            → (m : Bool) → mayLead (held item a) ≡ m
             → kept item target (if m then a ∷ leading item xs else []) ≡ leading item (if k then a ∷ kept item target xs else kept item target xs)
         go h true e true f = rw (e, f) (ap (λ (l : List Span). a ∷ l) h)
         go h true e false f = rw f
@@ -65,7 +67,8 @@ module _ (item : List ℕ) where
     kept-following [] = refl
     kept-following (a ∷ xs) = go (kept-following xs) (keeps target (held item a)) refl (mayLead (held item a)) refl
       where
-        go : kept item target (following item xs) ≡ following item (kept item target xs) → (k : Bool) → keeps target (held item a) ≡ k → (m : Bool) → mayLead (held item a) ≡ m
+        go : kept item target (following item xs) ≡ following item (kept item target xs) → (k : Bool) → keeps target (held item a) ≡ k
+            → (m : Bool) → mayLead (held item a) ≡ m
             → kept item target (if m then following item xs else a ∷ xs) ≡ following item (if k then a ∷ kept item target xs else kept item target xs)
         go h true e true f = rw f h
         go h true e false f = rw (e, f)

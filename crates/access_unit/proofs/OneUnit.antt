@@ -17,11 +17,13 @@ use Rattle.split.specs.Item.{splitItem}
 use Rattle.split.specs.Stream.{annexB}
 use Rattle.split.proofs.Items.{split-sound}
 use Rattle.full.specs.declared.VvcConfig.{VvcConfig}
-use Rattle.access_unit.specs.AccessUnit.{targetOf, keeps, mayLead, leading, following, kept, Source, ofList, ofItem, arranged, notEmpty, accessUnit, heldIn, startCode, assemble}
+use Rattle.access_unit.specs.AccessUnit.{targetOf, keeps, mayLead, leading, following, kept, Source, ofList}
+use Rattle.access_unit.specs.AccessUnit.{ofItem, arranged, notEmpty, accessUnit, heldIn, startCode, assemble}
 use Rattle.access_unit.proofs.Order.{held-list}
 
 module _ (h : VvcConfig) (list item : List ℕ) (tols : Option ℕ) (xs : List Span) (a : Span) (u : List ℕ) (listed : listUnits list ≡ accept xs)
-    (split : splitItem (h .«length_size») item ≡ accept (a ∷ [])) (is : held item a ≡ u) (no-aud : typeOr31 u ≡ 20 → ⊥) (no-opi : typeOr31 u ≡ 12 → ⊥) where
+    (split : splitItem (h .«length_size») item ≡ accept (a ∷ [])) (is : held item a ≡ u) (no-aud : typeOr31 u ≡ 20 → ⊥)
+    (no-opi : typeOr31 u ≡ 12 → ⊥) where
   leads-not : mayLead (held item a) ≡ false
   unfolding mayLead
   leads-not = rw (is, aud-of (typeOr31 u), record-of 12 (typeOr31 u) refl, ne-eqb (typeOr31 u) 20 no-aud, ne-eqb (typeOr31 u) 12 no-opi)

@@ -17,7 +17,8 @@ use Rattle.unit_list.specs.Answers.{listUnits}
 use Rattle.split.specs.Item.{splitItem}
 use Rattle.split.specs.Stream.{annexB}
 use Rattle.full.specs.declared.VvcConfig.{VvcConfig}
-use Rattle.access_unit.specs.AccessUnit.{targetOf, leading, following, kept, Source, ofList, ofItem, arranged, notEmpty, accessUnit, heldIn, startCode, assemble}
+use Rattle.access_unit.specs.AccessUnit.{targetOf, leading, following, kept, Source, ofList, ofItem}
+use Rattle.access_unit.specs.AccessUnit.{arranged, notEmpty, accessUnit, heldIn, startCode, assemble}
 use Rattle.access_unit.specs.inner.Gathered.{lengths, Gathered, someGathered, gather, inOrder, sources, bytesAt, gatheredBytes}
 use Rattle.access_unit.proofs.KeptUnits.{leads-and-follows, kept-leading, kept-following}
 use Rattle.access_unit.proofs.Sums.{lengths-append}
@@ -63,7 +64,8 @@ access-unit-sources h list item tols =
     last g us false e = ap accept e
 
     go : (target : Option ℕ) (o x : Outcome (List Span))
-        → andThen (andThen o (λ us. andThen x (λ split. someGathered (record { units = us; kept = kept item target split })))) (λ g. accept (inOrder item g))
+        → andThen (andThen o (λ us. andThen x (λ split. someGathered (record { units = us; kept = kept item target split }))))
+        (λ g. accept (inOrder item g))
         ≡ andThen o (λ us. andThen x (λ split. notEmpty (arranged item target us split)))
     go target (refuse n) x = refl
     go target (accept us) (refuse n) = refl
@@ -98,7 +100,8 @@ module _ (list item : List ℕ) where
 
   module _ (g : Gathered) where
     -- the leading units, the list's units, the remaining units
-    pub stream-parts : gatheredBytes list item (accept g) ≡ bytesAt item (leading item (g .kept)) ++ (bytesAt list (g .units) ++ bytesAt item (following item (g .kept)))
+    pub stream-parts : gatheredBytes list item (accept g)
+        ≡ bytesAt item (leading item (g .kept)) ++ (bytesAt list (g .units) ++ bytesAt item (following item (g .kept)))
     unfolding inOrder
     stream-parts =
         rw (

@@ -87,11 +87,14 @@ lead-last item done a =
     let l = leading-le item done in
     elim (decLe (length done) (length (leading item done))) [
       | yes h ↦ let e : length (leading item done) ≡ length done = omega arith in all e (mayLead (held item a)) (lead-all item a done e)
-      | no h ↦ rw (ne-eqb (length (leading item done)) (length done) (λ e. omega arith), lead-some item a done (omega arith)) (some (mayLead (held item a)))
+      | no h ↦ rw (ne-eqb (length (leading item done)) (length done) (λ e. omega arith), lead-some item a done (omega arith))
+          (some (mayLead (held item a)))
     ]
   where
-    all : length (leading item done) ≡ length done → (m : Bool) → length (leading item (done ++ (a ∷ []))) ≡ (if m then length done + 1 else length done)
-        → (if m && eqb (length (leading item done)) (length done) then length done + 1 else length (leading item done)) ≡ length (leading item (done ++ (a ∷ [])))
+    all : length (leading item done) ≡ length done
+        → (m : Bool) → length (leading item (done ++ (a ∷ []))) ≡ (if m then length done + 1 else length done)
+        → (if m && eqb (length (leading item done)) (length done) then length done + 1 else length (leading item done))
+        ≡ length (leading item (done ++ (a ∷ [])))
     all e true h = rw (eq-eqb (length (leading item done)) (length done) e) (sym h)
     all e false h = e ∙ sym h
 
@@ -150,7 +153,8 @@ module _ (f : List Span → UnitSum) (whole : Outcome (List Span)) where
     summing-refused n e = ap (λ (o : Outcome (List Span)). andThen o (λ us. accept (f us))) (done-refused (i .done) left whole (i .joined) n e)
 
 -- one unit of the item added, kept or dropped
-module _ (size : ℕ) (target : Option ℕ) (item : List ℕ) (whole : Outcome (List Span)) (p : ℕ) (a : Span) (next : ℕ) (t : Turn size item p a next) where
+module _ (size : ℕ) (target : Option ℕ) (item : List ℕ) (whole : Outcome (List Span)) (p : ℕ) (a : Span) (next : ℕ)
+    (t : Turn size item p a next) where
   pub summing-kept : (sum : UnitSum) → Summing (itemSum item) whole (keptLeft size target item p) sum p
       → Summing (itemSum item) whole (keptLeft size target item next) (addingKept target item a sum) next
   summing-kept sum i = go (keeps target (held item a)) refl
@@ -178,10 +182,12 @@ list-sum-none list = refl
 -- ### the cases of the code's tests
 
 module _ (leads : Bool) (len : ℕ) (v : UnitSum) where
-  pub add-leads : leads ≡ true → v .lead ≡ v .count → record { count = v .count + 1; lead = v .count + 1; lengths = v .lengths + len } ≡ adding leads len v
+  pub add-leads : leads ≡ true → v .lead ≡ v .count
+      → record { count = v .count + 1; lead = v .count + 1; lengths = v .lengths + len } ≡ adding leads len v
   add-leads e f = rw (e, eq-eqb (v .lead) (v .count) f)
 
-  pub add-after : leads ≡ true → (v .lead ≡ v .count → ⊥) → record { count = v .count + 1; lead = v .lead; lengths = v .lengths + len } ≡ adding leads len v
+  pub add-after : leads ≡ true
+      → (v .lead ≡ v .count → ⊥) → record { count = v .count + 1; lead = v .lead; lengths = v .lengths + len } ≡ adding leads len v
   add-after e f = rw (e, ne-eqb (v .lead) (v .count) f)
 
   pub add-last : leads ≡ false → record { count = v .count + 1; lead = v .lead; lengths = v .lengths + len } ≡ adding leads len v

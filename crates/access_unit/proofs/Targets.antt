@@ -83,4 +83,5 @@ module _ (target : Option ℕ) (u : List ℕ) (opi : isOpi u ≡ true) where
         any (some t) = refl
 
     pub keeps-never : (e : Refusal) → r ≡ O.Refused e → true ≡ keeps target u
-    keeps-never e w = absurd (let x : refuse (numberOf e) ≡ accept (opiOlsIdx u) = ap olsIdxOf (sym w) ∙ given in let z : _≡_ {A = ℕ} 0 1 = cc in omega arith)
+    keeps-never e w =
+        absurd (let x : refuse (numberOf e) ≡ accept (opiOlsIdx u) = ap olsIdxOf (sym w) ∙ given in let z : _≡_ {A = ℕ} 0 1 = cc in omega arith)

@@ -20,7 +20,8 @@ ghost use Rattle.unit_list.specs.inner.Walk.{Fits};
 ghost use Rattle.unit_list.specs.inner.Find.{unitsLeft};
 ghost use Rattle.unit_list.specs.Answers.{listUnits};
 ghost use Rattle.access_unit.specs.Answers.{tolsOf};
-ghost use Rattle.access_unit.specs.inner.Gathered.{Walks, keptLeft, addingKept, adding, summedOf, itemSum, listSum, gather, sizesOf, sizesWith, sizesAnswerOf};
+ghost use Rattle.access_unit.specs.inner.Gathered.{Walks, keptLeft, addingKept, adding, summedOf, itemSum};
+ghost use Rattle.access_unit.specs.inner.Gathered.{listSum, gather, sizesOf, sizesWith, sizesAnswerOf};
 
 // A sum over units: how many, how many of them lead, and the sum of their lengths.
 pub struct UnitSum {
@@ -73,7 +74,8 @@ fn add(sum: UnitSum, len: usize, leads: bool) -> UnitSum
 
 // A unit of the item added, if it is kept; AUD and OPI units may lead.
 fn add_kept(item: &[u8], a: Span, target: Target, sum: UnitSum) -> UnitSum
-    requires { ⌜ (a .start + a .len ≤ length (now item)) × (length (now item) ≤ 2 ^ 30) × (sum .lead ≤ sum .count) × (sum .count + sum .lengths + a .len < 2 ^ 32) ⌝ }
+    requires { ⌜ (a .start + a .len ≤ length (now item)) × (length (now item) ≤ 2 ^ 30) × (sum .lead ≤ sum .count)
+        × (sum .count + sum .lengths + a .len < 2 ^ 32) ⌝ }
     ensures { λ r. ⌜ r ≡ addingKept (tolsOf target) (now (item .entry)) a sum ⌝ }
 {
     let unit = place::part(item, a);
@@ -172,7 +174,8 @@ fn measure_item(item: &[u8], length_size: u8, target: Target, listed: UnitSum) -
 
 // The sizes of an access unit. Refusals: 23, 21, 4, then in byte order 1 and 5, 19.
 pub fn measure(list: &[u8], item: &[u8], length_size: u8, target: Target) -> SizesAnswer
-    ensures { λ r. ⌜ sizesAnswerOf r ≡ andThen (gather «length_size» (tolsOf target) (now (list .entry)) (now (item .entry))) (λ g. accept (sizesOf (now (list .entry)) (now (item .entry)) g)) ⌝ }
+    ensures { λ r. ⌜ sizesAnswerOf r ≡ andThen (gather «length_size» (tolsOf target) (now (list .entry)) (now (item .entry)))
+        (λ g. accept (sizesOf (now (list .entry)) (now (item .entry)) g)) ⌝ }
 {
     if LARGEST_INPUT < item.len() {
         return SizesAnswer::Refused(Refusal::InputTooLong);

@@ -39,7 +39,8 @@ puts-listable size target list item v out p n e =
     let z : _≡_ {A = ℕ} 0 1 = cc in
     omega arith
 
-module _ (size : ℕ) (target : Option ℕ) (list item : List ℕ) (v : Sizes) (out : List ℕ) (p : PutsStream size target list item v out) (s : ℕ) (same : s ≡ size) where
+module _ (size : ℕ) (target : Option ℕ) (list item : List ℕ) (v : Sizes) (out : List ℕ) (p : PutsStream size target list item v out) (s : ℕ)
+    (same : s ≡ size) where
   from : From size target list item (p .parts)
   from = gathered size target list item (p .parts) (p .found)
 
@@ -58,10 +59,12 @@ module _ (size : ℕ) (target : Option ℕ) (list item : List ℕ) (v : Sizes) (
   rest-is : drop (v .lead) (p .parts .kept) ≡ following item (p .parts .kept)
   rest-is = rw lead-is (following-drop item (p .parts .kept))
 
-  parts-long : length (bytesAt item (leading item (p .parts .kept))) + (length (bytesAt list (p .parts .units)) + length (bytesAt item (following item (p .parts .kept)))) ≤ length out
+  parts-long : length (bytesAt item (leading item (p .parts .kept)))
+      + (length (bytesAt list (p .parts .units)) + length (bytesAt item (following item (p .parts .kept)))) ≤ length out
   parts-long =
       let e = ap length (stream-parts list item (p .parts)) in
-      let a = length-append (bytesAt item (leading item (p .parts .kept))) (bytesAt list (p .parts .units) ++ bytesAt item (following item (p .parts .kept))) in
+      let a = length-append (bytesAt item (leading item (p .parts .kept)))
+      (bytesAt list (p .parts .units) ++ bytesAt item (following item (p .parts .kept))) in
       let b = length-append (bytesAt list (p .parts .units)) (bytesAt item (following item (p .parts .kept))) in
       omega (arith, p .room)
 
@@ -102,7 +105,8 @@ module _ (size : ℕ) (target : Option ℕ) (list item : List ℕ) (v : Sizes) (
           let h = parts-long in
           record { it = p .parts .units; found = listed; room = omega arith }
 
-      module _ (b : ℕ) (both : List ℕ) (h : (b ≡ r .out + length (bytesOf (bytesAt list) (unitsLeft list c))) × (both ≡ sets led (r .out) (bytesOf (bytesAt list) (unitsLeft list c)))) where
+      module _ (b : ℕ) (both : List ℕ) (h : (b ≡ r .out + length (bytesOf (bytesAt list) (unitsLeft list c)))
+          × (both ≡ sets led (r .out) (bytesOf (bytesAt list) (unitsLeft list c)))) where
         both-out : b ≡ length (bytesAt item (leading item (p .parts .kept))) + length (bytesAt list (p .parts .units))
         both-out =
             let e : bytesOf (bytesAt list) (unitsLeft list c) ≡ bytesAt list (p .parts .units) = rw listed in
@@ -114,7 +118,8 @@ module _ (size : ℕ) (target : Option ℕ) (list item : List ℕ) (v : Sizes) (
         both-stored = h .1 ∙ rw (listed, led-out)
 
         both-long : length both ≡ length out
-        both-long = ap length both-stored ∙ length-sets led (length (bytesAt item (leading item (p .parts .kept)))) (bytesAt list (p .parts .units)) ∙ led-long
+        both-long = ap length both-stored
+            ∙ length-sets led (length (bytesAt item (leading item (p .parts .kept)))) (bytesAt list (p .parts .units)) ∙ led-long
 
         left : keptLeft s target item (r .item) ≡ accept (following item (p .parts .kept))
         left = f .next ∙ rw (all-kept, rest-is)
@@ -136,7 +141,13 @@ module _ (size : ℕ) (target : Option ℕ) (list item : List ℕ) (v : Sizes) (
             let l = both-long in
             let o = both-out in
             let h = parts-long in
-            record { walks = walks (r .item) (f .within); units = following item (p .parts .kept); found = left; enough = omega arith; room = rw rest-all (omega arith) }
+            record {
+              walks = walks (r .item) (f .within);
+              units = following item (p .parts .kept);
+              found = left;
+              enough = omega arith;
+              room = rw rest-all (omega arith);
+            }
 
         pub put-whole : (q : Places) (after : List ℕ) → FirstPut s target item (r .item) (v .kept - v .lead) both b q after
             → after ≡ sets out 0 (gatheredBytes list item (gather size target list item))
@@ -151,7 +162,8 @@ module _ (size : ℕ) (target : Option ℕ) (list item : List ℕ) (v : Sizes) (
             ∙ ap (sets out 0) (sym (stream-parts list item (p .parts)))
             ∙ ap (λ (o : Outcome Gathered). sets out 0 (gatheredBytes list item o)) (sym (p .found))
           where
-            go : (A B C : List ℕ) (b : ℕ) → b ≡ length A + length B → both ≡ sets led (length A) B → led ≡ sets out 0 A → sets both b C ≡ sets out 0 (A ++ (B ++ C))
+            go : (A B C : List ℕ) (b : ℕ) → b ≡ length A + length B → both ≡ sets led (length A) B → led ≡ sets out 0 A
+                → sets both b C ≡ sets out 0 (A ++ (B ++ C))
             go A B C b o x y =
                 let z : 0 + length A ≡ length A = omega arith in
                 let e : length A + length B ≡ b = omega arith in

@@ -24,7 +24,8 @@ pub fn access_unit_annex_b(
     tols: Target,
     out: &mut [u8],
 ) -> Written
-    ensures { λ r. ⌜ (writtenOf r, now (out .exit)) ≡ lentOutput (counted (assemble head (now (list .entry)) (now (item .entry)) (tolsOf tols))) (now (out .entry)) ⌝ }
+    ensures { λ r. ⌜ (writtenOf r, now (out .exit))
+        ≡ lentOutput (counted (assemble head (now (list .entry)) (now (item .entry)) (tolsOf tols))) (now (out .entry)) ⌝ }
 {
     let target = kept::target_of(head, tols);
     let measured = sizes::measure(list, item, head.length_size, target);

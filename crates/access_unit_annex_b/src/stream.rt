@@ -34,7 +34,8 @@ pub struct Places {
 // Stores 00 00 00 01 and the bytes at span a of `src`, and returns the place after them.
 fn put_unit(src: &[u8], a: Span, out: &mut [u8], at: usize) -> usize
     requires { ⌜ (a .start + a .len ≤ length (now src)) × (at + length startCode + a .len ≤ length (now out)) ⌝ }
-    ensures { λ r. ⌜ (r ≡ at + length startCode + a .len) × (now (out .exit) ≡ sets (now (out .entry)) at (startCode ++ held (now (src .entry)) a)) ⌝ }
+    ensures { λ r. ⌜ (r ≡ at + length startCode + a .len)
+        × (now (out .exit) ≡ sets (now (out .entry)) at (startCode ++ held (now (src .entry)) a)) ⌝ }
 {
     let unit = place::part(src, a);
     let start = at + START_CODE_LEN;
@@ -76,7 +77,8 @@ fn put_kept(
 // Stores the units of a list after a cursor, and returns the place after them.
 fn put_units(list: &[u8], c: ListCursor, out: &mut [u8], to: usize) -> usize
     requires { ⌜ Fits (now list) c × Puts (bytesAt (now list)) (unitsLeft (now list) c) (now out) to ⌝ }
-    ensures { λ r. ⌜ (r ≡ to + length (bytesOf (bytesAt (now (list .entry))) (unitsLeft (now (list .entry)) c))) × (now (out .exit) ≡ sets (now (out .entry)) to (bytesOf (bytesAt (now (list .entry))) (unitsLeft (now (list .entry)) c))) ⌝ }
+    ensures { λ r. ⌜ (r ≡ to + length (bytesOf (bytesAt (now (list .entry))) (unitsLeft (now (list .entry)) c)))
+        × (now (out .exit) ≡ sets (now (out .entry)) to (bytesOf (bytesAt (now (list .entry))) (unitsLeft (now (list .entry)) c))) ⌝ }
 {
     let mut here = c;
     let mut end = to;
@@ -99,7 +101,8 @@ pub fn put_stream(
     out: &mut [u8],
 )
     requires { ⌜ PutsStream «length_size» (tolsOf target) (now list) (now item) sizes (now out) ⌝ }
-    ensures { λ _. ⌜ now (out .exit) ≡ sets (now (out .entry)) 0 (gatheredBytes (now (list .entry)) (now (item .entry)) (gather «length_size» (tolsOf target) (now (list .entry)) (now (item .entry)))) ⌝ }
+    ensures { λ _. ⌜ now (out .exit) ≡ sets (now (out .entry)) 0
+        (gatheredBytes (now (list .entry)) (now (item .entry)) (gather «length_size» (tolsOf target) (now (list .entry)) (now (item .entry)))) ⌝ }
 {
     let ListStart::At(c) = walk::start(list) else {
         return;

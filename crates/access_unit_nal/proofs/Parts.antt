@@ -45,7 +45,8 @@ module _ (r list item : RefT (List ℕ)) where
     given : At (lying (placeOf u)) → PartOfEither r list item (sourceAt o k)
     given h = either (sourceAt o k) (subst At (ap lying said ∙ source-lies o k) h)
 
-    pub part-listed : OneOf (0 ∷ 2 ∷ 3 ∷ []) (tagOf the-type u) → PartOf r list (spanInFirst (lying (placeOf u))) → PartOfEither r list item (sourceAt o k)
+    pub part-listed : OneOf (0 ∷ 2 ∷ 3 ∷ []) (tagOf the-type u) → PartOf r list (spanInFirst (lying (placeOf u)))
+        → PartOfEither r list item (sourceAt o k)
     part-listed t h = given (go u t h)
       where
         go : (u : UnitPlace) → OneOf (0 ∷ 2 ∷ 3 ∷ []) (tagOf the-type u) → PartOf r list (spanInFirst (lying (placeOf u))) → At (lying (placeOf u))

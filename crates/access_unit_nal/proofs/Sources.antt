@@ -39,9 +39,11 @@ module _ (item : List ℕ) (g : Gathered) (k : ℕ) where
   source-leading h =
       let l = length-map (leading item (g .kept)) ofItem in
       let e : getD (g .kept) k nowhere ≡ getD (leading item (g .kept)) k nowhere =
-      ap (λ (us : List Span). getD us k nowhere) (sym (leads-and-follows item (g .kept))) ∙ List·getD-append (leading item (g .kept)) (following item (g .kept)) nowhere k h in
+      ap (λ (us : List Span). getD us k nowhere) (sym (leads-and-follows item (g .kept)))
+      ∙ List·getD-append (leading item (g .kept)) (following item (g .kept)) nowhere k h in
       sym (
-      List·getD-append (map ofItem (leading item (g .kept))) (map ofList (g .units) ++ map ofItem (following item (g .kept))) (ofList nowhere) k (omega arith)
+      List·getD-append (map ofItem (leading item (g .kept))) (map ofList (g .units) ++ map ofItem (following item (g .kept)))
+      (ofList nowhere) k (omega arith)
       ∙ getD-mapped ofItem (leading item (g .kept)) k (ofList nowhere) h
       ∙ ap ofItem (sym e))
 
@@ -52,8 +54,10 @@ module _ (item : List ℕ) (g : Gathered) (k : ℕ) where
     past-leading =
         let l = length-map (leading item (g .kept)) ofItem in
         let e : k ≡ length (map ofItem (leading item (g .kept))) + (k - length (leading item (g .kept))) = omega arith in
-        ap (λ (n : ℕ). getD (map ofItem (leading item (g .kept)) ++ (map ofList (g .units) ++ map ofItem (following item (g .kept)))) n (ofList nowhere)) e
-        ∙ getD-append-add (map ofItem (leading item (g .kept))) (map ofList (g .units) ++ map ofItem (following item (g .kept))) (k - length (leading item (g .kept))) (ofList nowhere)
+        ap (λ (n : ℕ).
+        getD (map ofItem (leading item (g .kept)) ++ (map ofList (g .units) ++ map ofItem (following item (g .kept)))) n (ofList nowhere)) e
+        ∙ getD-append-add (map ofItem (leading item (g .kept))) (map ofList (g .units) ++ map ofItem (following item (g .kept)))
+        (k - length (leading item (g .kept))) (ofList nowhere)
 
     pub source-listed : k - length (leading item (g .kept)) < length (g .units)
         → ofList (getD (g .units) (k - length (leading item (g .kept))) nowhere) ≡ getD (inOrder item g) k (ofList nowhere)
@@ -61,7 +65,8 @@ module _ (item : List ℕ) (g : Gathered) (k : ℕ) where
         let l = length-map (g .units) ofList in
         sym (
         past-leading
-        ∙ List·getD-append (map ofList (g .units)) (map ofItem (following item (g .kept))) (ofList nowhere) (k - length (leading item (g .kept))) (omega arith)
+        ∙ List·getD-append (map ofList (g .units)) (map ofItem (following item (g .kept))) (ofList nowhere)
+        (k - length (leading item (g .kept))) (omega arith)
         ∙ getD-mapped ofList (g .units) (k - length (leading item (g .kept))) (ofList nowhere) h)
 
     pub source-following : length (g .units) ≤ k - length (leading item (g .kept)) → k - length (g .units) < length (g .kept)
@@ -105,7 +110,8 @@ module _ (size : ℕ) (target : Option ℕ) (list item : List ℕ) (k : ℕ) whe
     all-of : v .listed + v .kept ≡ length (inOrder item (n .parts))
     all-of = ap (λ (w : Sizes). w .listed + w .kept) (n .sized) ∙ sym (order-length item (n .parts))
 
-    in-order : k < v .listed + v .kept → (x : Source) → x ≡ getD (inOrder item (n .parts)) k (ofList nowhere) → accept (some (sourcePlace x)) ≡ unitPlace
+    in-order : k < v .listed + v .kept → (x : Source) → x ≡ getD (inOrder item (n .parts)) k (ofList nowhere)
+        → accept (some (sourcePlace x)) ≡ unitPlace
     in-order h x e = let l = all-of in rw (n .found, e) (ap accept (nth-there sourcePlace (ofList nowhere) (inOrder item (n .parts)) k (omega arith)))
 
     lead-of : v .lead ≡ length (leading item (n .parts .kept))
@@ -122,14 +128,17 @@ module _ (size : ℕ) (target : Option ℕ) (list item : List ℕ) (k : ℕ) whe
 
     pub has-kept : (j : ℕ) → j < v .kept → Walks s item 0 × HasKept s target item j
     has-kept j h =
-        let y = kept-of in
-        (rw same (record { some = made .some; four = made .four; within = omega arith; lent = made .lent }), record { units = n .parts .kept; found = found-all; within = omega arith })
+        let y = kept-of in (
+          rw same (record { some = made .some; four = made .four; within = omega arith; lent = made .lent }),
+          record { units = n .parts .kept; found = found-all; within = omega arith },
+        )
 
     pub at-leading : k < v .lead → (a : Span) → a ≡ found (keptLeft s target item 0) k → accept (some (inSecond a)) ≡ unitPlace
     at-leading h a e =
         let x = lead-of in
         let l = lead-kept in
-        in-order (omega arith) (ofItem a) (ap ofItem (e ∙ ap (λ (o : Outcome (List Span)). found o k) found-all) ∙ source-leading item (n .parts) k (omega arith))
+        in-order (omega arith) (ofItem a)
+        (ap ofItem (e ∙ ap (λ (o : Outcome (List Span)). found o k) found-all) ∙ source-leading item (n .parts) k (omega arith))
 
     module _ (after : v .lead ≤ k) where
       pub at-listed : k - v .lead < v .listed → placeFound inFirst (listUnits list) (k - v .lead) ≡ unitPlace
@@ -140,10 +149,12 @@ module _ (size : ℕ) (target : Option ℕ) (list item : List ℕ) (k : ℕ) whe
           let j : k - v .lead ≡ k - length (leading item (n .parts .kept)) = omega arith in
           rw (made .listed, j) (
           sym (ap accept (nth-there inFirst nowhere (n .parts .units) (k - length (leading item (n .parts .kept))) (omega arith)))
-          ∙ in-order (omega arith) (ofList (getD (n .parts .units) (k - length (leading item (n .parts .kept))) nowhere)) (source-listed item (n .parts) k (omega arith) (omega arith)))
+          ∙ in-order (omega arith) (ofList (getD (n .parts .units) (k - length (leading item (n .parts .kept))) nowhere))
+          (source-listed item (n .parts) k (omega arith) (omega arith)))
 
       module _ (past : v .listed ≤ k - v .lead) where
-        pub at-following : k - v .listed < v .kept → (a : Span) → a ≡ found (keptLeft s target item 0) (k - v .listed) → accept (some (inSecond a)) ≡ unitPlace
+        pub at-following : k - v .listed < v .kept → (a : Span) → a ≡ found (keptLeft s target item 0) (k - v .listed)
+            → accept (some (inSecond a)) ≡ unitPlace
         at-following h a e =
             let x = lead-of in
             let y = listed-of in
@@ -157,7 +168,9 @@ module _ (size : ℕ) (target : Option ℕ) (list item : List ℕ) (k : ℕ) whe
             ∙ source-following item (n .parts) k (omega arith) (omega arith) (omega arith))
 
         pub at-past : v .kept ≤ k - v .listed → accept none ≡ unitPlace
-        at-past h = let l = lead-kept in place-past sourcePlace (sources size target list item) k (v .listed + v .kept) (rw (n .found, ← all-of)) (omega arith)
+        at-past h =
+            let l = lead-kept in
+            place-past sourcePlace (sources size target list item) k (v .listed + v .kept) (rw (n .found, ← all-of)) (omega arith)
 
     -- kept unit j is unit k
     pub record KeptAt (j : ℕ) : Type 0 where

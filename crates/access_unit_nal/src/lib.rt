@@ -21,7 +21,8 @@ pub fn access_unit_nal_at(
     tols: Target,
     k: usize,
 ) -> UnitPlace
-    ensures { λ r. ⌜ (placeOf r ≡ placeFound sourcePlace (accessUnit head (now (list .entry)) (now (item .entry)) (tolsOf tols)) k) × PlaceFits (now (list .entry)) (now (item .entry)) r ⌝ }
+    ensures { λ r. ⌜ (placeOf r ≡ placeFound sourcePlace (accessUnit head (now (list .entry)) (now (item .entry)) (tolsOf tols)) k)
+        × PlaceFits (now (list .entry)) (now (item .entry)) r ⌝ }
 {
     let target = kept::target_of(head, tols);
     source::source_at(list, item, head.length_size, target, k)
@@ -36,7 +37,8 @@ pub fn access_unit_nal<'a>(
     tols: Target,
     k: usize,
 ) -> &'a [u8]
-    ensures { λ r. ⌜ PartOfEither r (list .entry) (item .entry) (sourceAt (accessUnit head (now (list .entry)) (now (item .entry)) (tolsOf tols)) k) ⌝ }
+    ensures { λ r. ⌜ PartOfEither r (list .entry) (item .entry)
+        (sourceAt (accessUnit head (now (list .entry)) (now (item .entry)) (tolsOf tols)) k) ⌝ }
 {
     let unit = access_unit_nal_at(head, list, item, tols, k);
     let UnitPlace::Second(a) = unit else {

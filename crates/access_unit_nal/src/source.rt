@@ -48,7 +48,8 @@ fn number_of(sizes: Sizes, k: usize) -> UnitNumber
 // The next kept unit from a place of an item on.
 fn next_kept(item: &[u8], size: usize, target: Target, from: usize) -> NextUnit
     requires { ⌜ Walks size (now item) from ⌝ }
-    ensures { λ r. ⌜ (keptStepped size (tolsOf target) (now (item .entry)) r ≡ keptLeft size (tolsOf target) (now (item .entry)) from) × Onward (now (item .entry)) from r ⌝ }
+    ensures { λ r. ⌜ (keptStepped size (tolsOf target) (now (item .entry)) r ≡ keptLeft size (tolsOf target) (now (item .entry)) from)
+        × Onward (now (item .entry)) from r ⌝ }
 {
     let mut at = from;
     loop {
@@ -86,7 +87,8 @@ fn kept_unit(item: &[u8], size: usize, target: Target, k: usize) -> Span
 
 // Where unit k of an access unit lies. Refusals: 23, 21, 4, then in byte order 1 and 5, 19.
 pub fn source_at(list: &[u8], item: &[u8], length_size: u8, target: Target, k: usize) -> UnitPlace
-    ensures { λ r. ⌜ (placeOf r ≡ placeFound sourcePlace (sources «length_size» (tolsOf target) (now (list .entry)) (now (item .entry))) k) × PlaceFits (now (list .entry)) (now (item .entry)) r ⌝ }
+    ensures { λ r. ⌜ (placeOf r ≡ placeFound sourcePlace (sources «length_size» (tolsOf target) (now (list .entry)) (now (item .entry))) k)
+        × PlaceFits (now (list .entry)) (now (item .entry)) r ⌝ }
 {
     let measured = sizes::measure(list, item, length_size, target);
     match measured {

@@ -29,21 +29,25 @@ pub answer-refused : {x : Parsed ℕ} {r : BitsRead} {e : Refusal} → parsed r 
 answer-refused h e = sym h ∙ ap parsed e
 
 -- the read returned a value, and the chain goes on after it
-pub bind-value : {B : Type 0} {x : Parsed ℕ} {r : BitsRead} {v : ℕ} {q : BitPosition} (f : ℕ → ℕ → Parsed B) → parsed r ≡ x → r ≡ Value v q → bind x f ≡ f v (q .0)
+pub bind-value : {B : Type 0} {x : Parsed ℕ} {r : BitsRead} {v : ℕ} {q : BitPosition} (f : ℕ → ℕ → Parsed B) → parsed r ≡ x → r ≡ Value v q
+    → bind x f ≡ f v (q .0)
 bind-value f h e = ap (λ y. bind y f) (answer-value h e)
 
 -- the read was refused, and the chain ends with its number
-pub bind-refused : {B : Type 0} {x : Parsed ℕ} {r : BitsRead} {e n : Refusal} (f : ℕ → ℕ → Parsed B) → parsed r ≡ x → r ≡ Refused e → n ≡ refusalOf r → bind x f ≡ refused (numberOf n)
+pub bind-refused : {B : Type 0} {x : Parsed ℕ} {r : BitsRead} {e n : Refusal} (f : ℕ → ℕ → Parsed B) → parsed r ≡ x → r ≡ Refused e → n ≡ refusalOf r
+    → bind x f ≡ refused (numberOf n)
 bind-refused f h e g = ap (λ y. bind y f) (answer-refused h e) ∙ ap (λ m. refused (numberOf m)) (sym (g ∙ ap refusalOf e))
 
 -- ---- a chain without branches: each read comes after the answer before it
 
 -- the answer before is a value, and the read comes after it
-pub read-after : {before : BitsRead} {v : ℕ} {q : BitPosition} (P : ℕ → Parsed ℕ) (r : BitsRead) → before ≡ Value v q → parsed r ≡ P (q .0) → parsed r ≡ bind (parsed before) (λ _ t. P t)
+pub read-after : {before : BitsRead} {v : ℕ} {q : BitPosition} (P : ℕ → Parsed ℕ) (r : BitsRead) → before ≡ Value v q → parsed r ≡ P (q .0)
+    → parsed r ≡ bind (parsed before) (λ _ t. P t)
 read-after P r e h = h ∙ sym (ap (λ y. bind (parsed y) (λ _ t. P t)) e)
 
 -- the same of bits passed over, which have no number
-pub passed-after : {before : BitsRead} {v : ℕ} {q : BitPosition} (P : ℕ → Parsed (Unit {0})) (r : BitsRead) → before ≡ Value v q → parsed r ≡ bind (P (q .0)) (λ _ t. value 0 t)
+pub passed-after : {before : BitsRead} {v : ℕ} {q : BitPosition} (P : ℕ → Parsed (Unit {0})) (r : BitsRead) → before ≡ Value v q
+    → parsed r ≡ bind (P (q .0)) (λ _ t. value 0 t)
     → partAfter r tt ≡ bind (parsed before) (λ _ t. P t)
 passed-after {q = q} P r e h = ap (λ y. bind y (λ _ t. value tt t)) h ∙ go (P (q .0)) ∙ sym (ap (λ y. bind (parsed y) (λ _ t. P t)) e)
   where
@@ -52,7 +56,8 @@ passed-after {q = q} P r e h = ap (λ y. bind y (λ _ t. value tt t)) h ∙ go (
     go (refused n) = refl
 
 -- the chain goes on after the first read's answer, with its number
-pub bind-number : {B : Type 0} {x : Parsed ℕ} (r : BitsRead) (f : ℕ → ℕ → Parsed B) → parsed r ≡ x → bind x f ≡ bind (parsed r) (λ _ q. f (numberIn r) q)
+pub bind-number : {B : Type 0} {x : Parsed ℕ} (r : BitsRead) (f : ℕ → ℕ → Parsed B) → parsed r ≡ x
+    → bind x f ≡ bind (parsed r) (λ _ q. f (numberIn r) q)
 bind-number {B} r f h = ap (λ y. bind y f) (sym h) ∙ go r
   where
     go : (a : BitsRead) → bind (parsed a) f ≡ bind (parsed a) (λ _ q. f (numberIn a) q)
@@ -71,7 +76,8 @@ bind-next {B} before r P f h = go before ∙ bind-number r f h
 -- ---- sections of such a chain, each with what was read beside its last answer
 
 -- the chain goes on after the first section's last read, with what the section holds
-pub bind-part : {A B : Type 0} {x : Parsed A} (r : BitsRead) (a : A) (f : A → ℕ → Parsed B) → partAfter r a ≡ x → bind x f ≡ bind (parsed r) (λ _ q. f a q)
+pub bind-part : {A B : Type 0} {x : Parsed A} (r : BitsRead) (a : A) (f : A → ℕ → Parsed B) → partAfter r a ≡ x
+    → bind x f ≡ bind (parsed r) (λ _ q. f a q)
 bind-part {A} {B} r a f h = ap (λ y. bind y f) (sym h) ∙ go r
   where
     go : (d : BitsRead) → bind (partAfter d a) f ≡ bind (parsed d) (λ _ q. f a q)
@@ -79,7 +85,8 @@ bind-part {A} {B} r a f h = ap (λ y. bind y f) (sym h) ∙ go r
     go (Refused e) = refl
 
 -- and after that of each section that follows
-pub bind-next-part : {A B : Type 0} (prior r : BitsRead) (P : ℕ → Parsed A) (a : A) (f : A → ℕ → Parsed B) → partAfter r a ≡ bind (parsed prior) (λ _ q. P q)
+pub bind-next-part : {A B : Type 0} (prior r : BitsRead) (P : ℕ → Parsed A) (a : A) (f : A → ℕ → Parsed B)
+    → partAfter r a ≡ bind (parsed prior) (λ _ q. P q)
     → bind (parsed prior) (λ _ q. bind (P q) f) ≡ bind (parsed r) (λ _ q. f a q)
 bind-next-part {A} {B} prior r P a f h = go prior ∙ bind-part r a f h
   where
@@ -93,7 +100,8 @@ part-in g (Value v q) a = refl
 part-in g (Refused e) a = refl
 
 -- a section whose last read was refused, with any value beside it
-pub part-refused : {A : Type 0} {x : Parsed A} {i d : BitsRead} {e : Refusal} (f : ℕ → ℕ → Parsed A) (a : A) → x ≡ bind (parsed i) f → d ≡ i → i ≡ Refused e → partAfter d a ≡ x
+pub part-refused : {A : Type 0} {x : Parsed A} {i d : BitsRead} {e : Refusal} (f : ℕ → ℕ → Parsed A) (a : A) → x ≡ bind (parsed i) f → d ≡ i
+    → i ≡ Refused e → partAfter d a ≡ x
 part-refused f a chain h k = ap (λ y. partAfter y a) (h ∙ k) ∙ sym (chain ∙ ap (λ y. bind (parsed y) f) k)
 
 -- the number of an answer has no more bits than were read; it is 0 for a refused one
@@ -107,7 +115,8 @@ number-low-after n s (Refused e) (Value v q) h = let z : _≡_ {A = ℕ} 0 1 = c
 number-low-after n s (Refused e) (Refused d) h = pow-pos n
 
 -- the same of a number that is not read, and 0, where a test fails
-pub number-low-if : (b : Bool) (n : ℕ) (s : List ℕ) (prior r : BitsRead) → parsed r ≡ bind (parsed prior) (λ _ q. (if b then u n else give 0) s q) → numberIn r < 2 ^ n
+pub number-low-if : (b : Bool) (n : ℕ) (s : List ℕ) (prior r : BitsRead) → parsed r ≡ bind (parsed prior) (λ _ q. (if b then u n else give 0) s q)
+    → numberIn r < 2 ^ n
 number-low-if true n s prior r h = number-low-after n s prior r h
 number-low-if false n s (Value w p) (Value v q) h = let z : v ≡ 0 = cc in omega (arith, pow-pos n)
 number-low-if false n s (Refused d) (Value v q) h = let z : _≡_ {A = ℕ} 0 1 = cc in absurd (omega arith)
@@ -123,6 +132,7 @@ pub passed-for-read : {B : Type 0} (n : ℕ) (s : List ℕ) (p : ℕ) (f : ℕ �
 unfolding u skip
 passed-for-read {B} n s p f = go (leb (p + n) (8 * length s))
   where
-    go : (b : Bool) → bind (if b then value (bitsAt s p n) (p + n) else refused 11) (λ _ q. f q) ≡ bind {A = ℕ} (bind {A = Unit {0}} (if b then value tt (p + n) else refused 11) (λ _ q. value 0 q)) (λ _ q. f q)
+    go : (b : Bool) → bind (if b then value (bitsAt s p n) (p + n) else refused 11) (λ _ q. f q)
+        ≡ bind {A = ℕ} (bind {A = Unit {0}} (if b then value tt (p + n) else refused 11) (λ _ q. value 0 q)) (λ _ q. f q)
     go true = refl
     go false = refl

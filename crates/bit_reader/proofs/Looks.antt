@@ -106,7 +106,8 @@ module _ {A B : Type 0} (n k : ℕ) (P : Parser A) (Q : A → Parser B) (l : Loo
   }
 
 -- the same where the value does not matter, also for P >> Q
-pub local-bind : {A B : Type 0} (n k : ℕ) {P : Parser A} {Q : A → Parser B} → LooksWithin n P → ((a : A) → LooksWithin k (Q a)) → LooksWithin (n + k) (P >>= Q)
+pub local-bind : {A B : Type 0} (n k : ℕ) {P : Parser A} {Q : A → Parser B} → LooksWithin n P
+    → ((a : A) → LooksWithin k (Q a)) → LooksWithin (n + k) (P >>= Q)
 local-bind n k {P} {Q} l g = local-bind-of n k P Q l (λ a s p q e. g a)
 
 pub local-times : {A : Type 0} (n k : ℕ) {P : Parser A} → LooksWithin k P → LooksWithin (n * k) (times n P)

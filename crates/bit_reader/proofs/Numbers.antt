@@ -43,7 +43,8 @@ pub u-read : (n : ℕ) (s : List ℕ) (p v q : ℕ) → u n s p ≡ value v q �
 unfolding u
 u-read n s p v q = go (leb (p + n) (8 * length s)) refl
   where
-    go : (b : Bool) → leb (p + n) (8 * length s) ≡ b → _≡_ {A = Parsed ℕ} (if b then value (bitsAt s p n) (p + n) else refused 11) (value v q) → Read n s p v q
+    go : (b : Bool) → leb (p + n) (8 * length s) ≡ b
+        → _≡_ {A = Parsed ℕ} (if b then value (bitsAt s p n) (p + n) else refused 11) (value v q) → Read n s p v q
     go true t e =
         let a : bitsAt s p n ≡ v = cc in
         let b : p + n ≡ q = cc in
@@ -59,7 +60,8 @@ pub skip-read : (n : ℕ) (s : List ℕ) (p q : ℕ) → skip n s p ≡ value tt
 unfolding skip
 skip-read n s p q = go (leb (p + n) (8 * length s)) refl
   where
-    go : (b : Bool) → leb (p + n) (8 * length s) ≡ b → _≡_ {A = Parsed (Unit {0})} (if b then value tt (p + n) else refused 11) (value tt q) → Passed n s p q
+    go : (b : Bool) → leb (p + n) (8 * length s) ≡ b
+        → _≡_ {A = Parsed (Unit {0})} (if b then value tt (p + n) else refused 11) (value tt q) → Passed n s p q
     go true t e = let b : p + n ≡ q = cc in record { next = sym b; within = omega (arith, leb-true (p + n) (8 * length s) t) }
     go false t e = let z : _≡_ {A = ℕ} 0 1 = cc in absurd (omega arith)
 
@@ -112,7 +114,8 @@ module _ (s : List ℕ) (z g p y q : ℕ) (more : (t : ℕ) → zerosBeforeOne (
       record { few = omega arith; next = omega arith }
   chosen false t h e = let r = more t e in record { few = omega arith; next = omega arith }
 
-  turn : (r : Parsed ℕ) → u 1 s p ≡ r → bind r (λ b t. (if isSet b then give z else zerosBeforeOne (z + 1) g) s t) ≡ value y q → Counted s z (suc g) p y q
+  turn : (r : Parsed ℕ) → u 1 s p ≡ r → bind r (λ b t. (if isSet b then give z else zerosBeforeOne (z + 1) g) s t) ≡ value y q
+      → Counted s z (suc g) p y q
   turn (value b t) h e = chosen (isSet b) t (u-read 1 s p b t h .next) e
   turn (refused r) h e = let o : _≡_ {A = ℕ} 0 1 = cc in absurd (omega arith)
 

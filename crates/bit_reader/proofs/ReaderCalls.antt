@@ -117,7 +117,8 @@ module _ {M : Type 1} (𝓤 : URA M) (H : Heap 𝓤) (A : Atoms 𝓤) (mem : Mem
       asks-new W =
           qed W (Token ∷ lent ∷ []) ∵
           move ! (1 ∷ []) $ fsplit ! $ use1 W (‵ OwnBytes ⊛ ‵ OwnBytes) (shr-slice-copy 𝓤 H A W (named 0) κ u8 .twice s (valOf s ∷ [])) $ split ! $
-          move ! (0 ∷ 2 ∷ []) $ fjoin ! $ move ! (2 ∷ 0 ∷ []) $ use2 W (raw (New .pre to-new)) (qed W (Token ∷ lent ∷ []) ∵ join ! $ frame ! $ done !) $ frame ! $ done !
+          move ! (0 ∷ 2 ∷ []) $ fjoin ! $ move ! (2 ∷ 0 ∷ []) $
+          use2 W (raw (New .pre to-new)) (qed W (Token ∷ lent ∷ []) ∵ join ! $ frame ! $ done !) $ frame ! $ done !
 
       pub new-says : (d : BitReader) → ent 𝓤 (ensured 𝓤 H A new.ended (new.clauses 𝓤 H A mem run) (κ, tt) (s, tt) tt d) (fact 𝓤 (AtStart s d))
       new-says d = exE 𝓤 _ (λ ws. snd∗ 𝓤 (sem 𝓤 H A (lasts new.ended (κ, tt) (s, tt) ws)) (fact 𝓤 (AtStart s d)))
@@ -134,9 +135,11 @@ module _ {M : Type 1} (𝓤 : URA M) (H : Heap 𝓤) (A : Atoms 𝓤) (mem : Mem
         pub asks-u : Given 𝓤 H A → n ≤ 32 → length (d .src .now) ≤ 2 ^ 30 → ent 𝓤 (⋆ 𝓤 H A (mine ∷ Token ∷ [])) (U .pre to-u)
         asks-u W le few =
             qed W (mine ∷ Token ∷ []) ∵ says ! (le, few) $
-            nothing ! $ owned ! usize (Is usize) (uint-makes 𝓤 H A W w64) n _ (refl, fits n le) $ fjoin ! $ move ! (1 ∷ 0 ∷ []) $ fjoin ! $ move ! (1 ∷ 0 ∷ []) $ frame ! $ done !
+            nothing ! $ owned ! usize (Is usize) (uint-makes 𝓤 H A W w64) n _ (refl, fits n le) $ fjoin ! $ move ! (1 ∷ 0 ∷ []) $ fjoin ! $
+            move ! (1 ∷ 0 ∷ []) $ frame ! $ done !
 
-        pub u-says : (t : ReaderStep) → ent 𝓤 (ensured 𝓤 H A u′.ended (u′.clauses 𝓤 H A mem run) (κ, tt) (d, (n, tt)) tt t) (fact 𝓤 (Stepped (u n) d t))
+        pub u-says : (t : ReaderStep)
+            → ent 𝓤 (ensured 𝓤 H A u′.ended (u′.clauses 𝓤 H A mem run) (κ, tt) (d, (n, tt)) tt t) (fact 𝓤 (Stepped (u n) d t))
         u-says t = exE 𝓤 _ (λ ws. snd∗ 𝓤 (sem 𝓤 H A (lasts u′.ended (κ, tt) (d, (n, tt)) ws)) (fact 𝓤 (Stepped (u n) d t)))
 
         abbrev pub to-skip : Skip .Ghost
@@ -145,9 +148,11 @@ module _ {M : Type 1} (𝓤 : URA M) (H : Heap 𝓤) (A : Atoms 𝓤) (mem : Mem
         pub asks-skip : Given 𝓤 H A → n < 2 ^ 64 → length (d .src .now) ≤ 2 ^ 30 → ent 𝓤 (⋆ 𝓤 H A (mine ∷ Token ∷ [])) (Skip .pre to-skip)
         asks-skip W lt few =
             qed W (mine ∷ Token ∷ []) ∵ says ! few $
-            nothing ! $ owned ! usize (Is usize) (uint-makes 𝓤 H A W w64) n _ (refl, lt) $ fjoin ! $ move ! (1 ∷ 0 ∷ []) $ fjoin ! $ move ! (1 ∷ 0 ∷ []) $ frame ! $ done !
+            nothing ! $ owned ! usize (Is usize) (uint-makes 𝓤 H A W w64) n _ (refl, lt) $ fjoin ! $ move ! (1 ∷ 0 ∷ []) $ fjoin ! $
+            move ! (1 ∷ 0 ∷ []) $ frame ! $ done !
 
-        pub skip-says : (t : ReaderStep) → ent 𝓤 (ensured 𝓤 H A skip′.ended (skip′.clauses 𝓤 H A mem run) (κ, tt) (d, (n, tt)) tt t) (fact 𝓤 (Stepped (skipping n) d t))
+        pub skip-says : (t : ReaderStep)
+            → ent 𝓤 (ensured 𝓤 H A skip′.ended (skip′.clauses 𝓤 H A mem run) (κ, tt) (d, (n, tt)) tt t) (fact 𝓤 (Stepped (skipping n) d t))
         skip-says t = exE 𝓤 _ (λ ws. snd∗ 𝓤 (sem 𝓤 H A (lasts skip′.ended (κ, tt) (d, (n, tt)) ws)) (fact 𝓤 (Stepped (skipping n) d t)))
 
       -- ---- `ue`, `align` and `bit_position`
@@ -166,7 +171,8 @@ module _ {M : Type 1} (𝓤 : URA M) (H : Heap 𝓤) (A : Atoms 𝓤) (mem : Mem
       pub asks-align : Given 𝓤 H A → d .pos .0 ≤ 2 ^ 60 → ent 𝓤 (⋆ 𝓤 H A (mine ∷ Token ∷ [])) (Align .pre to-align)
       asks-align W le = qed W (mine ∷ Token ∷ []) ∵ says ! le $ nothing ! $ move ! (1 ∷ 0 ∷ []) $ fjoin ! $ move ! (1 ∷ 0 ∷ []) $ frame ! $ done !
 
-      pub align-says : (r : BitReader) → ent 𝓤 (ensured 𝓤 H A align′.ended (align′.clauses 𝓤 H A mem run) (κ, tt) (d, tt) tt r) (fact 𝓤 (AlignedFrom d r))
+      pub align-says : (r : BitReader)
+          → ent 𝓤 (ensured 𝓤 H A align′.ended (align′.clauses 𝓤 H A mem run) (κ, tt) (d, tt) tt r) (fact 𝓤 (AlignedFrom d r))
       align-says r = exE 𝓤 _ (λ ws. snd∗ 𝓤 (sem 𝓤 H A (lasts align′.ended (κ, tt) (d, tt) ws)) (fact 𝓤 (AlignedFrom d r)))
 
       abbrev pub to-position : PositionOf .Ghost
@@ -175,5 +181,6 @@ module _ {M : Type 1} (𝓤 : URA M) (H : Heap 𝓤) (A : Atoms 𝓤) (mem : Mem
       pub asks-position : Given 𝓤 H A → ent 𝓤 (⋆ 𝓤 H A (mine ∷ Token ∷ [])) (PositionOf .pre to-position)
       asks-position W = qed W (mine ∷ Token ∷ []) ∵ nothing ! $ move ! (1 ∷ 0 ∷ []) $ fjoin ! $ move ! (1 ∷ 0 ∷ []) $ join ! $ frame ! $ done !
 
-      pub position-says : (p : BitPosition) → ent 𝓤 (ensured 𝓤 H A position′.ended (position′.clauses 𝓤 H A mem run) (κ, tt) (d, tt) tt p) (fact 𝓤 (p ≡ d .pos))
+      pub position-says : (p : BitPosition)
+          → ent 𝓤 (ensured 𝓤 H A position′.ended (position′.clauses 𝓤 H A mem run) (κ, tt) (d, tt) tt p) (fact 𝓤 (p ≡ d .pos))
       position-says p = exE 𝓤 _ (λ ws. snd∗ 𝓤 (sem 𝓤 H A (lasts position′.ended (κ, tt) (d, tt) ws)) (fact 𝓤 (p ≡ d .pos)))

@@ -101,7 +101,8 @@ stepTo d a p = record { answer = a; reader = movedTo d p }
 abbrev pub LeftAt : BitsRead → BitPosition → BitPosition → Type 0
 LeftAt a at p = p .0 ≡ readerPlaceAfter (parsed a) (at .0)
 
-pub stepped : (X : Parser ℕ) (d : BitReader) (a : BitsRead) (p : BitPosition) → parsed a ≡ X (now (d .src)) (d .pos .0) → LeftAt a (d .pos) p → Stepped X d (stepTo d a p)
+pub stepped : (X : Parser ℕ) (d : BitReader) (a : BitsRead) (p : BitPosition) → parsed a ≡ X (now (d .src)) (d .pos .0) → LeftAt a (d .pos) p
+    → Stepped X d (stepTo d a p)
 stepped X d a p read left = record { answer = read; bytes = refl; place = left ∙ ap (λ (x : Parsed ℕ). readerPlaceAfter x (d .pos .0)) read }
 
 -- ---- what is owned at a lifetime
@@ -135,37 +136,47 @@ module _ {M : Type 1} (𝓤 : URA M) (H : Heap 𝓤) (A : Atoms 𝓤) (W : Given
     pub lends : ent 𝓤 (sem 𝓤 H A (OwnReader ℓ d)) (sep 𝓤 (sem 𝓤 H A (OwnSlice ℓ d)) (sem 𝓤 H A (OwnReader ℓ d)))
     lends =
         qed W (‵ (OwnReader ℓ d) ∷ []) ∵
-        use1 W (‵ (OwnReader ℓ d) ⊛ ‵ (OwnReader ℓ d)) (LL.copy (Reader.the-type ℓ) (Reader′.the-copy ℓ) 𝓤 H A W .twice d (Reader′.lowered d ∷ [])) $ split ! $
-        use1 W (given (Reader′.lowered d ∷ [] ≡ Reader′.lowered d ∷ []) (‵ (all-own (Reader.the-type ℓ .parts) (Reader′.the-laws ℓ) parts))) (own-open 𝓤 H A W (Reader.the-type ℓ) (Reader′.the-laws ℓ) parts (Reader′.lowered d)) $ learn ! (λ _.
-        use1 W (‵ (OwnSlice ℓ d) ⊛ ‵ (rest (Reader.the-type ℓ .parts) (Reader′.the-laws ℓ) 0 parts)) (own-out 𝓤 H A W (Reader.the-type ℓ .parts) (Reader′.the-laws ℓ) 0 parts) $ split ! $
+        use1 W (‵ (OwnReader ℓ d) ⊛ ‵ (OwnReader ℓ d)) (LL.copy (Reader.the-type ℓ) (Reader′.the-copy ℓ) 𝓤 H A W .twice d (Reader′.lowered d ∷ [])) $
+        split ! $
+        use1 W (given (Reader′.lowered d ∷ [] ≡ Reader′.lowered d ∷ []) (‵ (all-own (Reader.the-type ℓ .parts) (Reader′.the-laws ℓ) parts)))
+        (own-open 𝓤 H A W (Reader.the-type ℓ) (Reader′.the-laws ℓ) parts (Reader′.lowered d)) $ learn ! (λ _.
+        use1 W (‵ (OwnSlice ℓ d) ⊛ ‵ (rest (Reader.the-type ℓ .parts) (Reader′.the-laws ℓ) 0 parts))
+        (own-out 𝓤 H A W (Reader.the-type ℓ .parts) (Reader′.the-laws ℓ) 0 parts) $ split ! $
         -- [what the slice owns; what the position owns; what the reader owns]
         move ! (1 ∷ []) $ drop ! $ done !)
 
     -- the reader at another position, and that reader in a step
     pub moves : (p : BitPosition) → PositionIs p → ent 𝓤 (sem 𝓤 H A (OwnReader ℓ d)) (sem 𝓤 H A (OwnReader ℓ (movedTo d p)))
     moves p is =
-        qed W (‵ (OwnReader ℓ d) ∷ []) ∵ owned ! Position.the-row (Is Position.the-row) (LL.makes Position.the-type Position′.the-plain 𝓤 H A) p _ is $ move ! (1 ∷ 0 ∷ []) $
+        qed W (‵ (OwnReader ℓ d) ∷ []) ∵
+        owned ! Position.the-row (Is Position.the-row) (LL.makes Position.the-type Position′.the-plain 𝓤 H A) p _ is $ move ! (1 ∷ 0 ∷ []) $
         by ! (own-put 𝓤 H A W (Reader.the-type ℓ) (Reader′.the-laws ℓ) 1 parts p (Reader′.lowered d))
 
-    pub steps : (a : BitsRead) (p : BitPosition) → AnswerIs a → PositionIs p → ent 𝓤 (sem 𝓤 H A (OwnReader ℓ d)) (sem 𝓤 H A (OwnStep ℓ (stepTo d a p)))
+    pub steps : (a : BitsRead) (p : BitPosition) → AnswerIs a → PositionIs p
+        → ent 𝓤 (sem 𝓤 H A (OwnReader ℓ d)) (sem 𝓤 H A (OwnStep ℓ (stepTo d a p)))
     steps a p is is′ =
         qed W (‵ (OwnReader ℓ d) ∷ []) ∵ use1 W (‵ (OwnReader ℓ (movedTo d p))) (moves p is′) $ nothing ! $ move ! (1 ∷ 0 ∷ []) $ fjoin ! $
         owned ! Answer.the-row (Is Answer.the-row) (EL.makes Answer.the-type Answer′.the-plain 𝓤 H A) a _ is $ fjoin ! $
         by ! (own-shut 𝓤 H A W (Step.the-type ℓ) (Step′.the-laws ℓ) (a, (movedTo d p, tt)))
 
     -- its machine value has the step's type
-    pub step-typed : (a : BitsRead) (p : BitPosition) → AnswerIs a → PositionIs p → Holds (hasTy (Reader′.mir (ℓ .mir)) (Reader′.lowered d)) × WT (Reader′.lowered d)
+    pub step-typed : (a : BitsRead) (p : BitPosition) → AnswerIs a → PositionIs p
+        → Holds (hasTy (Reader′.mir (ℓ .mir)) (Reader′.lowered d)) × WT (Reader′.lowered d)
         → Holds (hasTy (Step′.mir (ℓ .mir)) (stepVal (stepTo d a p))) × WT (stepVal (stepTo d a p))
     step-typed a p is is′ wt =
-        let answer = answer-typed 𝓤 H A W a (answerVal a) is in
-        (holds-and (hasTy Answer′.mir (answerVal a)) (answer .0), (answer .1, ((wt .1 .0, (position-typed 𝓤 H A W p (Position′.lowered p) is′ .1, tt)), tt)))
+        let answer = answer-typed 𝓤 H A W a (answerVal a) is in (
+          holds-and (hasTy Answer′.mir (answerVal a)) (answer .0),
+          (answer .1, ((wt .1 .0, (position-typed 𝓤 H A W p (Position′.lowered p) is′ .1, tt)), tt)),
+        )
 
   -- the reader that a step returns
   pub hands-on : (t : ReaderStep) → ent 𝓤 (sem 𝓤 H A (OwnStep ℓ t)) (sem 𝓤 H A (OwnReader ℓ (t .reader)))
   hands-on t =
       qed W (‵ (OwnStep ℓ t) ∷ []) ∵
-      use1 W (given (stepVal t ∷ [] ≡ stepVal t ∷ []) (‵ (all-own (Step.the-type ℓ .parts) (Step′.the-laws ℓ) (t .answer, (t .reader, tt))))) (own-open 𝓤 H A W (Step.the-type ℓ) (Step′.the-laws ℓ) (t .answer, (t .reader, tt)) (stepVal t)) $ learn ! (λ _.
-      use1 W (‵ (OwnReader ℓ (t .reader)) ⊛ ‵ (rest (Step.the-type ℓ .parts) (Step′.the-laws ℓ) 1 (t .answer, (t .reader, tt)))) (own-out 𝓤 H A W (Step.the-type ℓ .parts) (Step′.the-laws ℓ) 1 (t .answer, (t .reader, tt))) $ split ! $
+      use1 W (given (stepVal t ∷ [] ≡ stepVal t ∷ []) (‵ (all-own (Step.the-type ℓ .parts) (Step′.the-laws ℓ) (t .answer, (t .reader, tt)))))
+      (own-open 𝓤 H A W (Step.the-type ℓ) (Step′.the-laws ℓ) (t .answer, (t .reader, tt)) (stepVal t)) $ learn ! (λ _.
+      use1 W (‵ (OwnReader ℓ (t .reader)) ⊛ ‵ (rest (Step.the-type ℓ .parts) (Step′.the-laws ℓ) 1 (t .answer, (t .reader, tt))))
+      (own-out 𝓤 H A W (Step.the-type ℓ .parts) (Step′.the-laws ℓ) 1 (t .answer, (t .reader, tt))) $ split ! $
       move ! (1 ∷ []) $ drop ! $ done !)
 
 -- ---- the call of `after`, whose parameters are plain
@@ -179,8 +190,11 @@ module _ {M : Type 1} (𝓤 : URA M) (H : Heap 𝓤) (A : Atoms 𝓤) (mem : Mem
 
     pub asks-after : Given 𝓤 H A → AnswerIs a → PositionIs at → ent 𝓤 (emp 𝓤) (After .pre to-after)
     asks-after W is is′ =
-        qed W [] ∵ nothing ! $ owned ! Position.the-row (Is Position.the-row) (LL.makes Position.the-type Position′.the-plain 𝓤 H A) at _ is′ $ fjoin ! $
-        owned ! Answer.the-row (Is Answer.the-row) (EL.makes Answer.the-type Answer′.the-plain 𝓤 H A) a _ is $ fjoin ! $ nothing ! $ join ! $ frame ! $ done !
+        qed W [] ∵ nothing ! $
+        owned ! Position.the-row (Is Position.the-row) (LL.makes Position.the-type Position′.the-plain 𝓤 H A) at _ is′ $ fjoin ! $
+        owned ! Answer.the-row (Is Answer.the-row) (EL.makes Answer.the-type Answer′.the-plain 𝓤 H A) a _ is $ fjoin ! $ nothing ! $
+        join ! $ frame ! $ done !
 
-    pub after-says : (p : BitPosition) → ent 𝓤 (ensured 𝓤 H A after.ended (after.clauses 𝓤 H A mem run) tt (a, (at, tt)) tt p) (fact 𝓤 (LeftAt a at p))
+    pub after-says : (p : BitPosition)
+        → ent 𝓤 (ensured 𝓤 H A after.ended (after.clauses 𝓤 H A mem run) tt (a, (at, tt)) tt p) (fact 𝓤 (LeftAt a at p))
     after-says p = exE 𝓤 _ (λ ws. snd∗ 𝓤 (sem 𝓤 H A (lasts after.ended tt (a, (at, tt)) ws)) (fact 𝓤 (LeftAt a at p)))

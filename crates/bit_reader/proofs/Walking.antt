@@ -23,14 +23,17 @@ module _ {M : Type 1} {𝓤 : URA M} {H : Heap 𝓤} {A : Atoms 𝓤} {K : Type 
       → (T : Item 𝓤) (R : RattleType) (val : R .Denot → Val) → ((x : R .Denot) (z : Val) → Is R x (z ∷ []) → z ≡ val x)
       → (P : R .Denot → SProp 𝓤) (φ : R .Denot → Type 0) → ((x : R .Denot) → ent 𝓤 (P x) (fact 𝓤 (φ x)))
       → ent 𝓤 Q (mean 𝓤 H A (later (some (λ (x : R .Denot). (T ⊛ ‵ (R .own x (w ∷ []))) ⊛ raw (P x)))))
-      → ((x : R .Denot) → φ x → Is R x (val x ∷ []) → Seq K W (‵ (R .own x (val x ∷ [])) ∷ T ∷ Γ) (lands C Λ E d (val x) rest q)) → Seq K W (raw Q ∷ Γ) (lands C Λ E d w rest q)
+      → ((x : R .Denot) → φ x → Is R x (val x ∷ []) → Seq K W (‵ (R .own x (val x ∷ [])) ∷ T ∷ Γ) (lands C Λ E d (val x) rest q))
+      → Seq K W (raw Q ∷ Γ) (lands C Λ E d w rest q)
   gave t {C} {Λ} {E} {d} {rest} {q} {w} {Q} T R val tells P φ says is-post k =
       use1 W (later (some (λ (x : R .Denot). (T ⊛ ‵ (R .own x (w ∷ []))) ⊛ raw (P x)))) is-post $ await t tt $ pick t (λ x.
       split t $ move t (1 ∷ []) $ use1 W (raw (fact 𝓤 (φ x))) (says x) $ heard t (φ x) (λ h. split t $ move t (1 ∷ []) $
       peeks t R (Is R) (shows 𝓤 H A R) x (w ∷ []) (λ is.
       let e = tells x w is in
-      subst (λ (v : Val). Seq K W (‵ (R .own x (v ∷ [])) ∷ T ∷ Γ) (lands C Λ E d v rest q)) (sym e) (k x h (subst (λ (v : Val). Is R x (v ∷ [])) e is)))))
+      subst (λ (v : Val). Seq K W (‵ (R .own x (v ∷ [])) ∷ T ∷ Γ) (lands C Λ E d v rest q)) (sym e)
+      (k x h (subst (λ (v : Val). Is R x (v ∷ [])) e is)))))
 
   -- a local's cell is forgotten, and its room goes
-  pub leave : K → {τ : Ty} {b : ℕ} {v : Val} {E : Env 𝓤 H} {g : Goal 𝓤 H} → Step K W Γ (frees E g) (‵ (fat fullShare τ b zero v) ∷ ‵ (fdies τ b) ∷ Γ) (frees ((τ, b) ∷ E) g)
+  pub leave : K → {τ : Ty} {b : ℕ} {v : Val} {E : Env 𝓤 H} {g : Goal 𝓤 H}
+      → Step K W Γ (frees E g) (‵ (fat fullShare τ b zero v) ∷ ‵ (fdies τ b) ∷ Γ) (frees ((τ, b) ∷ E) g)
   leave t = step (λ s. forget t 0 refl $ free1 t $ s)

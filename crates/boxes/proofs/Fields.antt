@@ -67,7 +67,8 @@ module _ (w : ℕ) (s : List ℕ) (p : ℕ) where
         | no k ↦ absurd (let x = sym (chunk-short (omega arith)) ∙ e in let z : _≡_ {A = ℕ} 0 1 = cc in omega arith)
       ]
     where
-      there : p + w + be s p w ≤ length s → _≡_ {A = Parsed Span} (value (record { start = p + w; len = be s p w }) (p + w + be s p w)) (value a q) → Chunk a q
+      there : p + w + be s p w ≤ length s
+          → _≡_ {A = Parsed Span} (value (record { start = p + w; len = be s p w }) (p + w + be s p w)) (value a q) → Chunk a q
       there k x =
           let y : record { start = p + w; len = be s p w } ≡ a = cc in
           let z : p + w + be s p w ≡ q = cc in
@@ -81,15 +82,19 @@ module _ (w : ℕ) (s u t : List ℕ) (fits : length u < 256 ^ w) where
   pub chunk-toChunk : chunk w (s ++ (toChunk w u ++ t)) (length s) ≡ value (record { start = length s + w; len = length u }) (length s + w + length u)
   unfolding toChunk
   chunk-toChunk =
-      let n : be (s ++ ((toBe w (length u) ++ u) ++ t)) (length s) w ≡ length u = rw (append-assoc (toBe w (length u)) u t) (be-toBe-at s w (length u) (u ++ t) fits) in
+      let n : be (s ++ ((toBe w (length u) ++ u) ++ t)) (length s) w ≡ length u =
+      rw (append-assoc (toBe w (length u)) u t) (be-toBe-at s w (length u) (u ++ t) fits) in
       let l : length (s ++ ((toBe w (length u) ++ u) ++ t)) ≡ length s + (w + length u + length t) =
       simp (length-append, length-toBe) in
       chunk-there w (s ++ ((toBe w (length u) ++ u) ++ t)) (length s) (omega arith) ∙ rw n
 
   pub held-toChunk : held (s ++ (toChunk w u ++ t)) (record { start = length s + w; len = length u }) ≡ u
   unfolding toChunk
-  held-toChunk =
-      rw (drop-append-add s ((toBe w (length u) ++ u) ++ t) w, append-assoc (toBe w (length u)) u t, drop-at (toBe w (length u)) (u ++ t) w (length-toBe w (length u)))
+  held-toChunk = rw (
+    drop-append-add s ((toBe w (length u) ++ u) ++ t) w,
+    append-assoc (toBe w (length u)) u t,
+    drop-at (toBe w (length u)) (u ++ t) w (length-toBe w (length u)),
+  )
       (take-at u t (length u) refl)
 
 -- the public field's answers, in the order of their tests

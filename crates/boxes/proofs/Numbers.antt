@@ -49,7 +49,8 @@ be-toBe zero n t h = omega arith
 be-toBe (suc w) n t h =
     rw (append-assoc (toBe w (n / 256)) (n % 256 ∷ []) t)
     (let a : be (toBe w (n / 256) ++ (n % 256 ∷ t)) 0 w ≡ n / 256 = be-toBe w (n / 256) (n % 256 ∷ t) (omega arith) in
-    let b : getD (toBe w (n / 256) ++ (n % 256 ∷ t)) (0 + w) 0 ≡ n % 256 = getD-at (toBe w (n / 256)) (n % 256) t 0 (0 + w) (let l = length-toBe w (n / 256) in omega arith) in
+    let b : getD (toBe w (n / 256) ++ (n % 256 ∷ t)) (0 + w) 0 ≡ n % 256 =
+    getD-at (toBe w (n / 256)) (n % 256) t 0 (0 + w) (let l = length-toBe w (n / 256) in omega arith) in
     omega arith)
 
 pub be-toBe-at : (s : List ℕ) (w n : ℕ) (t : List ℕ) → n < 256 ^ w → be (s ++ (toBe w n ++ t)) (length s) w ≡ n

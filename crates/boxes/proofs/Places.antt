@@ -68,8 +68,11 @@ module _ {A : Type 0} (lies : A → Place) where
     place-lies (accept xs) k = nth-lying xs k
     place-lies (refuse e) k = sym front
 
-pub place-there : (o : Outcome (List Span)) (k n : ℕ) → countFound o ≡ accept n → k < n → (a : Span) → a ≡ found o k → accept (some (inFirst a)) ≡ placeFound inFirst o k
-place-there (accept xs) k n e h a f = let l : length xs ≡ n = cc in ap (λ (b : Span). accept (some (inFirst b))) f ∙ ap accept (nth-there inFirst nowhere xs k (omega arith))
+pub place-there : (o : Outcome (List Span)) (k n : ℕ) → countFound o ≡ accept n → k < n → (a : Span) → a ≡ found o k
+    → accept (some (inFirst a)) ≡ placeFound inFirst o k
+place-there (accept xs) k n e h a f =
+    let l : length xs ≡ n = cc in
+    ap (λ (b : Span). accept (some (inFirst b))) f ∙ ap accept (nth-there inFirst nowhere xs k (omega arith))
 place-there (refuse m) k n e h a f = let z : _≡_ {A = ℕ} 0 1 = cc in absurd (omega arith)
 
 -- a call that is lent one slice returns the part at the unit found

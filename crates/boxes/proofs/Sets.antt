@@ -17,11 +17,13 @@ sets-copied d u ys i h e =
     let m : length (drop i d) ≡ length d - i = length-drop i d in
     let t : take (length d - i) (drop i d) ≡ drop i d = take-all (length d - i) (drop i d) (omega arith) in
     let z : drop (length d - i) (drop i d) ≡ [] = drop-of-length-le (drop i d) {i = length d - i} (omega arith) in
-    rw (e, t, z, take-length u, drop-drop (length u) i d, append-nil) (sym (append-assoc (take i d) u (drop (i + length u) d)) ∙ sym (sets-eq u d i h))
+    rw (e, t, z, take-length u, drop-drop (length u) i d, append-nil)
+    (sym (append-assoc (take i d) u (drop (i + length u) d)) ∙ sym (sets-eq u d i h))
 
 -- the same of bytes copied through a block: its front holds the source
 pub sets-by-block : (d s z b ys : List ℕ) (n i : ℕ) → n ≡ length s → b ≡ take (length s) s ++ drop (length s) z → i + length s ≤ length d
-    → ys ≡ take (length (take n b)) (take n b) ++ drop (length (take n b)) (take (length d - i) (drop i d)) → putMid i (length d - i) d ys ≡ sets d i s
+    → ys ≡ take (length (take n b)) (take n b) ++ drop (length (take n b)) (take (length d - i) (drop i d))
+    → putMid i (length d - i) d ys ≡ sets d i s
 sets-by-block d s z b ys n i l e h f =
     let t : b ≡ s ++ drop (length s) z = e ∙ ap (λ (x : List ℕ). x ++ drop (length s) z) (take-length s) in
     let u : take n b ≡ s = ap (take n) t ∙ take-at s (drop (length s) z) n (sym l) in

@@ -18,7 +18,8 @@ use Rattle.unit_list.specs.UnitList.{unitsOf, encodeUnits}
 use Rattle.unit_list.specs.Answers.{listUnits}
 use Rattle.unit_list.proofs.Arrays.{sound-none, sound-more}
 use Rattle.unit_list.proofs.Encode.{UnitsRead, units-encode}
-use Rattle.compact.specs.Compact.{compactRecord, CompactParsed, oneArray, parsedWith, parseCompact, allAtMost, compactBytes, serializeCompact, configOf, compactFirstByte}
+use Rattle.compact.specs.Compact.{compactRecord, CompactParsed, oneArray, parsedWith, parseCompact}
+use Rattle.compact.specs.Compact.{allAtMost, compactBytes, serializeCompact, configOf, compactFirstByte}
 use Rattle.compact.specs.inner.Units.{recordUnits}
 use Rattle.compact.specs.declared.CompactVvcConfig.{CompactVvcConfig}
 use Rattle.unit_list.proofs.StoredUnits.{room-more}
@@ -83,7 +84,8 @@ module _ (s : List ℕ) (all : AllBytes s) where
         let n : r ≡ suc p + a .len = omega (arith, c .len, c .next) in
         let t : take (a .len) (drop (suc p) s) ++ drop (suc p + a .len) s ≡ drop (suc p) s =
         ap (λ (x : List ℕ). take (a .len) (drop (suc p) s) ++ x) (sym (drop-drop (a .len) (suc p) s)) ∙ take-append-drop (a .len) (drop (suc p) s) in
-        rw (b, append-assoc (held s a) (unitBytes 1 s us) (drop q s), rest .stand, n, one, t) (sym (drop-cons s p 0 (omega (arith, c .next, c .fits))))
+        rw (b, append-assoc (held s a) (unitBytes 1 s us) (drop q s), rest .stand, n, one, t)
+        (sym (drop-cons s p 0 (omega (arith, c .next, c .fits))))
 
     from-more : UnitsFrom s p (a ∷ us) q
     unfolding allAtMost
@@ -113,7 +115,8 @@ module _ (s : List ℕ) (all : AllBytes s) where
       let y : t ≡ q = cc in
       rw (← x, ← y) (from-more p a r c vs t (h vs t refl))
 
-  from-first : (p : ℕ) (x : Parsed Span) (R : ℕ → Parsed (List Span)) (us : List Span) (q : ℕ) → ((a : Span) (r : ℕ) → x ≡ value a r → Chunk 1 s p a r)
+  from-first : (p : ℕ) (x : Parsed Span) (R : ℕ → Parsed (List Span)) (us : List Span) (q : ℕ)
+      → ((a : Span) (r : ℕ) → x ≡ value a r → Chunk 1 s p a r)
       → ((r : ℕ) → r ≤ length s → (vs : List Span) (t : ℕ) → R r ≡ value vs t → UnitsFrom s r vs t)
       → bind x (λ a r. bind (R r) (λ vs t. value (a ∷ vs) t)) ≡ value us q → UnitsFrom s p us q
   from-first p (refused m) R us q c h e = absurd (let z : _≡_ {A = ℕ} 0 1 = cc in omega arith)
@@ -156,7 +159,8 @@ taken s r list e =
     never : (n : ℕ) → parseCompact s ≡ refuse n → ⊥
     never n f = let z : _≡_ {A = ℕ} 0 1 = cc in omega arith
 
-    ended : length s ≤ 2 ^ 30 → 1 ≤ length s → (us : List Span) (q : ℕ) → recordUnits s (getD s 0 0 % 32 + 2) ≡ value us q → length s ≤ q → Taken s r list
+    ended : length s ≤ 2 ^ 30 → 1 ≤ length s → (us : List Span) (q : ℕ) → recordUnits s (getD s 0 0 % 32 + 2) ≡ value us q
+        → length s ≤ q → Taken s r list
     ended h k us q f g =
         let x : parsedWith s (configOf (getD s 0 0), us) ≡ (r, list) = cc (parse-given s h k _ refl us q f g) in
         record {
@@ -239,7 +243,8 @@ module _ (C : List ℕ) (all : AllBytes C) (r : CompactParsed) (list : List ℕ)
         size-four = rw (k .config) (omega arith);
         lent = k .lent;
         list-lent = rw (k .list-is) long;
-        read = subst (λ (y : List ℕ). UnitsRead y (listUnits y) (map (held C) (k .spans))) (sym (k .list-is)) (units-one (map (held C) (k .spans)) long);
+        read =
+            subst (λ (y : List ℕ). UnitsRead y (listUnits y) (map (held C) (k .spans))) (sym (k .list-is)) (units-one (map (held C) (k .spans)) long);
         written = again k f l x;
       }
     where
@@ -247,7 +252,8 @@ module _ (C : List ℕ) (all : AllBytes C) (r : CompactParsed) (list : List ℕ)
           → compactBytes (r .config) (map (held C) (k .spans)) ≡ accept C
       again k f l x =
           let z : drop (k .last) C ≡ [] = drop-of-length-le C {i = k .last} (omega arith) in
-          let t : unitBytes 1 C (k .spans) ≡ drop 1 C = sym (append-nil (unitBytes 1 C (k .spans))) ∙ ap (λ (y : List ℕ). unitBytes 1 C (k .spans) ++ y) (sym z) ∙ f .stand in
+          let t : unitBytes 1 C (k .spans) ≡ drop 1 C = sym (append-nil (unitBytes 1 C (k .spans)))
+          ∙ ap (λ (y : List ℕ). unitBytes 1 C (k .spans) ++ y) (sym z) ∙ f .stand in
           rw (k .config)
           (bytes-given (configOf (getD C 0 0)) (map (held C) (k .spans)) (omega arith) (omega arith) (omega arith) (omega arith) (f .small)
           ∙ rw (l, t, first-again (getD C 0 0) (all 0)) (ap accept (sym (drop-cons C 0 0 (k .some)))))

@@ -12,7 +12,8 @@ use Rattle.compact.specs.Compact.{allAtMost, compactBytes, compactFirstB
 use Rattle.compact.specs.declared.CompactVvcConfig.{CompactVvcConfig}
 
 -- when all tests pass
-pub bytes-given : (c : CompactVvcConfig) (us : List (List ℕ)) → 1 ≤ c .«length_size» → c .«length_size» ≤ 4 → 2 ≤ length us → length us ≤ 33 → allAtMost 255 us ≡ true
+pub bytes-given : (c : CompactVvcConfig) (us : List (List ℕ)) → 1 ≤ c .«length_size» → c .«length_size» ≤ 4 → 2 ≤ length us → length us ≤ 33
+    → allAtMost 255 us ≡ true
     → compactBytes c us ≡ accept (compactFirstByte c (length us) ∷ encodeUnits 1 us)
 unfolding compactBytes
 bytes-given c us one four two most h =

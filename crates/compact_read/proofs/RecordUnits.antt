@@ -111,7 +111,8 @@ measured-refused s (refused m) n e = let z : m ≡ n = cc in ap refused z
 
 -- the list stored part by part
 pub list-stored : (s : List ℕ) (o : Outcome (List Span)) (out d e f : List ℕ) (room to : ℕ) → Puts (unitBytes 4 s) o out to
-    → room ≡ length (bytesOf (unitBytes 4 s) o) → d ≡ set out 0 1 → e ≡ sets d 1 (toBe 4 (2 + room) ++ (0 ∷ 0 ∷ [])) → f ≡ sets e 7 (bytesOf (unitBytes 4 s) o)
+    → room ≡ length (bytesOf (unitBytes 4 s) o) → d ≡ set out 0 1 → e ≡ sets d 1 (toBe 4 (2 + room) ++ (0 ∷ 0 ∷ []))
+    → f ≡ sets e 7 (bytesOf (unitBytes 4 s) o)
     → f ≡ sets out 0 (foundList s o)
 list-stored s (refuse n) out d e f room to h l x y z = absurd (let w = h .found in let z : _≡_ {A = ℕ} 0 1 = cc in omega arith)
 list-stored s (accept us) out d e f room to h l x y z =

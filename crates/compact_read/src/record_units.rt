@@ -83,8 +83,10 @@ pub fn record_room(record: &[u8]) -> RecordRoom
 
 // Stores `count` units of the record from place `to` on, each after a length of four bytes.
 fn put_units(record: &[u8], count: usize, out: &mut [u8], to: usize)
-    requires { ⌜ (1 ≤ length (now «record»)) × (length (now «record») ≤ 2 ^ 30) × Puts (unitBytes 4 (now «record»)) (outcome (recordUnits (now «record») count)) (now out) to ⌝ }
-    ensures { λ _. ⌜ now (out .exit) ≡ sets (now (out .entry)) to (bytesOf (unitBytes 4 (now («record» .entry))) (outcome (recordUnits (now («record» .entry)) count))) ⌝ }
+    requires { ⌜ (1 ≤ length (now «record»)) × (length (now «record») ≤ 2 ^ 30)
+        × Puts (unitBytes 4 (now «record»)) (outcome (recordUnits (now «record») count)) (now out) to ⌝ }
+    ensures { λ _. ⌜ now (out .exit)
+        ≡ sets (now (out .entry)) to (bytesOf (unitBytes 4 (now («record» .entry))) (outcome (recordUnits (now («record» .entry)) count))) ⌝ }
 {
     let mut left = count;
     let mut at: usize = 1;
@@ -102,8 +104,11 @@ fn put_units(record: &[u8], count: usize, out: &mut [u8], to: usize)
 
 // Stores the list of `count` units, which take `room` bytes: version, the head of the one array, the units.
 pub fn put_list(record: &[u8], count: usize, room: usize, out: &mut [u8])
-    requires { ⌜ (1 ≤ length (now «record»)) × (length (now «record») ≤ 2 ^ 30) × Puts (unitBytes 4 (now «record»)) (outcome (recordUnits (now «record») count)) (now out) 7 × (room ≡ length (bytesOf (unitBytes 4 (now «record»)) (outcome (recordUnits (now «record») count)))) ⌝ }
-    ensures { λ _. ⌜ now (out .exit) ≡ sets (now (out .entry)) 0 (foundList (now («record» .entry)) (outcome (recordUnits (now («record» .entry)) count))) ⌝ }
+    requires { ⌜ (1 ≤ length (now «record»)) × (length (now «record») ≤ 2 ^ 30)
+        × Puts (unitBytes 4 (now «record»)) (outcome (recordUnits (now «record») count)) (now out) 7
+        × (room ≡ length (bytesOf (unitBytes 4 (now «record»)) (outcome (recordUnits (now «record») count)))) ⌝ }
+    ensures { λ _. ⌜ now (out .exit)
+        ≡ sets (now (out .entry)) 0 (foundList (now («record» .entry)) (outcome (recordUnits (now («record» .entry)) count))) ⌝ }
 {
     place::put(out, 0, 1);
     write::put_array_head(out, 1, 2 + room, 0, 0);

@@ -43,7 +43,8 @@ module _ (s : List ℕ) (a : Span) (inside : a .start + a .len ≤ length s) (v 
   adding-more us =
       let l = held-long s a inside in
       let n : v .count + 1 + length us ≡ v .count + length (a ∷ us) = omega arith in
-      let k : v .room + 1 + a .len + length (unitBytes 1 s us) ≡ v .room + length (unitBytes 1 s (a ∷ us)) = omega (arith, room-more 1 s a inside us) in
+      let k : v .room + 1 + a .len + length (unitBytes 1 s us) ≡ v .room + length (unitBytes 1 s (a ∷ us)) =
+      omega (arith, room-more 1 s a inside us) in
       rw (l, n, k, and-assoc (v .fits) (leb (a .len) 255) (allAtMost 255 (map (held s) us)))
 
   pub summed-more : (o : Outcome (List Span)) → summed s (addingUnit (a .len) v) o ≡ summed s v (more a o)
@@ -68,7 +69,8 @@ module _ (s : List ℕ) (c : ListCursor) where
   pub summing-start : Fits s c → Summing s c c noUnits
   summing-start h = record { fits = h; few = omega arith; whole = refl }
 
-  module _ (here : ListCursor) (v : RecordSum) (i : Summing s c here v) (r : ListStep) (f : (stepped s r ≡ typedUnitsFrom s here) × StepFits s here r) where
+  module _ (here : ListCursor) (v : RecordSum) (i : Summing s c here v) (r : ListStep)
+      (f : (stepped s r ≡ typedUnitsFrom s here) × StepFits s here r) where
     pub summing-end : r ≡ L.End → (accept v ≡ summed s noUnits (unitsLeft s c)) × (v .room ≤ 2 ^ 32)
     summing-end e = (
       ap accept (sym (adding-none s v)) ∙ ap (summed s v) (sym (list-end s here r f e)) ∙ i .whole,
@@ -174,7 +176,8 @@ module _ (c : CompactVvcConfig) (s : List ℕ) (o : Outcome (List Span)) (v : Re
   recorded =
       ap (compactRecordOf c s) (m .found)
       ∙ rw (units-long, ← m .fits, m .found)
-      (go (outside (c .«length_size»)) (not (leb 2 (v .count) && leb (v .count) 33)) (not (v .fits)) (compactFirstByte c (v .count) ∷ unitBytes 1 s (m .units)))
+      (go (outside (c .«length_size»)) (not (leb 2 (v .count) && leb (v .count) 33)) (not (v .fits))
+      (compactFirstByte c (v .count) ∷ unitBytes 1 s (m .units)))
     where
       go : (a b f : Bool) (bytes : List ℕ)
           → (if a then refuse 4 else if b then refuse 8 else if f then refuse 9 else accept bytes)
@@ -187,7 +190,8 @@ module _ (c : CompactVvcConfig) (s : List ℕ) (o : Outcome (List Span)) (v : Re
   pub record-refused : (n : ℕ) → refuse n ≡ recordLength c v → compactRecordOf c s o ≡ refuse n
   record-refused n e = recorded ∙ rw (← e)
 
-  pub record-given : (n : ℕ) → accept n ≡ recordLength c v → compactRecordOf c s o ≡ accept (compactFirstByte c (v .count) ∷ bytesOf (unitBytes 1 s) o)
+  pub record-given : (n : ℕ) → accept n ≡ recordLength c v
+      → compactRecordOf c s o ≡ accept (compactFirstByte c (v .count) ∷ bytesOf (unitBytes 1 s) o)
   record-given n e = recorded ∙ rw (← e)
 
   pub record-room : length (compactFirstByte c (v .count) ∷ bytesOf (unitBytes 1 s) o) ≡ 1 + v .room

@@ -111,8 +111,10 @@ fn first_byte(config: CompactVvcConfig, count: usize) -> u8
 
 // Stores the record of the `count` units after a cursor: the first byte, then the units.
 fn store_record(config: CompactVvcConfig, count: usize, list: &[u8], c: ListCursor, out: &mut [u8])
-    requires { ⌜ (1 ≤ config .«length_size») × (config .«length_size» ≤ 4) × (2 ≤ count) × (count ≤ 33) × Fits (now list) c × Puts (unitBytes 1 (now list)) (unitsLeft (now list) c) (now out) 1 ⌝ }
-    ensures { λ _. ⌜ now (out .exit) ≡ sets (now (out .entry)) 0 (compactFirstByte config count ∷ bytesOf (unitBytes 1 (now (list .entry))) (unitsLeft (now (list .entry)) c)) ⌝ }
+    requires { ⌜ (1 ≤ config .«length_size») × (config .«length_size» ≤ 4) × (2 ≤ count) × (count ≤ 33) × Fits (now list) c
+        × Puts (unitBytes 1 (now list)) (unitsLeft (now list) c) (now out) 1 ⌝ }
+    ensures { λ _. ⌜ now (out .exit)
+        ≡ sets (now (out .entry)) 0 (compactFirstByte config count ∷ bytesOf (unitBytes 1 (now (list .entry))) (unitsLeft (now (list .entry)) c)) ⌝ }
 {
     let first = first_byte(config, count);
     place::put(out, 0, first);
@@ -139,7 +141,8 @@ fn record_len(config: CompactVvcConfig, sum: RecordSum) -> Counted
 // Writes the record of the units after a cursor. Refusals: 21, 4, 8, 9, 20.
 pub fn put_compact(config: CompactVvcConfig, list: &[u8], c: ListCursor, out: &mut [u8]) -> Written
     requires { ⌜ Fits (now list) c ⌝ }
-    ensures { λ r. ⌜ (writtenOf r, now (out .exit)) ≡ lentOutput (counted (compactRecordOf config (now (list .entry)) (unitsLeft (now (list .entry)) c))) (now (out .entry)) ⌝ }
+    ensures { λ r. ⌜ (writtenOf r, now (out .exit))
+        ≡ lentOutput (counted (compactRecordOf config (now (list .entry)) (unitsLeft (now (list .entry)) c))) (now (out .entry)) ⌝ }
 {
     let ListSum::Sum(sum) = units_sum(list, c) else {
         return Written::Refused(Refusal::UnitList);

@@ -26,7 +26,8 @@ use Rattle.parse.proofs.General.{sets-front}
 abbrev pub Given : Type 0
 Given = (Outcome FullHead × VvcConfig) × List ℕ
 
-pub expanded-refused : (o : Outcome (FullHead × List ℕ)) (out : List ℕ) (n : ℕ) → o ≡ refuse n → _≡_ {A = Given} ((refuse n, zeroHead), out) (expandedGiven o out)
+pub expanded-refused : (o : Outcome (FullHead × List ℕ)) (out : List ℕ) (n : ℕ) → o ≡ refuse n
+    → _≡_ {A = Given} ((refuse n, zeroHead), out) (expandedGiven o out)
 expanded-refused o out n e = rw e
 
 module _ (h : VvcConfig) (us : List (List ℕ)) (out : List ℕ) where

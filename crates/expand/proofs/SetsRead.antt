@@ -66,7 +66,8 @@ module _ (us : List (List ℕ)) where
   unfolding multiLayerVps
   single-layer b e = rw e
 
-  pub multi-layer : (b : Bool) → b ≡ true → (r : PtlRead) → vpsPtlOf r ≡ ptlOrZeros (firstVpsPtl 16 us) → paramsReadOf (r .answer) tt ≡ multiLayerVps b us
+  pub multi-layer : (b : Bool) → b ≡ true → (r : PtlRead) → vpsPtlOf r ≡ ptlOrZeros (firstVpsPtl 16 us)
+      → paramsReadOf (r .answer) tt ≡ multiLayerVps b us
   unfolding multiLayerVps
   multi-layer b e r f =
       rw e
@@ -101,7 +102,8 @@ unfolding expandUnits
 sets-units c pic us = go (multiLayerVps (c .«multi_layer_flag») us)
   where
     go : (o : Outcome (Unit {0}))
-        → andThen o (λ _. andThen (orRefuse 17 (firstElement (havingType 15 us))) (λ unit. andThen (parseSps unit) (λ sps. andThen (ptlOfSets sps us) (λ ptl. withUnits (expandedHead c pic ptl) us))))
+        → andThen o (λ _. andThen (orRefuse 17 (firstElement (havingType 15 us)))
+        (λ unit. andThen (parseSps unit) (λ sps. andThen (ptlOfSets sps us) (λ ptl. withUnits (expandedHead c pic ptl) us))))
         ≡ andThen (andThen o (λ _. firstSpsPtl us)) (λ ptl. withUnits (expandedHead c pic ptl) us)
     go (refuse n) = refl
     go (accept x) = find (orRefuse 17 (firstElement (havingType 15 us)))
@@ -113,7 +115,8 @@ sets-units c pic us = go (multiLayerVps (c .«multi_layer_flag») us)
         find (accept unit) = sym (and-then (parseSps unit) (λ sps. ptlOfSets sps us) (λ ptl. withUnits (expandedHead c pic ptl) us))
 
 module _ (c : CompactVvcConfig) (pic : Picture) (us : List (List ℕ)) where
-  pub sets-read : (ptl : VvcPtlRecord) → setsPtl (c .«multi_layer_flag») us ≡ accept ptl → expandUnits c pic us ≡ withUnits (expandedHead c pic ptl) us
+  pub sets-read : (ptl : VvcPtlRecord) → setsPtl (c .«multi_layer_flag») us ≡ accept ptl
+      → expandUnits c pic us ≡ withUnits (expandedHead c pic ptl) us
   sets-read ptl e = sets-units c pic us ∙ ap (λ (o : Outcome VvcPtlRecord). andThen o (λ p. withUnits (expandedHead c pic p) us)) e
 
   pub sets-refused : (n : ℕ) → setsPtl (c .«multi_layer_flag») us ≡ refuse n → expandUnits c pic us ≡ refuse n

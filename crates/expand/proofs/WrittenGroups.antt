@@ -40,7 +40,12 @@ module _ (us : List (List ℕ)) (g : Groupable us) where
   groups-fit (t ∷ ts) e =
       let k = having-le t us in
       let n = g .count in
-      rw (le-leb (length (havingType t us)) 65535 (omega arith), units-fit (havingType t us) (every-having t _ us (g .short)), one-fits t (e .0 .0), groups-fit ts (e .1))
+      rw (
+        le-leb (length (havingType t us)) 65535 (omega arith),
+        units-fit (havingType t us) (every-having t _ us (g .short)),
+        one-fits t (e .0 .0),
+        groups-fit ts (e .1),
+      )
 
   pub grouped-fit : arraysFit (grouped us) ≡ true
   unfolding grouped

@@ -76,7 +76,8 @@ fn expand_units(
     out: &mut [u8],
 ) -> Expanded
     requires { ⌜ Readable (now list) c ⌝ }
-    ensures { λ r. ⌜ (expandedOf r, now (out .exit)) ≡ expandedGiven (expandUnits config picture (unitsAt (now (list .entry)) c)) (now (out .entry)) ⌝ }
+    ensures { λ r. ⌜ (expandedOf r, now (out .exit))
+        ≡ expandedGiven (expandUnits config picture (unitsAt (now (list .entry)) c)) (now (out .entry)) ⌝ }
 {
     let flag = config.multi_layer_flag;
     let read = parameter_sets::sets_ptl(flag, list, c);

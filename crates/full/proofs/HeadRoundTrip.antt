@@ -25,8 +25,8 @@ use Rattle.boxes.proofs.PrefixSizes.{size-fits}
 
 -- PTL p, written with n sublayers, is read as q
 abbrev pub ReadsAs : VvcPtlRecord → ℕ → VvcPtlRecord → Type 0
-ReadsAs p sublayers q =
-    (pre post : List ℕ) → vvcPtlRecord sublayers (pre ++ (ptlBytes p sublayers ++ post)) (length pre) ≡ value q (length pre + length (ptlBytes p sublayers))
+ReadsAs p sublayers q = (pre post : List ℕ)
+    → vvcPtlRecord sublayers (pre ++ (ptlBytes p sublayers ++ post)) (length pre) ≡ value q (length pre + length (ptlBytes p sublayers))
 
 -- every value under the flag fits its field
 pub record Small (h : VvcConfig) : Type 0 where
@@ -137,7 +137,8 @@ module _ (h : VvcConfig) (q : VvcPtlRecord) (sm : Small h) (wide : Wide h) (read
         z,
         subl,
         ptl-there,
-        number-there 2 s pre3 (toBe 2 (h .«max_picture_height») ++ (toBe 2 (h .«avg_frame_rate») ++ post)) (h .«max_picture_width») (p + 3 + length ptlOf) e3 l3 (wide .width),
+        number-there 2 s pre3 (toBe 2 (h .«max_picture_height») ++ (toBe 2 (h .«avg_frame_rate») ++ post)) (h .«max_picture_width»)
+            (p + 3 + length ptlOf) e3 l3 (wide .width),
         number-there 2 s pre4 (toBe 2 (h .«avg_frame_rate») ++ post) (h .«max_picture_height») (p + 3 + length ptlOf + 2) e4 l4 (wide .height),
         number-there 2 s (pre4 ++ toBe 2 (h .«max_picture_height»)) post (h .«avg_frame_rate») (p + 3 + length ptlOf + 2 + 2) e5 l5 (wide .rate),
         ols,
@@ -154,7 +155,8 @@ pub record Writable (h : VvcConfig) (q : VvcPtlRecord) : Type 0 where
   pub wide : Wide h
   pub reads : h .«ptl_present_flag» ≡ true → ReadsAs (h .«native_ptl») (h .«num_sublayers») q
 
-module _ (h : VvcConfig) (q : VvcPtlRecord) (w : Writable h q) (s pre post : List ℕ) (p : ℕ) (e : s ≡ pre ++ (headBytes h ++ post)) (l : length pre ≡ p) where
+module _ (h : VvcConfig) (q : VvcPtlRecord) (w : Writable h q) (s pre post : List ℕ) (p : ℕ) (e : s ≡ pre ++ (headBytes h ++ post))
+    (l : length pre ≡ p) where
   abbrev firstByte : ℕ
   firstByte = 248 + (h .«length_size» - 1) * 2 + bit (h .«ptl_present_flag»)
 
@@ -186,7 +188,8 @@ module _ (h : VvcConfig) (q : VvcPtlRecord) (w : Writable h q) (s pre post : Lis
   split = e
 
   under : (c : Bool) → h .«ptl_present_flag» ≡ c
-      → (if eqb (bit c) 1 then headWithPtl (h .«length_size») else (λ s p. value (plainHead (h .«length_size»)) p)) s (p + 1) ≡ value (readBack c h q) (p + 1 + length (announced c))
+      → (if eqb (bit c) 1 then headWithPtl (h .«length_size») else (λ s p. value (plainHead (h .«length_size»)) p)) s (p + 1)
+      ≡ value (readBack c h q) (p + 1 + length (announced c))
   under true c =
       let f : ptlPartFits h ≡ true = subst (λ (d : Bool). (if d then ptlPartFits h else true) ≡ true) c (parts .2) in
       let g : s ≡ (pre ++ (firstByte ∷ [])) ++ (ptlPart h ++ post) =

@@ -65,7 +65,8 @@ array-long : (a : Array (List ℕ)) → length (arrayBytes a) ≤ 3 + length (en
 unfolding arrayBytes
 array-long a = go (holdsOne (a .unitType))
   where
-    go : (b : Bool) → suc (length ((if b then [] else toBe 2 (length (a .units))) ++ encodeUnits 2 (a .units))) ≤ 3 + length (encodeUnits 2 (a .units))
+    go : (b : Bool)
+        → suc (length ((if b then [] else toBe 2 (length (a .units))) ++ encodeUnits 2 (a .units))) ≤ 3 + length (encodeUnits 2 (a .units))
     go true = omega arith
     go false = omega (arith, length-append (toBe 2 (length (a .units))) (encodeUnits 2 (a .units)), length-toBe 2 (length (a .units)))
 
@@ -96,7 +97,8 @@ arrays-room (a ∷ xs) e =
 
 -- A record written from a list of at most 2^30 bytes has at most 2^30 bytes: from 552 units on it is no longer than the list, and with fewer it is
 -- far shorter.
-pub record-lent : (h : VvcConfig) → Typed h → (xs : List (Array (List ℕ))) → recordFits h xs ≡ true → length (encode xs) ≤ 2 ^ 30 → length (fullBytes h xs) ≤ 2 ^ 30
+pub record-lent : (h : VvcConfig) → Typed h → (xs : List (Array (List ℕ))) → recordFits h xs ≡ true → length (encode xs) ≤ 2 ^ 30
+    → length (fullBytes h xs) ≤ 2 ^ 30
 unfolding recordFits fullBytes encode
 record-lent h t xs e l =
     let a = both-true (headFits h) _ e in

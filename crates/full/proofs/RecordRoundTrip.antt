@@ -66,8 +66,11 @@ module _ (h : VvcConfig) (q : VvcPtlRecord) (xs : List (Array (List ℕ))) (w : 
   pub read-written : length s ≤ 2 ^ 30
       → parseFull s ≡ accept (record { head = readBack (h .«ptl_present_flag») h q; consumed = length s; listLength = length (encode xs) }, encode xs)
   unfolding parseFull
-  read-written l =
-      rw (le-leb (length s) (2 ^ 30) l, record-read, arrays-held s sound (headBytes h ++ (length xs ∷ [])) [] (length (headBytes h) + 1) from-arrays before (arrays-fit .1))
+  read-written l = rw (
+    le-leb (length s) (2 ^ 30) l,
+    record-read,
+    arrays-held s sound (headBytes h ++ (length xs ∷ [])) [] (length (headBytes h) + 1) from-arrays before (arrays-fit .1),
+  )
 
 module _ (h : VvcConfig) (t : Typed h) (xs : List (Array (List ℕ))) (sound : Sound xs) where
   fitting-parts : recordFits h xs ≡ true → headFits h ≡ true
@@ -80,10 +83,12 @@ module _ (h : VvcConfig) (t : Typed h) (xs : List (Array (List ℕ))) (sound : S
       let a = both-true (not (outside (h .«length_size»))) _ e in
       subst (λ (c : Bool). (if c then ptlPartFits h else true) ≡ true) f (a .1)
 
-  reads : headFits h ≡ true → h .«ptl_present_flag» ≡ true → ReadsAs (h .«native_ptl») (h .«num_sublayers») (asWritten (h .«native_ptl») (h .«num_sublayers»))
+  reads : headFits h ≡ true → h .«ptl_present_flag» ≡ true
+      → ReadsAs (h .«native_ptl») (h .«num_sublayers») (asWritten (h .«native_ptl») (h .«num_sublayers»))
   reads e f =
       let s = small h (ptl-part e f) in
-      P.round-trip (h .«native_ptl») (record { fits = s .ptl; info-is = t .info; subs-are = t .subs; subs-small = t .subs-small }) (h .«num_sublayers») (s .sublayers)
+      P.round-trip (h .«native_ptl») (record { fits = s .ptl; info-is = t .info; subs-are = t .subs; subs-small = t .subs-small })
+      (h .«num_sublayers») (s .sublayers)
 
   -- for every head and arrays that are accepted
   pub read-after-write : (b : List ℕ) → writeFull h xs ≡ accept b → length b ≤ 2 ^ 30
@@ -91,14 +96,17 @@ module _ (h : VvcConfig) (t : Typed h) (xs : List (Array (List ℕ))) (sound : S
   unfolding writeFull
   read-after-write b e l = go (eqb (h .«length_size») 3) refl (recordFits h xs) refl e
     where
-      go : (c : Bool) → eqb (h .«length_size») 3 ≡ c → (d : Bool) → recordFits h xs ≡ d → (if c then refuse 3 else (if d then accept (fullBytes h xs) else refuse 22)) ≡ accept b
+      go : (c : Bool) → eqb (h .«length_size») 3 ≡ c → (d : Bool) → recordFits h xs ≡ d
+          → (if c then refuse 3 else (if d then accept (fullBytes h xs) else refuse 22)) ≡ accept b
           → parseFull b ≡ accept (record { head = headRead h; consumed = length b; listLength = length (encode xs) }, encode xs)
       go true c d f x = let z : _≡_ {A = ℕ} 0 1 = cc in absurd (omega arith)
       go false c false f x = let z : _≡_ {A = ℕ} 0 1 = cc in absurd (omega arith)
       go false c true f x =
           let is : fullBytes h xs ≡ b = cc in
-          let w : Writable h (asWritten (h .«native_ptl») (h .«num_sublayers»)) = record { fits = fitting-parts f; size = eqb-false (h .«length_size») 3 c; wide = t .wide; reads = reads (fitting-parts f) } in
-          subst (λ (v : List ℕ). length v ≤ 2 ^ 30 → parseFull v ≡ accept (record { head = headRead h; consumed = length v; listLength = length (encode xs) }, encode xs)) is
+          let w : Writable h (asWritten (h .«native_ptl») (h .«num_sublayers»)) =
+          record { fits = fitting-parts f; size = eqb-false (h .«length_size») 3 c; wide = t .wide; reads = reads (fitting-parts f) } in
+          subst (λ (v : List ℕ). length v ≤ 2 ^ 30
+          → parseFull v ≡ accept (record { head = headRead h; consumed = length v; listLength = length (encode xs) }, encode xs)) is
           (read-written h (asWritten (h .«native_ptl») (h .«num_sublayers»)) xs w sound f) l
 
 -- a head with the flag and a PTL as it is read is read unchanged

@@ -20,11 +20,13 @@ use Rattle.full.proofs.RecordLength.{record-lent}
 use Rattle.full.proofs.RecordRoundTrip.{read-after-write}
 
 -- a record written from a list of at most 2^30 bytes has at most 2^30 bytes
-written-lent : (h : VvcConfig) → Typed h → (xs : List (Array (List ℕ))) (b : List ℕ) → writeFull h xs ≡ accept b → length (encode xs) ≤ 2 ^ 30 → length b ≤ 2 ^ 30
+written-lent : (h : VvcConfig) → Typed h → (xs : List (Array (List ℕ))) (b : List ℕ) → writeFull h xs ≡ accept b
+    → length (encode xs) ≤ 2 ^ 30 → length b ≤ 2 ^ 30
 unfolding writeFull
 written-lent h t xs b e l = go (eqb (h .«length_size») 3) (recordFits h xs) refl e
   where
-    go : (c d : Bool) → recordFits h xs ≡ d → (if c then refuse 3 else (if d then accept (fullBytes h xs) else refuse 22)) ≡ accept b → length b ≤ 2 ^ 30
+    go : (c d : Bool) → recordFits h xs ≡ d
+        → (if c then refuse 3 else (if d then accept (fullBytes h xs) else refuse 22)) ≡ accept b → length b ≤ 2 ^ 30
     go true d f x = let z : _≡_ {A = ℕ} 0 1 = cc in absurd (omega arith)
     go false false f x = let z : _≡_ {A = ℕ} 0 1 = cc in absurd (omega arith)
     go false true f x = let is : fullBytes h xs ≡ b = cc in rw (← is) (record-lent h t xs f l)

@@ -33,7 +33,10 @@ stored b a bytes out = if b then (accept a, overlay bytes out) else (refuse 20, 
 
 -- the list in the output together with the head is the record's answer
 list-handed : (s : List ℕ) (head : VvcConfig) (x : Parsed (List (Array Span))) (out : List ℕ)
-    → _≡_ {A = (Outcome FullParsed × VvcConfig) × List ℕ} (besideHead head (lentOutput (listGiven s x) out .0), lentOutput (listGiven s x) out .1) (handed (fullParsed s (with-head head x)) out)
+    → _≡_ {A = (Outcome FullParsed × VvcConfig) × List ℕ} (
+      besideHead head (lentOutput (listGiven s x) out .0),
+      lentOutput (listGiven s x) out .1,
+    ) (handed (fullParsed s (with-head head x)) out)
 list-handed s head (refused e) out = refl
 list-handed s head (value xs q) out = go (encode (heldArrays s xs)) (leb (length (encode (heldArrays s xs))) (length out))
   where
@@ -64,7 +67,8 @@ module _ (s : List ℕ) (out : List ℕ) where
         counted head (value n r) = refl
         counted head (refused e) = refl
 
-        go : (x : Parsed VvcConfig) → bind x (λ head q. bind (uint 1 s q) (λ n r. with-head head (times n recordArray s r))) ≡ bind x (λ head q. with-head head (countedArrays s q))
+        go : (x : Parsed VvcConfig) → bind x (λ head q. bind (uint 1 s q) (λ n r. with-head head (times n recordArray s r)))
+            ≡ bind x (λ head q. with-head head (countedArrays s q))
         go (value head q) = counted head (uint 1 s q)
         go (refused e) = refl
 

@@ -69,7 +69,8 @@ module _ (size : ℕ) (s : List ℕ) where
       ptl-said : vvcPtlRecord (be s 1 2 / 16 % 8) s 4 ≡ ptlRecordRead (r .answer) (r .ptl)
       ptl-said = rw (← is) (sym (ap (λ (y : Parsed VvcPtlRecord × VvcPtlRecord). y .0) f ∙ zeros-beside zeroPtl (vvcPtlRecord (w / 16 % 8) s 4)))
 
-      known : (a : PtlRecordAnswer) → r .answer ≡ a → headWithPtl size s 1 ≡ bind (ptlRecordRead a (r .ptl)) (λ ptl q. sizesAfter size (be s 1 2) (be s 3 1) ptl s q)
+      known : (a : PtlRecordAnswer) → r .answer ≡ a
+          → headWithPtl size s 1 ≡ bind (ptlRecordRead a (r .ptl)) (λ ptl q. sizesAfter size (be s 1 2) (be s 3 1) ptl s q)
       known a e =
           after-number
           ∙ ap (λ (x : Parsed VvcPtlRecord). bind x (λ ptl q. sizesAfter size (be s 1 2) (be s 3 1) ptl s q))

@@ -41,7 +41,8 @@ fn refused(e: Refusal) -> HeadRead
 // The fields of a head whose PTL ends at place `at`.
 fn head_fields(s: &[u8], size: u8, ptl: VvcPtlRecord, at: usize) -> VvcConfig
     requires { ⌜ (4 ≤ length (now s)) × (at + 6 ≤ length (now s)) ⌝ }
-    ensures { λ r. ⌜ r ≡ headFields size (be (now (s .entry)) 1 2) (be (now (s .entry)) 3 1) ptl (be (now (s .entry)) at 2) (be (now (s .entry)) (at + 2) 2) (be (now (s .entry)) (at + 4) 2) ⌝ }
+    ensures { λ r. ⌜ r ≡ headFields size (be (now (s .entry)) 1 2) (be (now (s .entry)) 3 1) ptl (be (now (s .entry)) at 2)
+        (be (now (s .entry)) (at + 2) 2) (be (now (s .entry)) (at + 4) 2) ⌝ }
 {
     let w = place::number(s, 1, 2);
     let d = place::number(s, 3, 1);

@@ -17,7 +17,8 @@ use Rattle.parse.proofs.General.{both-true}
 use Rattle.boxes.proofs.PrefixSizes.{size-fits}
 
 -- three numbers of two bytes, stored one after the other
-pub picture-stored : (d : List ℕ) (at x y z : ℕ) → sets (sets (sets d at (toBe 2 x)) (at + 2) (toBe 2 y)) (at + 4) (toBe 2 z) ≡ sets d at ((toBe 2 x ++ toBe 2 y) ++ toBe 2 z)
+pub picture-stored : (d : List ℕ) (at x y z : ℕ)
+    → sets (sets (sets d at (toBe 2 x)) (at + 2) (toBe 2 y)) (at + 4) (toBe 2 z) ≡ sets d at ((toBe 2 x ++ toBe 2 y) ++ toBe 2 z)
 picture-stored d at x y z =
     let a = length-toBe 2 x in
     let b = length-toBe 2 y in

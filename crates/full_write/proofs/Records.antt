@@ -54,7 +54,8 @@ fits-by h s o m k = rw (k .is)
 pub fits-parts : (a : Bool) (n : ℕ) (b : Bool) → a && (leb n 255 && b) ≡ true → (a ≡ true) × (n ≤ 255)
 fits-parts a n b e = let f = both-true a (leb n 255 && b) e in (f .0, leb-true n 255 (both-true (leb n 255) b (f .1) .0))
 
-refused-of : (h : VvcConfig) (s : List ℕ) (o : Outcome (List (Array Span))) (n : ℕ) → refuse n ≡ measuredBy (arraysMeasure s) o → fullRecordOf h s o ≡ refuse n
+refused-of : (h : VvcConfig) (s : List ℕ) (o : Outcome (List (Array Span))) (n : ℕ) → refuse n ≡ measuredBy (arraysMeasure s) o
+    → fullRecordOf h s o ≡ refuse n
 refused-of h s (accept xs) n e = absurd (let z : _≡_ {A = ℕ} 0 1 = cc in omega arith)
 refused-of h s (refuse k) n e = let z : k ≡ n = cc in ap refuse z
 
@@ -96,7 +97,8 @@ module _ (h : VvcConfig) (s : List ℕ) (c : ListCursor) (fits : Fits s c) (r : 
             let n : m .len ≡ length (arraysBytes xs) = ap (λ (x : Measure). x .len) (k .is) in
             omega (arith, length-append (headBytes h) (length xs ∷ []), length-append (headBytes h ++ (length xs ∷ [])) (arraysBytes xs))
 
-        pub record-sized : (head-len : ℕ) → head-len ≡ length (headBytes h) → Writable h s (fullRecordOf h s (arraysFrom s c)) c (m .count) (head-len + 1 + m .len)
+        pub record-sized : (head-len : ℕ) → head-len ≡ length (headBytes h)
+            → Writable h s (fullRecordOf h s (arraysFrom s c)) c (m .count) (head-len + 1 + m .len)
         record-sized head-len l =
             let p = fits-parts (headFits h) (m .count) (m .fits) fit in
             record {
@@ -137,7 +139,8 @@ module _ (h : VvcConfig) (s : List ℕ) (o : Outcome (List ℕ)) (c : ListCursor
           let b : bytesOf (arraysInRecord s) (arraysFrom s c) ≡ arraysBytes ys = ap (bytesOf (arraysInRecord s)) (w .found) in
           let m : n ≡ length ys = w .count in
           let l = length-append (headBytes h) (length ys ∷ []) in
-          let y : d₂ ≡ sets out 0 (headBytes h ++ (length ys ∷ [])) = e₂ ∙ rw (e₁ .1, m) (sets-then out 0 at (headBytes h) (length ys ∷ []) (omega (arith, e₁ .0))) in
+          let y : d₂ ≡ sets out 0 (headBytes h ++ (length ys ∷ [])) = e₂
+          ∙ rw (e₁ .1, m) (sets-then out 0 at (headBytes h) (length ys ∷ []) (omega (arith, e₁ .0))) in
           e₃ ∙ rw (b, y) (sets-then out 0 (at + 1) (headBytes h ++ (length ys ∷ [])) (arraysBytes ys) (omega (arith, e₁ .0)))
 
 -- ### the answer when it is known

@@ -10,7 +10,8 @@ use Rattle.nal.specs.Header.{largestUnitType, typeOr31}
 use Rattle.unit_list.specs.UnitList.{encodeArray, encodeArrays}
 use Rattle.grouping.specs.Grouping.{group, grouped}
 use Rattle.grouping.specs.inner.Units.{Turn}
-use Rattle.grouping.proofs.FirstAppearance.{among, Marks, marks-start, marks-more, arraysLeft, arrays-all, arrays-none, arrays-met, arrays-new, array-long, groupBytes}
+use Rattle.grouping.proofs.FirstAppearance.{among, Marks, marks-start, marks-more, arraysLeft, arrays-all}
+use Rattle.grouping.proofs.FirstAppearance.{arrays-none, arrays-met, arrays-new, array-long, groupBytes}
 use Rattle.nal.specs.inner.Kinds.{unitTypes}
 use Rattle.parse.proofs.General.{sets-append}
 
@@ -47,13 +48,15 @@ module _ (us : List (List ℕ)) where
     pub summed-end : left ≡ [] → len ≡ length (allArrays us)
     summed-end e = let z = ap length (arrays-none us (i .met) left e) in omega (arith, i .whole)
 
-    module _ (u : List ℕ) (rest : List (List ℕ)) (q : ℕ) (w : Turn left p u rest q) (t k : ℕ) (h : t ≡ typeOr31 u) (small : t ≤ largestUnitType) (j : k ≡ t) where
+    module _ (u : List ℕ) (rest : List (List ℕ)) (q : ℕ) (w : Turn left p u rest q) (t k : ℕ) (h : t ≡ typeOr31 u)
+        (small : t ≤ largestUnitType) (j : k ≡ t) where
       pub summed-met : getD seen k false ≡ true → Summed us rest q seen len
       summed-met e =
           let c = ap length (come-met us left p seen (i .met) (i .marks) u rest q w t k h small j e) in
           record { met = i .met; marks = i .marks; few = omega (arith, i .few, w .ahead); whole = omega (arith, i .whole) }
 
-      pub summed-new : getD seen k false ≡ false → (n : ℕ) → n ≡ length (groupBytes us t) → n ≤ 2 ^ 31 → Summed us rest q (set seen k true) (len + 6 + n)
+      pub summed-new : getD seen k false ≡ false → (n : ℕ) → n ≡ length (groupBytes us t) → n ≤ 2 ^ 31
+          → Summed us rest q (set seen k true) (len + 6 + n)
       summed-new e n g few =
           let c = ap length (come-new us left p seen (i .met) (i .marks) u rest q w t k h small j e) in
           let l = length-append (encodeArray 4 (group us t)) (arraysLeft us (t ∷ i .met) rest) in
@@ -83,7 +86,8 @@ module _ (us : List (List ℕ)) (out₀ : List ℕ) (at : ℕ) where
     pub laid-end : left ≡ [] → out ≡ sets out₀ at (allArrays us)
     laid-end e = ap (sets out to) (sym (arrays-none us (i .met) left e)) ∙ i .whole
 
-    module _ (p : ℕ) (u : List ℕ) (rest : List (List ℕ)) (q : ℕ) (w : Turn left p u rest q) (t k : ℕ) (h : t ≡ typeOr31 u) (small : t ≤ largestUnitType) (j : k ≡ t) where
+    module _ (p : ℕ) (u : List ℕ) (rest : List (List ℕ)) (q : ℕ) (w : Turn left p u rest q) (t k : ℕ) (h : t ≡ typeOr31 u)
+        (small : t ≤ largestUnitType) (j : k ≡ t) where
       pub laid-met : getD seen k false ≡ true → Laid us out₀ at rest seen out to
       laid-met e =
           let c = come-met us left p seen (i .met) (i .marks) u rest q w t k h small j e in

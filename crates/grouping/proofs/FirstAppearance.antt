@@ -30,7 +30,8 @@ module _ (us : List (List ℕ)) (t : ℕ) where
   array-long = length-toChunk 4 (1 ∷ t ∷ groupBytes) ∙ omega arith
 
   -- the units are stored first, then the array's length, complete and type before them
-  pub array-stored : (d e f : List ℕ) (at n : ℕ) → e ≡ sets d (at + 6) groupBytes → f ≡ sets e at (toBe 4 n ++ (1 ∷ t ∷ [])) → n ≡ 2 + length groupBytes
+  pub array-stored : (d e f : List ℕ) (at n : ℕ) → e ≡ sets d (at + 6) groupBytes → f ≡ sets e at (toBe 4 n ++ (1 ∷ t ∷ []))
+      → n ≡ 2 + length groupBytes
       → f ≡ sets d at (encodeArray 4 (group us t))
   unfolding encodeArray toChunk
   array-stored d e f at n x y z =
@@ -96,7 +97,8 @@ unfolding unmet among without
 unmet-cons [] t xs = refl
 unmet-cons (d ∷ ds) t xs = ap (without d) (unmet-cons ds t xs) ∙ go (eqb t d) (among t ds) refl
   where
-    go : (a b : Bool) → eqb t d ≡ a → without d (if b then unmet ds xs else t ∷ unmet ds xs) ≡ (if a || b then without d (unmet ds xs) else t ∷ without d (unmet ds xs))
+    go : (a b : Bool) → eqb t d ≡ a
+        → without d (if b then unmet ds xs else t ∷ unmet ds xs) ≡ (if a || b then without d (unmet ds xs) else t ∷ without d (unmet ds xs))
     go true true e = refl
     go true false e = rw e
     go false true e = refl
@@ -119,7 +121,8 @@ new-unmet met [] = sym (unmet-nil met)
 new-unmet met (t ∷ ts) = go (among t met) refl (new-unmet met ts) (new-unmet (t ∷ met) ts) ∙ sym (unmet-cons met t (without t (firsts ts)))
   where
     go : (b : Bool) → among t met ≡ b → newTypes met ts ≡ unmet met (firsts ts) → newTypes (t ∷ met) ts ≡ unmet (t ∷ met) (firsts ts)
-        → (if b then newTypes met ts else t ∷ newTypes (t ∷ met) ts) ≡ (if b then unmet met (without t (firsts ts)) else t ∷ unmet met (without t (firsts ts)))
+        → (if b then newTypes met ts else t ∷ newTypes (t ∷ met) ts)
+        ≡ (if b then unmet met (without t (firsts ts)) else t ∷ unmet met (without t (firsts ts)))
     go true e h i = h ∙ sym (unmet-met met t (firsts ts) e) ∙ sym (unmet-without met t (firsts ts))
     go false e h i = ap (λ (l : List ℕ). t ∷ l) (i ∙ sym (unmet-without met t (firsts ts)))
 

@@ -138,13 +138,21 @@ pub every-parts : (P : List ℕ → Type 0) (us vs : List (List ℕ)) → Every 
 every-parts P [] vs e = (tt, e)
 every-parts P (u ∷ us) vs e = let r = every-parts P us vs (e .1) in ((e .0, r .0), r .1)
 
-arrays-long : (xs : List (Array (List ℕ))) → Every (λ u. length u ≤ 255) (unitsOf xs) → length (encodeArrays 4 xs) ≤ 6 * length xs + 259 * length (unitsOf xs)
+arrays-long : (xs : List (Array (List ℕ))) → Every (λ u. length u ≤ 255) (unitsOf xs)
+    → length (encodeArrays 4 xs) ≤ 6 * length xs + 259 * length (unitsOf xs)
 unfolding encodeArrays encodeArray unitsOf
 arrays-long [] e = omega arith
 arrays-long (a ∷ xs) e =
     let r = every-parts _ (a .units) (unitsOf xs) e in
     let rest = a .complete ∷ a .unitType ∷ encodeUnits 4 (a .units) in
-    omega (arith, length-append (toChunk 4 rest) (encodeArrays 4 xs), length-toChunk 4 rest, units-long 4 (a .units) (r .0), arrays-long xs (r .1), length-append (a .units) (unitsOf xs))
+    omega (
+      arith,
+      length-append (toChunk 4 rest) (encodeArrays 4 xs),
+      length-toChunk 4 rest,
+      units-long 4 (a .units) (r .0),
+      arrays-long xs (r .1),
+      length-append (a .units) (unitsOf xs),
+    )
 
 pub grouped-long : (us : List (List ℕ)) → Every (λ u. length u ≤ 255) us → length (encode (grouped us)) ≤ 1 + 265 * length us
 unfolding encode

@@ -61,7 +61,8 @@ pairwise-append R (x ∷ xs) ys e f g =
     (each-append (R x) xs ys (e .0) (g .0), pairwise-append R xs ys (e .1) f (g .1))
 
 -- where Q holds of both, R implies S
-pairwise-map : {Q : ℕ → Type 0} {R S : ℕ → ℕ → Type 0} → ((x y : ℕ) → Q x → Q y → R x y → S x y) → (xs : List ℕ) → Each Q xs → Pairwise R xs → Pairwise S xs
+pairwise-map : {Q : ℕ → Type 0} {R S : ℕ → ℕ → Type 0} → ((x y : ℕ) → Q x → Q y → R x y → S x y) → (xs : List ℕ) → Each Q xs
+    → Pairwise R xs → Pairwise S xs
 pairwise-map f [] q e = tt
 pairwise-map f (x ∷ xs) q e =
     (each-both (λ y qy r. f x y (q .0) qy r) xs (q .1) (e .0), pairwise-map f xs (q .1) (e .1))
@@ -189,7 +190,10 @@ unfolding places
 places-rise t [] = tt
 places-rise t (u ∷ us) =
     by-eqb (Pairwise _<_) (typeOr31 u) t (0 ∷ map suc (places t us)) (map suc (places t us))
-    (λ _. (each-suc (λ y. 0 < y) (places t us) (each-map (λ i h. omega arith) (places t us) (places-type t us)), pairwise-suc (places t us) (places-rise t us)))
+    (λ _. (
+      each-suc (λ y. 0 < y) (places t us) (each-map (λ i h. omega arith) (places t us) (places-type t us)),
+      pairwise-suc (places t us) (places-rise t us),
+    ))
     (λ _. pairwise-suc (places t us) (places-rise t us))
 
 has-step : (t : ℕ) (u : List ℕ) (ps : List ℕ) (i : ℕ) → Has i ps → Has (suc i) (if eqb (typeOr31 u) t then 0 ∷ map suc ps else map suc ps)
@@ -241,8 +245,8 @@ flat-has us (s ∷ ts) t i (suc k, h, e) p = has-right i (places s us) (flat us 
 flat-each : (P : ℕ → Type 0) (us : List (List ℕ)) (ts : List ℕ) → Each P ts → Each (λ i. P (typeAt us i)) (flat us ts)
 unfolding flat
 flat-each P us [] e = tt
-flat-each P us (t ∷ ts) e =
-    each-append _ (places t us) (flat us ts) (each-map (λ i h. subst P (sym (h .1)) (e .0)) (places t us) (places-type t us)) (flat-each P us ts (e .1))
+flat-each P us (t ∷ ts) e = each-append _ (places t us) (flat us ts) (each-map (λ i h. subst P (sym (h .1)) (e .0)) (places t us) (places-type t us))
+    (flat-each P us ts (e .1))
 
 flat-sorted : (us : List (List ℕ)) (ts : List ℕ) → Pairwise (λ s t. firstPlace us s < firstPlace us t) ts → Pairwise (Before us) (flat us ts)
 unfolding flat
@@ -251,7 +255,8 @@ flat-sorted us (t ∷ ts) e =
     pairwise-append (Before us) (places t us) (flat us ts)
     (pairwise-map (λ i j p q r. inr (p .1 ∙ sym (q .1), r)) (places t us) (places-type t us) (places-rise t us))
     (flat-sorted us ts (e .1))
-    (each-map (λ i p. each-map (λ j h. inl (rw (p .1) h)) (flat us ts) (flat-each (λ s. firstPlace us t < firstPlace us s) us ts (e .0))) (places t us) (places-type t us))
+    (each-map (λ i p. each-map (λ j h. inl (rw (p .1) h)) (flat us ts) (flat-each (λ s. firstPlace us t < firstPlace us s) us ts (e .0)))
+    (places t us) (places-type t us))
 
 -- there are as many numbers as units
 places-same : (u : List ℕ) (us : List (List ℕ)) → length (places (typeOr31 u) (u ∷ us)) ≡ suc (length (places (typeOr31 u) us))
@@ -265,8 +270,13 @@ places-other u us t n = rw (ne-eqb (typeOr31 u) t (λ e. n (sym e))) (length-map
 flat-other : (u : List ℕ) (us : List (List ℕ)) (ts : List ℕ) → Each (λ t. t ≡ typeOr31 u → ⊥) ts → length (flat (u ∷ us) ts) ≡ length (flat us ts)
 unfolding flat
 flat-other u us [] e = refl
-flat-other u us (t ∷ ts) e =
-    omega (arith, length-append (places t (u ∷ us)) (flat (u ∷ us) ts), length-append (places t us) (flat us ts), places-other u us t (e .0), flat-other u us ts (e .1))
+flat-other u us (t ∷ ts) e = omega (
+  arith,
+  length-append (places t (u ∷ us)) (flat (u ∷ us) ts),
+  length-append (places t us) (flat us ts),
+  places-other u us t (e .0),
+  flat-other u us ts (e .1),
+)
 
 flat-split : (us : List (List ℕ)) (t : ℕ) (ts : List ℕ) → Pairwise (λ x y. x ≡ y → ⊥) ts → ((Has t ts → ⊥) → length (places t us) ≡ 0)
     → length (places t us) + length (flat us (without t ts)) ≡ length (flat us ts)
@@ -276,7 +286,12 @@ flat-split us t (x ∷ ts) d h =
     by-eqb (λ l. length (places t us) + length (flat us l) ≡ length (places x us ++ flat us ts)) x t (without t ts) (x ∷ without t ts)
     (λ e. rw (without-none t ts (each-map (λ y n z. n (e ∙ sym z)) ts (d .0)), e) (sym (length-append (places t us) (flat us ts))))
     (λ n.
-    omega (arith, length-append (places x us) (flat us ts), length-append (places x us) (flat us (without t ts)), flat-split us t ts (d .1) (λ g. h (λ p. g (back n p)))))
+    omega (
+      arith,
+      length-append (places x us) (flat us ts),
+      length-append (places x us) (flat us (without t ts)),
+      flat-split us t ts (d .1) (λ g. h (λ p. g (back n p))),
+    ))
   where
     back : (x ≡ t → ⊥) → Has t (x ∷ ts) → Has t ts
     back n (zero, k, e) = absurd (n e)
@@ -288,8 +303,16 @@ flat-count [] = refl
 flat-count (u ∷ us) =
     let t = typeOr31 u in
     let L = firsts (map typeOr31 us) in
-    let d : Pairwise (λ x y. x ≡ y → ⊥) L = pairwise-map {Q = λ _. Unit {0}} (λ x y p q r e. omega (arith, ap (firstPlace us) e)) L (all L) (ordered us) in
-    omega (arith, length-append (places t (u ∷ us)) (flat (u ∷ us) (without t L)), places-same u us, flat-other u us (without t L) (without-ne t L), flat-split us t L d (none t), flat-count us)
+    let d : Pairwise (λ x y. x ≡ y → ⊥) L = pairwise-map {Q = λ _. Unit {0}} (λ x y p q r e. omega (arith, ap (firstPlace us) e)) L
+    (all L) (ordered us) in
+    omega (
+      arith,
+      length-append (places t (u ∷ us)) (flat (u ∷ us) (without t L)),
+      places-same u us,
+      flat-other u us (without t L) (without-ne t L),
+      flat-split us t L d (none t),
+      flat-count us,
+    )
   where
     all : (xs : List ℕ) → Each (λ _. Unit {0}) xs
     all [] = tt
@@ -314,7 +337,8 @@ module _ (us : List (List ℕ)) where
   in-order = flat us (firsts (map typeOr31 us))
 
   in-order-sorted : (a b : ℕ) → a < length us → b < length us → a < b → Before us (getD in-order a 0) (getD in-order b 0)
-  in-order-sorted a b h k l = pairwise-at (Before us) in-order (flat-sorted us (firsts (map typeOr31 us)) (ordered us)) a b l (omega (arith, flat-count us))
+  in-order-sorted a b h k l =
+      pairwise-at (Before us) in-order (flat-sorted us (firsts (map typeOr31 us)) (ordered us)) a b l (omega (arith, flat-count us))
 
   in-order-only : (a b : ℕ) → a < length us → b < length us → Before us (getD in-order a 0) (getD in-order b 0) → a < b
   in-order-only a b h k p =
@@ -322,7 +346,8 @@ module _ (us : List (List ℕ)) where
         | yes l ↦ l
         | no l ↦ absurd (elim (decLe (suc b) a) [
           | yes m ↦ before-not-back us _ _ p (in-order-sorted b a k h m)
-          | no m ↦ let e : a ≡ b = omega arith in let q = subst (λ x. Before us (getD in-order a 0) (getD in-order x 0)) (sym e) p in before-not-back us _ _ q q
+          | no m ↦ let e : a ≡ b = omega arith in let q = subst (λ x. Before us (getD in-order a 0) (getD in-order x 0)) (sym e) p in
+              before-not-back us _ _ q q
         ])
       ]
 

@@ -89,7 +89,8 @@ module _ (t : ℕ) (us : List (List ℕ)) (out₀ : List ℕ) (at : ℕ) where
       pub stored-room : at + length (bytesOf t us) ≤ length out₀ → typeOr31 u ≡ t → to + 4 + length u ≤ length out
       stored-room g h = omega (arith, length-same t left p u rest q w h, i .place, i .same)
 
-      pub stored-same : typeOr31 u ≡ t → (n : ℕ) → length u ≡ n → (d : List ℕ) → d ≡ sets out to (toChunk 4 u) → Stored t us out₀ at rest d (to + 4 + n)
+      pub stored-same : typeOr31 u ≡ t → (n : ℕ) → length u ≡ n → (d : List ℕ) → d ≡ sets out to (toChunk 4 u)
+          → Stored t us out₀ at rest d (to + 4 + n)
       stored-same h n l d e =
           let k = length-same t left p u rest q w h in
           let m = length-toChunk 4 u in
@@ -97,7 +98,8 @@ module _ (t : ℕ) (us : List (List ℕ)) (out₀ : List ℕ) (at : ℕ) where
           record {
             same = ap length e ∙ length-sets out to (toChunk 4 u) ∙ i .same;
             place = omega (arith, i .place);
-            whole = rw (e, b) (sets-append out to (toChunk 4 u) (bytesOf t rest)) ∙ ap (sets out to) (sym (bytes-same t left p u rest q w h)) ∙ i .whole;
+            whole = rw (e, b) (sets-append out to (toChunk 4 u) (bytesOf t rest))
+                ∙ ap (sets out to) (sym (bytes-same t left p u rest q w h)) ∙ i .whole;
           }
 
       pub stored-other : (typeOr31 u ≡ t → ⊥) → Stored t us out₀ at rest out to

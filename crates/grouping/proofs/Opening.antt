@@ -18,7 +18,8 @@ module _ (s : List ℕ) (c : ListCursor) (n : ℕ) where
   unfolding unitsAt
   units-counted f e = go (unitsLeft s c) refl
     where
-      go : (o : Outcome (List Span)) → unitsLeft s c ≡ o → (accept (map (held s) (spansOf (unitsLeft s c))) ≡ heldUnits s (unitsLeft s c)) × Readable s c
+      go : (o : Outcome (List Span)) → unitsLeft s c ≡ o
+          → (accept (map (held s) (spansOf (unitsLeft s c))) ≡ heldUnits s (unitsLeft s c)) × Readable s c
       go (accept us) g = (rw g, record { fits = f; spans = us; left = g })
       go (refuse m) g = absurd (let z : _≡_ {A = ℕ} 0 1 = cc (ap countFound g) in omega arith)
 

@@ -25,7 +25,8 @@ use Rattle.parse.specs.inner.Walk.{more}
 use Rattle.boxes.proofs.Spans.{held-long}
 
 -- a step that found no unit: none is left
-pub none-left : (s : List ℕ) (here : ListCursor) (r : ListStep) → stepped s r ≡ typedUnitsFrom s here → OneOf (1 ∷ 2 ∷ []) (tagOf the-type r) → unitsAt s here ≡ []
+pub none-left : (s : List ℕ) (here : ListCursor) (r : ListStep) → stepped s r ≡ typedUnitsFrom s here → OneOf (1 ∷ 2 ∷ []) (tagOf the-type r)
+    → unitsAt s here ≡ []
 unfolding unitsAt
 none-left s here r e k =
     let f : Outcome (List Span) → List (List ℕ) = λ o. map (held s) (spansOf o) in

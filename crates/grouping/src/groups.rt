@@ -55,7 +55,8 @@ pub fn groups_len(list: &[u8], c: ListCursor) -> usize
 // Stores the units of type t from place `at` on and returns the place after them.
 fn put_group_units(list: &[u8], c: ListCursor, t: u8, out: &mut [u8], at: usize) -> usize
     requires { ⌜ Readable (now list) c × (at + length (encodeUnits 4 (havingType t (unitsAt (now list) c))) ≤ length (now out)) ⌝ }
-    ensures { λ r. ⌜ (r ≡ at + length (encodeUnits 4 (havingType t (unitsAt (now (list .entry)) c)))) × (now (out .exit) ≡ sets (now (out .entry)) at (encodeUnits 4 (havingType t (unitsAt (now (list .entry)) c)))) ⌝ }
+    ensures { λ r. ⌜ (r ≡ at + length (encodeUnits 4 (havingType t (unitsAt (now (list .entry)) c))))
+        × (now (out .exit) ≡ sets (now (out .entry)) at (encodeUnits 4 (havingType t (unitsAt (now (list .entry)) c)))) ⌝ }
 {
     let mut here = c;
     let mut to = at;
@@ -74,7 +75,8 @@ fn put_group_units(list: &[u8], c: ListCursor, t: u8, out: &mut [u8], at: usize)
 // Stores the array of type t, complete 1, from place `at` on and returns the place after it.
 fn put_group(list: &[u8], c: ListCursor, t: u8, out: &mut [u8], at: usize) -> usize
     requires { ⌜ Readable (now list) c × (at + length (encodeArray 4 (group (unitsAt (now list) c) t)) ≤ length (now out)) ⌝ }
-    ensures { λ r. ⌜ (r ≡ at + length (encodeArray 4 (group (unitsAt (now (list .entry)) c) t))) × (now (out .exit) ≡ sets (now (out .entry)) at (encodeArray 4 (group (unitsAt (now (list .entry)) c) t))) ⌝ }
+    ensures { λ r. ⌜ (r ≡ at + length (encodeArray 4 (group (unitsAt (now (list .entry)) c) t)))
+        × (now (out .exit) ≡ sets (now (out .entry)) at (encodeArray 4 (group (unitsAt (now (list .entry)) c) t))) ⌝ }
 {
     let from = at + 4;
     let to = put_group_units(list, c, t, out, at + 6);

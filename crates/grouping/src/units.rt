@@ -37,7 +37,8 @@ pub enum FirstUnit {
 // The cursor itself if all units after it read. Refusal: 21.
 fn start_at(list: &[u8], c: ListCursor) -> ListStart
     requires { ⌜ Fits (now list) c ⌝ }
-    ensures { λ r. ⌜ (startedUnits (now (list .entry)) r ≡ heldUnits (now (list .entry)) (unitsLeft (now (list .entry)) c)) × StartReads (now (list .entry)) r ⌝ }
+    ensures { λ r. ⌜ (startedUnits (now (list .entry)) r ≡ heldUnits (now (list .entry)) (unitsLeft (now (list .entry)) c))
+        × StartReads (now (list .entry)) r ⌝ }
 {
     let found = find::find_from(list, c, Wanted::Every, 0);
     let counted = found.counted;
@@ -49,7 +50,8 @@ fn start_at(list: &[u8], c: ListCursor) -> ListStart
 
 // The start of a walk over a list whose units all read. Refusals: 23, 21.
 pub fn start(list: &[u8]) -> ListStart
-    ensures { λ r. ⌜ (startedUnits (now (list .entry)) r ≡ heldUnits (now (list .entry)) (listUnits (now (list .entry)))) × StartReads (now (list .entry)) r ⌝ }
+    ensures { λ r. ⌜ (startedUnits (now (list .entry)) r ≡ heldUnits (now (list .entry)) (listUnits (now (list .entry))))
+        × StartReads (now (list .entry)) r ⌝ }
 {
     match walk::start(list) {
         ListStart::At(c) => start_at(list, c),
@@ -82,7 +84,8 @@ pub fn next_unit(list: &[u8], c: ListCursor) -> UnitStep
 // The first unit of a record kind after a cursor; t is the type of that kind.
 pub fn first_having(list: &[u8], c: ListCursor, t: u8) -> FirstUnit
     requires { ⌜ Readable (now list) c × (isRecordType t ≡ true) ⌝ }
-    ensures { λ r. ⌜ (foundUnit (now (list .entry)) r ≡ firstElement (havingType t (unitsAt (now (list .entry)) c))) × FirstFits (now (list .entry)) r ⌝ }
+    ensures { λ r. ⌜ (foundUnit (now (list .entry)) r ≡ firstElement (havingType t (unitsAt (now (list .entry)) c)))
+        × FirstFits (now (list .entry)) r ⌝ }
 {
     let mut here = c;
     loop {

@@ -51,8 +51,8 @@ module _ (c : CompactVvcConfig) (s out : List ℕ) (r : Restores c s out) where
   module _ (clear : c .«multi_layer_flag» ≡ false) where
     -- one unit after its length
     pub restores-unit : (c .«length_size» ≤ 4) × (r .item ≡ toChunk (c .«length_size») (stillUnit s))
-    restores-unit =
-        go (outside (c .«length_size»)) (leb (256 ^ (c .«length_size»)) (length (stillUnit s))) refl (sym (restore-unit c s restores-lent clear) ∙ r .found)
+    restores-unit = go (outside (c .«length_size»)) (leb (256 ^ (c .«length_size»)) (length (stillUnit s))) refl
+        (sym (restore-unit c s restores-lent clear) ∙ r .found)
       where
         go : (a b : Bool) → outside (c .«length_size») ≡ a
             → (if a then refuse 4 else if b then refuse 6 else accept (toChunk (c .«length_size») (stillUnit s))) ≡ accept (r .item)

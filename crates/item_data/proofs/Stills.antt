@@ -46,15 +46,18 @@ module _ (size : ℕ) (u : List ℕ) where
     prefixed-length h n e = ap countFound (prefixed-given h) ∙ ap accept (length-toChunk size u ∙ sym e)
 
 -- length, header and stored bytes make the unit
-pub still-stored : (stored out d e f : List ℕ) (size : ℕ) (header : List ℕ) → header ≡ nalHeader 8 0 1 → d ≡ sets out 0 (toBe size (2 + length stored))
+pub still-stored : (stored out d e f : List ℕ) (size : ℕ) (header : List ℕ) → header ≡ nalHeader 8 0 1
+    → d ≡ sets out 0 (toBe size (2 + length stored))
     → e ≡ sets d size header → f ≡ sets e (size + 2) stored → f ≡ sets out 0 (toChunk size (stillUnit stored))
 unfolding toChunk
 still-stored stored out d e f size header h x y z =
     let l : 0 + length (toBe size (2 + length stored)) ≡ size = omega (arith, length-toBe size (2 + length stored)) in
     let n : length (stillUnit stored) ≡ 2 + length stored = omega arith in
-    let a : sets (sets out 0 (toBe size (2 + length stored))) size (stillUnit stored) ≡ sets out 0 (toBe size (2 + length stored) ++ stillUnit stored) =
+    let a : sets (sets out 0 (toBe size (2 + length stored))) size (stillUnit stored)
+    ≡ sets out 0 (toBe size (2 + length stored) ++ stillUnit stored) =
     rw l at (sets-append out 0 (toBe size (2 + length stored)) (stillUnit stored)) in
-    let b : sets (sets (sets out 0 (toBe size (2 + length stored))) size (nalHeader 8 0 1)) (size + 2) stored ≡ sets (sets out 0 (toBe size (2 + length stored))) size (stillUnit stored) =
+    let b : sets (sets (sets out 0 (toBe size (2 + length stored))) size (nalHeader 8 0 1)) (size + 2) stored
+    ≡ sets (sets out 0 (toBe size (2 + length stored))) size (stillUnit stored) =
     sets-append (sets out 0 (toBe size (2 + length stored))) size (nalHeader 8 0 1) stored in
     z ∙ rw (y, x, h, n) (b ∙ a)
 
@@ -99,18 +102,23 @@ module _ (item : List ℕ) (a : Span) (inside : a .start + a .len ≤ length ite
     not-still h = rw (held-header, h)
 
     pub one-layer : (getD item (a .start) 0 % 64 ≡ 0 → ⊥) → refuse 24 ≡ onlyStill item (accept (a ∷ []))
-    one-layer h = not-still (layer-not (getD item (a .start) 0) (getD item (a .start + 1) 0) (held item (record { start = a .start + 2; len = a .len - 2 })) h)
+    one-layer h =
+        not-still (layer-not (getD item (a .start) 0) (getD item (a .start + 1) 0) (held item (record { start = a .start + 2; len = a .len - 2 })) h)
 
     pub one-type : (getD item (a .start + 1) 0 / 8 ≡ 8 → ⊥) → refuse 24 ≡ onlyStill item (accept (a ∷ []))
-    one-type h = not-still (type-not (getD item (a .start) 0) (getD item (a .start + 1) 0) (held item (record { start = a .start + 2; len = a .len - 2 })) h)
+    one-type h =
+        not-still (type-not (getD item (a .start) 0) (getD item (a .start + 1) 0) (held item (record { start = a .start + 2; len = a .len - 2 })) h)
 
     pub one-temporal : (getD item (a .start + 1) 0 % 8 ≡ 1 → ⊥) → refuse 24 ≡ onlyStill item (accept (a ∷ []))
-    one-temporal h = not-still (temporal-not (getD item (a .start) 0) (getD item (a .start + 1) 0) (held item (record { start = a .start + 2; len = a .len - 2 })) h)
+    one-temporal h = not-still
+        (temporal-not (getD item (a .start) 0) (getD item (a .start + 1) 0) (held item (record { start = a .start + 2; len = a .len - 2 })) h)
 
     pub one-still : getD item (a .start) 0 % 64 ≡ 0 → getD item (a .start + 1) 0 / 8 ≡ 8 → getD item (a .start + 1) 0 % 8 ≡ 1
         → accept (held item (record { start = a .start + 2; len = a .len - 2 })) ≡ onlyStill item (accept (a ∷ []))
-    one-still h k l =
-        rw (held-header, is-still (getD item (a .start) 0) (getD item (a .start + 1) 0) (held item (record { start = a .start + 2; len = a .len - 2 })) h k l)
+    one-still h k l = rw (
+      held-header,
+      is-still (getD item (a .start) 0) (getD item (a .start + 1) 0) (held item (record { start = a .start + 2; len = a .len - 2 })) h k l,
+    )
 
 -- no unit; one unit with bytes after it; exactly one unit
 module _ (item : List ℕ) where
@@ -129,7 +137,8 @@ module _ (item : List ℕ) where
     where
       go : (x : Parsed Span) → itemUnit size item p ≡ x → refuse 24 ≡ onlyStill item (more a (itemUnitsFrom size item p))
       go (refused n) e = rw (many-bad (itemUnit size) item p n h e)
-      go (value b q) e = several a b (itemUnitsFrom size item q) ∙ ap (λ (o : Outcome (List Span)). onlyStill item (more a o)) (sym (left-step size item p b q h e))
+      go (value b q) e =
+          several a b (itemUnitsFrom size item q) ∙ ap (λ (o : Outcome (List Span)). onlyStill item (more a o)) (sym (left-step size item p b q h e))
 
 -- ### the two calls, by the tests of the input's length and of the flag
 

@@ -49,7 +49,8 @@ pub fn store_item(config: CompactVvcConfig, stored: &[u8], out: &mut [u8])
 // The payload of an item's one unit, if that unit has type 8, layer 0 and temporal id plus 1 of 1.
 pub fn find_still(length_size: u8, item: &[u8]) -> Still
     requires { ⌜ length (now item) ≤ 2 ^ 30 ⌝ }
-    ensures { λ r. ⌜ (payloadOf (now (item .entry)) r ≡ onlyStill (now (item .entry)) (itemUnits «length_size» (now (item .entry)))) × PayloadFits (now (item .entry)) r ⌝ }
+    ensures { λ r. ⌜ (payloadOf (now (item .entry)) r ≡ onlyStill (now (item .entry)) (itemUnits «length_size» (now (item .entry))))
+        × PayloadFits (now (item .entry)) r ⌝ }
 {
     if place::outside(length_size) {
         return Still::Other;

@@ -44,8 +44,12 @@ checked-splittable u e =
 
 pub splittable-checked : (u : List ℕ) → Splittable u → unitChecked u ≡ true
 unfolding unitChecked
-splittable-checked u s =
-    rw (lt-ltb 0 (length u) (s .some), eq-eqb (scan u) (length u) (scan-none u (s .free)), ends-last u (s .some), ne-eqb (getD u (length u - 1) 0) 0 (s .ends))
+splittable-checked u s = rw (
+  lt-ltb 0 (length u) (s .some),
+  eq-eqb (scan u) (length u) (scan-none u (s .free)),
+  ends-last u (s .some),
+  ne-eqb (getD u (length u - 1) 0) 0 (s .ends),
+)
 
 -- the check's answers, in the order of its tests
 module _ (u : List ℕ) where

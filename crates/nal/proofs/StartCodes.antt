@@ -181,7 +181,8 @@ scan-skip (x ∷ s) (suc k) h none =
 
 -- ### after a part without a start code
 
-free-tail : (x y z : ℕ) (r : List ℕ) → scan (x ∷ y ∷ z ∷ r) ≡ length (x ∷ y ∷ z ∷ r) → (isStartCode x y z ≡ false) × (scan (y ∷ z ∷ r) ≡ length (y ∷ z ∷ r))
+free-tail : (x y z : ℕ) (r : List ℕ) → scan (x ∷ y ∷ z ∷ r) ≡ length (x ∷ y ∷ z ∷ r)
+    → (isStartCode x y z ≡ false) × (scan (y ∷ z ∷ r) ≡ length (y ∷ z ∷ r))
 unfolding scan
 free-tail x y z r = go (isStartCode x y z) refl
   where

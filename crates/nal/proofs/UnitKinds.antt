@@ -58,7 +58,8 @@ record-above : (t : ℕ) → isRecordType t ≡ true → 12 ≤ t
 record-above t h =
     elim (decLe 12 t) [
       | yes g ↦ g
-      | no g ↦ absurd (let e = lt-leb 12 t (omega arith) in let f = ne-eqb t 23 (λ e. omega arith) in let w : isRecordType t ≡ false = rw (e, f) in let z : _≡_ {A = ℕ} 0 1 = cc in omega arith)
+      | no g ↦ absurd (let e = lt-leb 12 t (omega arith) in let f = ne-eqb t 23 (λ e. omega arith) in let w : isRecordType t ≡ false = rw (e, f) in
+          let z : _≡_ {A = ℕ} 0 1 = cc in omega arith)
     ]
 
 pub picture-data-of : (t x : ℕ) → t ≤ 11 → isPictureDataOf t (unitKind x) ≡ eqb x t

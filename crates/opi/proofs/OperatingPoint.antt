@@ -46,7 +46,8 @@ module _ (x y z : BitsRead) where
 
 -- ---- the definition as three steps, each from where the one before it left the reader. The second flag is passed over.
 module _ (s : List ℕ) where
-  second-read : (b : Bool) (y : Parsed ℕ) (p : ℕ) → bind y (λ _ t. (if b then ue else refusing 0) s t) ≡ bind y (λ _ _. if b then ue s (readerPlaceAfter y p) else refused 0)
+  second-read : (b : Bool) (y : Parsed ℕ) (p : ℕ)
+      → bind y (λ _ t. (if b then ue else refusing 0) s t) ≡ bind y (λ _ _. if b then ue s (readerPlaceAfter y p) else refused 0)
   second-read true (value v t) p = refl
   second-read false (value v t) p = refl
   second-read b (refused e) p = refl
@@ -57,11 +58,13 @@ module _ (s : List ℕ) where
   first-read (value b q) p = passed-for-read 1 s q (λ t. (if isSet b then ue else refusing 0) s t) ∙ second-read (isSet b) (skipping 1 s q) q
   first-read (refused e) p = refl
 
-  three-reads : (p : ℕ) → opiPoint s p ≡ pointOf (u 1 s p) (skipping 1 s (readerPlaceAfter (u 1 s p) p)) (ue s (readerPlaceAfter (skipping 1 s (readerPlaceAfter (u 1 s p) p)) (readerPlaceAfter (u 1 s p) p)))
+  three-reads : (p : ℕ) → opiPoint s p ≡ pointOf (u 1 s p) (skipping 1 s (readerPlaceAfter (u 1 s p) p))
+      (ue s (readerPlaceAfter (skipping 1 s (readerPlaceAfter (u 1 s p) p)) (readerPlaceAfter (u 1 s p) p)))
   unfolding opiPoint
   three-reads p = first-read (u 1 s p) p
 
 -- what three steps of the reader return, from the first bit on
-module _ (s : RefT (List ℕ)) (d : BitReader) (t t₂ t₃ : ReaderStep) (from : AtStart s d) (h : Stepped (u 1) d t) (k : Stepped (skipping 1) (t .reader) t₂) (l : Stepped ue (t₂ .reader) t₃) where
+module _ (s : RefT (List ℕ)) (d : BitReader) (t t₂ t₃ : ReaderStep) (from : AtStart s d) (h : Stepped (u 1) d t)
+    (k : Stepped (skipping 1) (t .reader) t₂) (l : Stepped ue (t₂ .reader) t₃) where
   pub read-through : pointOf (parsed (t .answer)) (parsed (t₂ .answer)) (parsed (t₃ .answer)) ≡ opiPoint (now s) 0
   read-through = rw (three-reads (now s) 0, h .answer, k .answer, l .answer, k .place, h .place, k .bytes, h .bytes, from .0, from .1)

@@ -39,7 +39,8 @@ module _ (rec item : List ℕ) where
     scratch-enough = go (readBeside rec item) refl
       where
         go : (o : Outcome (FullParsed × List ℕ)) → readBeside rec item ≡ o
-            → andThen o (λ r. if leb (length (r .1)) (length scratch) then assemble (r .0 .head) (r .1) item tols else refuse 20) ≡ andThen o (λ r. assemble (r .0 .head) (r .1) item tols)
+            → andThen o (λ r. if leb (length (r .1)) (length scratch) then assemble (r .0 .head) (r .1) item tols else refuse 20)
+            ≡ andThen o (λ r. assemble (r .0 .head) (r .1) item tols)
         go (accept (r, list)) e =
             let f = full-read rec r list (read-beside r list e) in
             let l = ap length (f .is) in
@@ -49,16 +50,19 @@ module _ (rec item : List ℕ) where
   -- ### the output
   module _ (bytes : AllBytes rec) (tols : Option ℕ) where
     -- the units of the record take at most twice the record
-    listed-long : (r : FullParsed) (list : List ℕ) → parseFull rec ≡ accept (r, list) → (us : List Span) → listUnits list ≡ accept us → streamed (map (held list) us) ≤ 2 * length rec
+    listed-long : (r : FullParsed) (list : List ℕ) → parseFull rec ≡ accept (r, list) → (us : List Span) → listUnits list ≡ accept us
+        → streamed (map (held list) us) ≤ 2 * length rec
     listed-long r list e us u =
         let f = full-read rec r list e in
         let ys = heldArrays rec (f .arrays) in
-        let g : map (held (encode ys)) us ≡ unitsOf ys = encoded-units ys (sound-held rec (f .fits .sound bytes)) us (sym (ap listUnits (f .is)) ∙ u) in
+        let g : map (held (encode ys)) us ≡ unitsOf ys = encoded-units ys (sound-held rec (f .fits .sound bytes)) us
+        (sym (ap listUnits (f .is)) ∙ u) in
         let m : streamed (map (held list) us) ≡ streamed (map (held rec) (unitsOf (f .arrays))) =
         ap (λ (l : List ℕ). streamed (map (held l) us)) (f .is) ∙ ap streamed (g ∙ sym (units-held rec (f .arrays))) in
         omega (arith, held-room rec (unitsOf (f .arrays)), f .fits .streamed)
 
-    assembled-long : (r : FullParsed) (list b : List ℕ) → parseFull rec ≡ accept (r, list) → assemble (r .head) list item tols ≡ accept b → length b ≤ streamRoom rec item
+    assembled-long : (r : FullParsed) (list b : List ℕ) → parseFull rec ≡ accept (r, list) → assemble (r .head) list item tols ≡ accept b
+        → length b ≤ streamRoom rec item
     assembled-long r list b e a = go (eqb (prefixSize rec) 4) refl
       where
         go : (c : Bool) → eqb (prefixSize rec) 4 ≡ c → length b ≤ streamRoomWith c rec item
@@ -82,7 +86,9 @@ module _ (rec item : List ℕ) where
           let x = then-accept (readBeside rec item) _ b e in
           let r = x .0 .0 in
           let list = x .0 .1 in
-          assembled-long r list b (read-beside r list (x .1)) (fitted (leb (length list) (length scratch)) (assemble (r .head) list item tols) b (x .2))
+          assembled-long r list b (read-beside r list (x .1))
+          (fitted (leb (length list) (length scratch)) (assemble (r .head) list item tols) b (x .2))
 
       pub stream-suffices : scratchRoom rec ≤ length scratch → Suffices (streamRoom rec item) (streamBeside rec item tols scratch)
-      stream-suffices enough = suffices (streamRoom rec item) (streamBeside rec item tols scratch) (rw (scratch-enough scratch tols enough) (beside-not-short rec item tols)) stream-long
+      stream-suffices enough = suffices (streamRoom rec item) (streamBeside rec item tols scratch)
+          (rw (scratch-enough scratch tols enough) (beside-not-short rec item tols)) stream-long

@@ -51,7 +51,8 @@ list-lent : (list : List ℕ) (us : List Span) → listUnits list ≡ accept us 
 list-lent list us e = let x = then-accept (decode list) (λ xs. accept (unitsOf xs)) us e in accepted list (x .0) (x .1) .lent
 
 -- the units of an encoded list are those of its arrays
-pub encoded-units : (xs : List (Array (List ℕ))) → Sound xs → (us : List Span) → listUnits (encode xs) ≡ accept us → map (held (encode xs)) us ≡ unitsOf xs
+pub encoded-units : (xs : List (Array (List ℕ))) → Sound xs → (us : List Span) → listUnits (encode xs) ≡ accept us
+    → map (held (encode xs)) us ≡ unitsOf xs
 encoded-units xs sound us e =
     let u = units-encode xs (list-lent (encode xs) us e) sound in
     let y : accept us ≡ accept (u .spans) = sym e ∙ u .read in
@@ -65,7 +66,8 @@ unfolding kept room
 kept-room item target [] = omega arith
 kept-room item target (a ∷ xs) = go (keeps target (held item a)) (kept-room item target xs)
   where
-    go : (b : Bool) → room 4 (kept item target xs) ≤ room 4 xs → room 4 (if b then a ∷ kept item target xs else kept item target xs) ≤ 4 + a .len + room 4 xs
+    go : (b : Bool) → room 4 (kept item target xs) ≤ room 4 xs
+        → room 4 (if b then a ∷ kept item target xs else kept item target xs) ≤ 4 + a .len + room 4 xs
     go true h = omega arith
     go false h = omega arith
 
@@ -92,7 +94,8 @@ module _ (size : ℕ) (item : List ℕ) (some : 1 ≤ size) where
   unfolding keptLeft itemUnitsFrom
   kept-fit target ks e = go (many (itemUnit size) item 0) refl e
     where
-      go : (x : Parsed (List Span)) → many (itemUnit size) item 0 ≡ x → andThen (outcome x) (λ xs. accept (kept item target xs)) ≡ accept ks → ItemFits 0 ks
+      go : (x : Parsed (List Span)) → many (itemUnit size) item 0 ≡ x
+          → andThen (outcome x) (λ xs. accept (kept item target xs)) ≡ accept ks → ItemFits 0 ks
       go (refused n) w f = let z : _≡_ {A = ℕ} 0 1 = cc in absurd (omega arith)
       go (value xs r) w f =
           let y : kept item target xs ≡ ks = cc in

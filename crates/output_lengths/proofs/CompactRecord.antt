@@ -32,9 +32,11 @@ encoded-long w (u ∷ us) = omega (arith, length-append (toChunk w u) (encodeUni
 -- one byte, then each unit after one byte
 written-long : (c : CompactVvcConfig) (us : List (List ℕ)) (C : List ℕ) → compactBytes c us ≡ accept C → length C ≡ 1 + length (encodeUnits 1 us)
 unfolding compactBytes
-written-long c us C e = go (compactFirstByte c (length us)) (outside (c .«length_size»)) (not (leb 2 (length us) && leb (length us) 33)) (not (allAtMost 255 us)) e
+written-long c us C e =
+    go (compactFirstByte c (length us)) (outside (c .«length_size»)) (not (leb 2 (length us) && leb (length us) 33)) (not (allAtMost 255 us)) e
   where
-    go : (b : ℕ) (x y z : Bool) → (if x then refuse 4 else (if y then refuse 8 else (if z then refuse 9 else accept (b ∷ encodeUnits 1 us)))) ≡ accept C
+    go : (b : ℕ) (x y z : Bool)
+        → (if x then refuse 4 else (if y then refuse 8 else (if z then refuse 9 else accept (b ∷ encodeUnits 1 us)))) ≡ accept C
         → length C ≡ 1 + length (encodeUnits 1 us)
     go b true y z e = let z : _≡_ {A = ℕ} 0 1 = cc in absurd (omega arith)
     go b false true z e = let z : _≡_ {A = ℕ} 0 1 = cc in absurd (omega arith)
@@ -56,8 +58,12 @@ module _ (C : List ℕ) where
 
     -- a record that reads has at most 33 units of 255 bytes
     pub compact-longest : length C ≤ longestCompact
-    compact-longest =
-        omega (arith, written-long (r .config) (f .units) C (f .written), units-long 1 (f .units) (every-of (λ u. length u ≤ 255) (f .units) (λ k h. f .short k)), f .most)
+    compact-longest = omega (
+      arith,
+      written-long (r .config) (f .units) C (f .written),
+      units-long 1 (f .units) (every-of (λ u. length u ≤ 255) (f .units) (λ k h. f .short k)),
+      f .most,
+    )
 
     pub flag-is : r .config .«multi_layer_flag» ≡ multiLayer C
     flag-is = gives-compact .at (r .config, f .spans) (length C) (f .whole)

@@ -56,7 +56,9 @@ module _ (s : List ℕ) where
 
   gives-count : (t : Bool) (p : ℕ) → p ≤ length s → Gives ((if t then give 1 else uint 2) s p) (CountFits p)
   gives-count true p h = gives-value 1 p (record { after = omega arith; some = omega arith; inside = h })
-  gives-count false p h = record { at = λ n q e. let g = gives-uint s 2 p .at n q e in record { after = omega (arith, g .next); some = omega (arith, g .next); inside = g .inside } }
+  gives-count false p h = record {
+    at = λ n q e. let g = gives-uint s 2 p .at n q e in record { after = omega (arith, g .next); some = omega (arith, g .next); inside = g .inside };
+  }
 
   record ArrayFits (p : ℕ) (a : Array Span) (q : ℕ) : Type 0 where
     few : 4 * p + length (encodeArray 4 (heldArray s a)) ≤ 4 * q
@@ -118,7 +120,8 @@ module _ (s : List ℕ) where
       gives-bind (uint 1 s 0) _ (gives-uint s 1 0) (λ b q u.
       let sized : b / 2 % 4 + 1 ≡ prefixSize s = omega (arith, u .is, be-one s 0) in
       gives-bind (refuseIf (eqb (b / 2 % 4) 2) 3 s q) _ (gives-any _) (λ _ r _.
-      subst (λ n. Gives ((if isSet (b % 2) then headWithPtl (b / 2 % 4 + 1) else give (plainHead (b / 2 % 4 + 1))) s r) (λ h t. h .«length_size» ≡ n)) sized
+      subst
+      (λ n. Gives ((if isSet (b % 2) then headWithPtl (b / 2 % 4 + 1) else give (plainHead (b / 2 % 4 + 1))) s r) (λ h t. h .«length_size» ≡ n)) sized
       (go (isSet (b % 2)) (b / 2 % 4 + 1) r)))
     where
       go : (t : Bool) (n r : ℕ) → Gives ((if t then headWithPtl n else give (plainHead n)) s r) (λ h q. h .«length_size» ≡ n)

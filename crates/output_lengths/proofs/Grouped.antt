@@ -25,7 +25,8 @@ module _ (t n : ℕ) where
   without-less y [] = omega arith
   without-less y (x ∷ xs) = go (eqb x y) (without-less y xs)
     where
-      go : (c : Bool) → weigh t n (without y xs) ≤ weigh t n xs → weigh t n (if c then without y xs else x ∷ without y xs) ≤ (if eqb t x then n else 0) + weigh t n xs
+      go : (c : Bool) → weigh t n (without y xs) ≤ weigh t n xs
+          → weigh t n (if c then without y xs else x ∷ without y xs) ≤ (if eqb t x then n else 0) + weigh t n xs
       go true h = omega arith
       go false h = omega arith
 
@@ -49,7 +50,8 @@ module _ (t n : ℕ) where
       go false e h = omega (arith, without-less y (firsts ts))
 
 -- one unit more: its length for each occurrence of its type among the groups
-having-more : (t : ℕ) (u : List ℕ) (us : List (List ℕ)) → lengths (havingType t (u ∷ us)) ≡ (if eqb (typeOr31 u) t then length u else 0) + lengths (havingType t us)
+having-more : (t : ℕ) (u : List ℕ) (us : List (List ℕ))
+    → lengths (havingType t (u ∷ us)) ≡ (if eqb (typeOr31 u) t then length u else 0) + lengths (havingType t us)
 unfolding havingType lengths
 having-more t u us = go (eqb (typeOr31 u) t)
   where

@@ -59,4 +59,5 @@ restore-not-short c S = not-short-lent S _ (go (c .«multi_layer_flag»))
   where
     go : (b : Bool) → NotShort (if b then accept S else prefixed (c .«length_size») (stillUnit S))
     go true = tt
-    go false = not-short-if (outside (c .«length_size»)) 4 _ (λ e. omega arith) (not-short-if (leb (256 ^ (c .«length_size»)) (length (stillUnit S))) 6 _ (λ e. omega arith) tt)
+    go false = not-short-if (outside (c .«length_size»)) 4 _ (λ e. omega arith)
+        (not-short-if (leb (256 ^ (c .«length_size»)) (length (stillUnit S))) 6 _ (λ e. omega arith) tt)

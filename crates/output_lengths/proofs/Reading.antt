@@ -21,7 +21,8 @@ gives-refused e = record { at = λ b r w. let z : _≡_ {A = ℕ} 0 1 = cc in ab
 pub gives-any : {A : Type 0} (x : Parsed A) → Gives x (λ a q. Unit {0})
 gives-any x = record { at = λ a q e. tt }
 
-pub gives-bind : {A B : Type 0} {P : A → ℕ → Type 0} {Q : B → ℕ → Type 0} (x : Parsed A) (f : A → ℕ → Parsed B) → Gives x P → ((a : A) (q : ℕ) → P a q → Gives (f a q) Q) → Gives (bind x f) Q
+pub gives-bind : {A B : Type 0} {P : A → ℕ → Type 0} {Q : B → ℕ → Type 0} (x : Parsed A) (f : A → ℕ → Parsed B) → Gives x P
+    → ((a : A) (q : ℕ) → P a q → Gives (f a q) Q) → Gives (bind x f) Q
 gives-bind (value a q) f h k = k a q (h .at a q refl)
 gives-bind (refused e) f h k = gives-refused e
 

@@ -84,7 +84,8 @@ never-times (suc n) l = never-bind l (λ a. never-bind (never-times n l) (λ res
 never-up-to : {A : Type 0} (f : ℕ) {P : Parser A} → NeverShort P → NeverShort (manyUpTo f P)
 unfolding manyUpTo
 never-up-to zero l = never-give []
-never-up-to {A} (suc f) {P} l = record { at = λ s p n. go s p n (leb (length s) p) (never-bind l (λ a. never-bind (never-up-to f l) (λ rest. never-give (a ∷ rest)))) }
+never-up-to {A} (suc f) {P} l =
+    record { at = λ s p n. go s p n (leb (length s) p) (never-bind l (λ a. never-bind (never-up-to f l) (λ rest. never-give (a ∷ rest)))) }
   where
     go : (s : List ℕ) (p n : ℕ) (b : Bool) → NeverShort (P >>= (λ a. manyUpTo f P >>= (λ rest. give (a ∷ rest))))
         → (if b then value [] p else bind (P s p) (λ a q. bind (manyUpTo f P s q) (λ rest r. value (a ∷ rest) r))) ≡ refused n → n ≡ 20 → ⊥
@@ -229,7 +230,9 @@ never-vps =
 
 never-octets : (n : ℕ) → NeverShort (octets n)
 unfolding octets
-never-octets w = record { at = λ s p n. never-bind {Q = λ a t q. value (held t a) q} (never-bytes w) (λ a. record { at = λ t q m e f. read-not _ q m e }) .at s p n }
+never-octets w = record {
+  at = λ s p n. never-bind {Q = λ a t q. value (held t a) q} (never-bytes w) (λ a. record { at = λ t q m e f. read-not _ q m e }) .at s p n;
+}
 
 never-ptl-record : (m : ℕ) → NeverShort (vvcPtlRecord m)
 unfolding vvcPtlRecord
@@ -312,7 +315,8 @@ or-not-short : {A : Type 0} (n : ℕ) (o : Option A) → (n ≡ 20 → ⊥) → 
 or-not-short n none h = h
 or-not-short n (some a) h = tt
 
-unit-not-short : {A : Type 0} {P : Parser A} → NeverShort P → (t : ℕ) (unit : List ℕ) → NotShort (if eqb (typeOr31 unit) t then outcome (P (rbsp (drop 2 unit)) 0) else refuse 10)
+unit-not-short : {A : Type 0} {P : Parser A} → NeverShort P → (t : ℕ) (unit : List ℕ)
+    → NotShort (if eqb (typeOr31 unit) t then outcome (P (rbsp (drop 2 unit)) 0) else refuse 10)
 unit-not-short {A} {P} l t unit = go (eqb (typeOr31 unit) t)
   where
     go : (b : Bool) → NotShort (if b then outcome (P (rbsp (drop 2 unit)) 0) else refuse 10)
@@ -330,8 +334,8 @@ vps-not-short unit = not-short-lent unit _ (unit-not-short never-vps 14 unit)
 layers-not-short : (b : Bool) (us : List (List ℕ)) → NotShort (multiLayerVps b us)
 unfolding multiLayerVps
 layers-not-short false us = tt
-layers-not-short true us =
-    not-short-then (orRefuse 16 (firstElement (havingType 14 us))) _ (or-not-short 16 (firstElement (havingType 14 us)) (λ e. omega arith)) (λ vps. not-short-then (vpsFirstPtl vps) _ (vps-not-short vps) (λ _. tt))
+layers-not-short true us = not-short-then (orRefuse 16 (firstElement (havingType 14 us))) _
+    (or-not-short 16 (firstElement (havingType 14 us)) (λ e. omega arith)) (λ vps. not-short-then (vpsFirstPtl vps) _ (vps-not-short vps) (λ _. tt))
 
 ptl-not-short : (sps : SpsHead) (us : List (List ℕ)) → NotShort (ptlOfSets sps us)
 unfolding ptlOfSets
@@ -339,20 +343,23 @@ ptl-not-short sps us = go (sps .«ptl_present_flag»)
   where
     go : (b : Bool) → NotShort (if b then accept (sps .ptl) else andThen (orRefuse 18 (firstElement (havingType 14 us))) (λ vps. vpsFirstPtl vps))
     go true = tt
-    go false = not-short-then (orRefuse 18 (firstElement (havingType 14 us))) _ (or-not-short 18 (firstElement (havingType 14 us)) (λ e. omega arith)) vps-not-short
+    go false = not-short-then (orRefuse 18 (firstElement (havingType 14 us))) _
+        (or-not-short 18 (firstElement (havingType 14 us)) (λ e. omega arith)) vps-not-short
 
 full-not-short : (c : CompactVvcConfig) (pic : Picture) (list : List ℕ) → NotShort (toFull c pic list)
 unfolding toFull expandUnits
 full-not-short c pic list =
     not-short-then (listUnits list) _ (list-not-short list) (λ spans.
     not-short-then (multiLayerVps (c .«multi_layer_flag») (map (held list) spans)) _ (layers-not-short _ _) (λ _.
-    not-short-then (orRefuse 17 (firstElement (havingType 15 (map (held list) spans)))) _ (or-not-short 17 (firstElement (havingType 15 (map (held list) spans))) (λ e. omega arith)) (λ unit.
+    not-short-then (orRefuse 17 (firstElement (havingType 15 (map (held list) spans)))) _
+    (or-not-short 17 (firstElement (havingType 15 (map (held list) spans))) (λ e. omega arith)) (λ unit.
     not-short-then (parseSps unit) _ (sps-not-short unit) (λ sps.
     not-short-then (ptlOfSets sps (map (held list) spans)) _ (ptl-not-short sps _) (λ ptl. tt)))))
 
 split-not-short : (size : ℕ) (item : List ℕ) → NotShort (splitItem size item)
 unfolding splitItem itemUnits
-split-not-short size item = not-short-lent item _ (not-short-if (outside size) 4 _ (λ e. omega arith) (not-short-read (never-many (never-item size)) item 0))
+split-not-short size item =
+    not-short-lent item _ (not-short-if (outside size) 4 _ (λ e. omega arith) (not-short-read (never-many (never-item size)) item 0))
 
 assemble-not-short : (h : VvcConfig) (list item : List ℕ) (tols : Option ℕ) → NotShort (assemble h list item tols)
 unfolding assemble accessUnit

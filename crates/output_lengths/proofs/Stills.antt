@@ -40,7 +40,8 @@ use Rattle.output_lengths.proofs.Grouped.{grouped-less}
 use Rattle.output_lengths.proofs.CompactRecord.{encoded-long, compact-long, flag-is}
 
 -- a compact record that was read and expanded
-module _ (C : List ℕ) (all : AllBytes C) (r : CompactParsed) (list : List ℕ) (e : parseCompact C ≡ accept (r, list)) (pic : Picture) (full : FullHead) (arrays : List ℕ)
+module _ (C : List ℕ) (all : AllBytes C) (r : CompactParsed) (list : List ℕ) (e : parseCompact C ≡ accept (r, list)) (pic : Picture)
+    (full : FullHead) (arrays : List ℕ)
     (x : toFull (r .config) pic list ≡ accept (full, arrays)) where
   abbrev c : CompactVvcConfig
   c = r .config
@@ -70,7 +71,8 @@ module _ (C : List ℕ) (all : AllBytes C) (r : CompactParsed) (list : List ℕ)
       let k = expanded c list from pic full arrays x in
       let head = expandedHead c pic (k .ptl) in
       let g : serializeFull head (encode (grouped units)) ≡ accept b =
-      subst (λ (l : List ℕ). serializeFull head l ≡ accept b) (k .is-list) (subst (λ (h : VvcConfig). serializeFull h arrays ≡ accept b) (k .head) f) in
+      subst (λ (l : List ℕ). serializeFull head l ≡ accept b) (k .is-list)
+      (subst (λ (h : VvcConfig). serializeFull h arrays ≡ accept b) (k .head) f) in
       let w = written-bytes head (grouped units) b (sym (written c list from pic full arrays x) ∙ g) in
       let l = ap length w in
       omega (
@@ -104,13 +106,17 @@ module _ (C : List ℕ) (all : AllBytes C) (r : CompactParsed) (list : List ℕ)
     -- full write and restore are accepted
     restored : (item : List ℕ) × (accept (length item) ≡ countFound (itemAfter c (full .head) arrays S))
     restored =
-        let p = then-accept (serializeFull (full .head) arrays) (λ _. andThen (restore c S) (λ item. assemble (full .head) arrays item tols)) b (sym (is-ready .steps S tols) ∙ f) in
-        let q = then-accept (restore c S) (λ item. assemble (full .head) arrays item tols) b (p .2) in
-        (q .0, item-counted c (full .head) arrays S (length (p .0)) (accept (length (q .0))) (ap countFound (sym (p .1))) (ap countFound (sym (q .1))))
+        let p = then-accept (serializeFull (full .head) arrays) (λ _. andThen (restore c S) (λ item. assemble (full .head) arrays item tols)) b
+        (sym (is-ready .steps S tols) ∙ f) in
+        let q = then-accept (restore c S) (λ item. assemble (full .head) arrays item tols) b (p .2) in (
+          q .0,
+          item-counted c (full .head) arrays S (length (p .0)) (accept (length (q .0))) (ap countFound (sym (p .1))) (ap countFound (sym (q .1))),
+        )
 
     layers-long : c .«multi_layer_flag» ≡ true → length b ≤ stillRoomWith true C S
     layers-long s =
-        let p = assembled-parts (full .head) arrays S tols b (sym (stream-layers c (full .head) arrays S tols is-ready (length (restored .0)) (restored .1) lent s) ∙ f) in
+        let p = assembled-parts (full .head) arrays S tols b
+        (sym (stream-layers c (full .head) arrays S tols is-ready (length (restored .0)) (restored .1) lent s) ∙ f) in
         omega (arith, p .most, listed-long (p .units) (p .listed))
 
     plain-long : c .«multi_layer_flag» ≡ false → length b ≤ stillRoomWith false C S

@@ -22,7 +22,8 @@ same-first (value a q) f g h = h a q
 same-first (refused e) f g h = refl
 
 -- a read that is the first of a section
-pub into-section : {A B C : Type 0} (x : Parsed A) (h : A → ℕ → Parsed C) (f : A → ℕ → Parsed B) (g : B → ℕ → Parsed C) → ((a : A) (q : ℕ) → h a q ≡ bind (f a q) g) → bind x h ≡ bind (bind x f) g
+pub into-section : {A B C : Type 0} (x : Parsed A) (h : A → ℕ → Parsed C) (f : A → ℕ → Parsed B) (g : B → ℕ → Parsed C)
+    → ((a : A) (q : ℕ) → h a q ≡ bind (f a q) g) → bind x h ≡ bind (bind x f) g
 into-section (value a q) h f g e = e a q
 into-section (refused r) h f g e = refl
 

@@ -55,7 +55,8 @@ accepted-bytes {A} b bytes out exit a e f =
           let z : _≡_ {A = ℕ} 0 1 = cc in omega arith)
     ]
   where
-    fitting : length bytes ≤ length out → _≡_ {A = Outcome A} (accept a) (accept b) → exit ≡ overlay bytes out → OutputAccepted (accept (b, bytes)) out exit a
+    fitting : length bytes ≤ length out → _≡_ {A = Outcome A} (accept a) (accept b) → exit ≡ overlay bytes out
+        → OutputAccepted (accept (b, bytes)) out exit a
     fitting k x y = let s : a ≡ b = cc in record { bytes = bytes; given = rw s; fits = k; holds = y }
 
 pub output-accepted : {A : Type 0} (o : Outcome (A × List ℕ)) (out exit : List ℕ) (a : A)
@@ -64,7 +65,8 @@ output-accepted (accept (b, bytes)) out exit a e f = accepted-bytes b bytes out 
 output-accepted (refuse n) out exit a e f = let z : _≡_ {A = ℕ} 0 1 = cc in absurd (omega arith)
 
 -- it was refused, and every result fits: the outcome is that refusal
-pub output-not-accepted : {A : Type 0} (o : Outcome (A × List ℕ)) (out : List ℕ) (n : ℕ) → ((a : A) (b : List ℕ) → o ≡ accept (a, b) → length b ≤ length out)
+pub output-not-accepted : {A : Type 0} (o : Outcome (A × List ℕ)) (out : List ℕ) (n : ℕ)
+    → ((a : A) (b : List ℕ) → o ≡ accept (a, b) → length b ≤ length out)
     → refuse n ≡ lentOutput o out .0 → o ≡ refuse n
 output-not-accepted {A} (accept (a, b)) out n fits e =
     let x : _≡_ {A = Outcome A} (refuse n) (accept a) = e ∙ rw (le-leb (length b) (length out) (fits a b refl)) in

@@ -18,7 +18,8 @@ put-room f o out to h = rw (h .found) (h .room)
 pub puts-on : {A : Type 0} (f : A → List ℕ) (o : Outcome A) (out d : List ℕ) (to : ℕ) → Puts f o out to → length d ≡ length out → Puts f o d to
 puts-on f o out d to h e = record { it = h .it; found = h .found; room = omega (arith, h .room) }
 
-pub puts-found : {A : Type 0} (f : A → List ℕ) (o : Outcome A) (out : List ℕ) (to : ℕ) (a : A) → o ≡ accept a → to + length (f a) ≤ length out → Puts f o out to
+pub puts-found : {A : Type 0} (f : A → List ℕ) (o : Outcome A) (out : List ℕ) (to : ℕ) (a : A) → o ≡ accept a
+    → to + length (f a) ≤ length out → Puts f o out to
 puts-found f o out to a e h = record { it = a; found = e; room = h }
 
 module _ {A : Type 0} (f : List A → List ℕ) (out₀ : List ℕ) (to₀ : ℕ) (o₀ : Outcome (List A)) where
@@ -56,7 +57,8 @@ module _ {A : Type 0} (f : List A → List ℕ) (out₀ : List ℕ) (to₀ : ℕ
       putting-room (accept xs) e = let h = first xs e in omega arith
       putting-room (refuse n) e = absurd (putting-never n e)
 
-      pub putting-again : (rest : Outcome (List A)) → o ≡ more a rest → (d : List ℕ) → d ≡ sets out to bytes → (next : ℕ) → next ≡ to + length bytes → Putting rest d next
+      pub putting-again : (rest : Outcome (List A)) → o ≡ more a rest → (d : List ℕ) → d ≡ sets out to bytes → (next : ℕ) → next ≡ to + length bytes
+          → Putting rest d next
       putting-again (refuse n) e d g next k = absurd (putting-never n e)
       putting-again (accept xs) e d g next k =
           let l : length d ≡ length out = ap length g ∙ length-sets out to bytes in

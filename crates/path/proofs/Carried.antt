@@ -41,7 +41,8 @@ use Rattle.path.proofs.Lengths.{head-long, arrays-long}
 use Rattle.path.proofs.Units.{still-splits, all-split}
 use Rattle.boxes.proofs.PrefixSizes.{not-outside}
 
-annexB-long : (gs : List (List ℕ)) (u : List ℕ) → Every (λ x. length x ≤ 255) gs → length (annexB startCode (gs ++ (u ∷ []))) ≤ 259 * length gs + 4 + length u
+annexB-long : (gs : List (List ℕ)) (u : List ℕ) → Every (λ x. length x ≤ 255) gs
+    → length (annexB startCode (gs ++ (u ∷ []))) ≤ 259 * length gs + 4 + length u
 unfolding annexB
 annexB-long [] u e = omega (arith, length-append u [])
 annexB-long (g ∷ gs) u e =
@@ -90,7 +91,12 @@ module _ (c : CompactVvcConfig) (pic : Picture) (ptl : VvcPtlRecord) (us : List 
   written =
       let l = grouped-long us (k .units .short) in
       let n = k .few in
-      rw (decode-encode (grouped us) (omega arith) (grouped-sound us (k .units .types)), held-encode (grouped us) (omega arith), ne-eqb (c .«length_size») 3 (k .size), record-fits)
+      rw (
+        decode-encode (grouped us) (omega arith) (grouped-sound us (k .units .types)),
+        held-encode (grouped us) (omega arith),
+        ne-eqb (c .«length_size») 3 (k .size),
+        record-fits,
+      )
 
   writable : Writable head (asWritten ptl 1)
   writable = record {
@@ -144,7 +150,8 @@ module _ (c : CompactVvcConfig) (pic : Picture) (ptl : VvcPtlRecord) (us : List 
 
   item-split : splitItem (c .«length_size») item ≡ accept (one ∷ [])
   unfolding splitItem
-  item-split = rw (le-leb (length item) (2 ^ 30) item-long) (split-one (c .«length_size») (0 ∷ 65 ∷ S) (k .size-low) (k .size-high) (omega arith) item-fits)
+  item-split =
+      rw (le-leb (length item) (2 ^ 30) item-long) (split-one (c .«length_size») (0 ∷ 65 ∷ S) (k .size-low) (k .size-high) (omega arith) item-fits)
 
   item-held : held item one ≡ 0 ∷ 65 ∷ S
   item-held = held-one (c .«length_size») (0 ∷ 65 ∷ S) (k .size-low) (k .size-high) (omega arith) item-fits
@@ -161,7 +168,8 @@ module _ (c : CompactVvcConfig) (pic : Picture) (ptl : VvcPtlRecord) (us : List 
       let l = grouped-long us (k .units .short) in
       let n = k .few in
       let r = units-encode (grouped us) (omega arith) (grouped-sound us (k .units .types)) in
-      one-assembled back groupedList item tols (r .spans) one (0 ∷ 65 ∷ S) (r .read) item-split item-held (λ x. omega arith) (λ x. omega arith) ∙ rw (r .bytes)
+      one-assembled back groupedList item tols (r .spans) one (0 ∷ 65 ∷ S) (r .read) item-split item-held (λ x. omega arith) (λ x. omega arith)
+      ∙ rw (r .bytes)
 
   all-splits : (j : ℕ) → j < length carried → Splittable (getD carried j [])
   all-splits = all-split (unitsOf (grouped us)) (0 ∷ 65 ∷ S) (every-grouped us Splittable (k .split)) (still-splits S (k .clean))
@@ -182,7 +190,8 @@ module _ (c : CompactVvcConfig) (pic : Picture) (ptl : VvcPtlRecord) (us : List 
   pub split-count : length (streamUnitsFrom stream 0) ≡ length us + 1
   split-count =
       let e = ap length split-units in
-      omega (arith, e, length-map (streamUnitsFrom stream 0) (held stream), length-append (unitsOf (grouped us)) ((0 ∷ 65 ∷ S) ∷ []), grouped-count us)
+      omega
+      (arith, e, length-map (streamUnitsFrom stream 0) (held stream), length-append (unitsOf (grouped us)) ((0 ∷ 65 ∷ S) ∷ []), grouped-count us)
 
   unit-held : (j : ℕ) → held stream (getD (streamUnitsFrom stream 0) j nowhere) ≡ getD carried j []
   unit-held j = sym (List·getD-map (held stream) (streamUnitsFrom stream 0) j nowhere) ∙ ap (λ (l : List (List ℕ)). getD l j []) split-units

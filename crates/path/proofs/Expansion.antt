@@ -31,7 +31,8 @@ then-accept (accept a) f b e = (a, refl, e)
 then-accept (refuse n) f b e = let z : _≡_ {A = ℕ} 0 1 = cc in absurd (omega arith)
 
 -- the first unit of a type is one of the units
-first-is : (P : List ℕ → Type 0) (t : ℕ) (us : List (List ℕ)) → Every P us → (e : ℕ) (u : List ℕ) → orRefuse e (firstElement (havingType t us)) ≡ accept u → P u
+first-is : (P : List ℕ → Type 0) (t : ℕ) (us : List (List ℕ)) → Every P us → (e : ℕ) (u : List ℕ)
+    → orRefuse e (firstElement (havingType t us)) ≡ accept u → P u
 unfolding havingType
 first-is P t [] p e u h = let z : _≡_ {A = ℕ} 0 1 = cc in absurd (omega arith)
 first-is P t (v ∷ us) p e u h = go (eqb (typeOf v) t) (first-is P t us (p .1) e u) h
@@ -39,7 +40,8 @@ first-is P t (v ∷ us) p e u h = go (eqb (typeOf v) t) (first-is P t us (p .1) 
     typeOf : List ℕ → ℕ
     typeOf v = Rattle.nal.specs.Header.typeOr31 v
 
-    go : (c : Bool) → (orRefuse e (firstElement (havingType t us)) ≡ accept u → P u) → orRefuse e (firstElement (if c then v ∷ havingType t us else havingType t us)) ≡ accept u → P u
+    go : (c : Bool) → (orRefuse e (firstElement (havingType t us)) ≡ accept u → P u)
+        → orRefuse e (firstElement (if c then v ∷ havingType t us else havingType t us)) ≡ accept u → P u
     go true r h = let z : v ≡ u = cc in subst P z (p .0)
     go false r h = r h
 
@@ -56,7 +58,8 @@ module _ (us : List (List ℕ)) (bytes : Every AllBytes us) where
           vps-ptl (r .0) p (first-is AllBytes 14 us bytes 18 (r .0) (r .1)) (r .2)
 
   -- when the steps are accepted, expansion is
-  expands-as : (c : CompactVvcConfig) (pic : Picture) (x : Unit {0}) (u : List ℕ) (h : SpsHead) (p : VvcPtlRecord) → multiLayerVps (c .«multi_layer_flag») us ≡ accept x
+  expands-as : (c : CompactVvcConfig) (pic : Picture) (x : Unit {0}) (u : List ℕ) (h : SpsHead) (p : VvcPtlRecord)
+      → multiLayerVps (c .«multi_layer_flag») us ≡ accept x
       → orRefuse 17 (firstElement (havingType 15 us)) ≡ accept u → parseSps u ≡ accept h → ptlOfSets h us ≡ accept p
       → expandUnits c pic us ≡ accept (withList (expandedHead c pic p) (encode (grouped us)))
   unfolding expandUnits
@@ -75,7 +78,8 @@ module _ (us : List (List ℕ)) (bytes : Every AllBytes us) where
   unfolding expandUnits
   expansion c pic full list e =
       let q = then-accept (multiLayerVps (c .«multi_layer_flag») us) (λ _. after) (full, list) e in
-      let r = then-accept (orRefuse 17 (firstElement (havingType 15 us))) (λ u. andThen (parseSps u) (λ h. andThen (ptlOfSets h us) (λ p. accept (made p)))) (full, list) (q .2) in
+      let r = then-accept (orRefuse 17 (firstElement (havingType 15 us)))
+      (λ u. andThen (parseSps u) (λ h. andThen (ptlOfSets h us) (λ p. accept (made p)))) (full, list) (q .2) in
       let s = then-accept (parseSps (r .0)) (λ h. andThen (ptlOfSets h us) (λ p. accept (made p))) (full, list) (r .2) in
       let t = then-accept (ptlOfSets (s .0) us) (λ p. accept (made p)) (full, list) (s .2) in
       let m : made (t .0) ≡ (full, list) = cc in
@@ -91,7 +95,8 @@ module _ (us : List (List ℕ)) (bytes : Every AllBytes us) where
       made p = withList (expandedHead c pic p) (encode (grouped us))
 
       after : Outcome (FullHead × List ℕ)
-      after = andThen (orRefuse 17 (firstElement (havingType 15 us))) (λ u. andThen (parseSps u) (λ h. andThen (ptlOfSets h us) (λ p. accept (made p))))
+      after =
+          andThen (orRefuse 17 (firstElement (havingType 15 us))) (λ u. andThen (parseSps u) (λ h. andThen (ptlOfSets h us) (λ p. accept (made p))))
 
 -- an accepted expansion of a list is one of its units
 pub of-units : (c : CompactVvcConfig) (pic : Picture) (list : List ℕ) (xs : List Span) (r : FullHead × List ℕ) → listUnits list ≡ accept xs

@@ -49,14 +49,20 @@ pub record Instances : Type 0 where
   pub interleaved : Still mixed []
 
 pub instances : Instances
-unfolding times many manyUpTo be toBe uint bytes chunk toChunk inside arrayRest array unitList decode unitsOf encodeUnits encodeArray encodeArrays encode drops nextZeros unescape bitsAt u skip align zerosBeforeOne ue presentFlags levels withoutFlags constraintBits generalConstraintsInfo constraintBytes profileTierLevel window spsHead parseSps atEnd compactRecord parseCompact havingType without firsts grouped multiLayerVps ptlOfSets expandUnits toFull allBytes isStartCode scan endsInZero unitChecked allChecked
+unfolding times many manyUpTo be toBe uint bytes chunk toChunk inside arrayRest array unitList decode unitsOf encodeUnits encodeArray encodeArrays
+    encode drops nextZeros unescape bitsAt u skip align zerosBeforeOne ue presentFlags levels withoutFlags constraintBits generalConstraintsInfo
+    constraintBytes profileTierLevel window spsHead parseSps atEnd compactRecord parseCompact havingType without firsts grouped multiLayerVps
+    ptlOfSets expandUnits toFull allBytes isStartCode scan endsInZero unitChecked allChecked
 instances = record {
-  worked = meets C (0x9A ∷ []) 4 (P ∷ Q ∷ []) refl refl refl refl (λ e. omega arith) (omega arith) (omega arith) refl (clean-of (0x9A ∷ []) (checked-splittable (0x9A ∷ []) refl)) (omega arith) (omega arith);
-  interleaved = meets mixed [] 1 (Q ∷ P ∷ opi ∷ Q′ ∷ dci ∷ P′ ∷ []) refl refl refl refl (λ e. omega arith) (omega arith) (omega arith) refl clean-none (omega arith) (omega arith);
+  worked = meets C (0x9A ∷ []) 4 (P ∷ Q ∷ []) refl refl refl refl (λ e. omega arith) (omega arith) (omega arith) refl
+      (clean-of (0x9A ∷ []) (checked-splittable (0x9A ∷ []) refl)) (omega arith) (omega arith);
+  interleaved = meets mixed [] 1 (Q ∷ P ∷ opi ∷ Q′ ∷ dci ∷ P′ ∷ []) refl refl refl refl (λ e. omega arith) (omega arith) (omega arith) refl clean-none
+      (omega arith) (omega arith);
 }
 
 -- the theorem for these two
-module _ (pic pic′ : Picture) (chroma : pic .«chroma_format_idc» ≤ 3) (depth : pic .«bit_depth» ≤ 15) (chroma′ : pic′ .«chroma_format_idc» ≤ 3) (depth′ : pic′ .«bit_depth» ≤ 15) (tols tols′ : Option ℕ) where
+module _ (pic pic′ : Picture) (chroma : pic .«chroma_format_idc» ≤ 3) (depth : pic .«bit_depth» ≤ 15) (chroma′ : pic′ .«chroma_format_idc» ≤ 3)
+    (depth′ : pic′ .«bit_depth» ≤ 15) (tols tols′ : Option ℕ) where
   pub both : Paths C (0x9A ∷ []) mixed [] pic pic′ tols tols′
   both = whole-path C (0x9A ∷ []) mixed [] (instances .worked) (instances .interleaved) pic pic′ chroma depth chroma′ depth′ tols tols′
 
@@ -73,7 +79,8 @@ module _ (pic pic′ : Picture) (chroma : pic .«chroma_format_idc» ≤ 3) (dep
   -- both PPS, both SPS, the OPI and the DCI unit; the record has them in the order Q P OPI Q′ DCI P′
   pub interleaved-grouped : both .second .grouped ≡ Q ∷ Q′ ∷ P ∷ P′ ∷ opi ∷ dci ∷ []
   unfolding times be uint bytes chunk atEnd compactRecord havingType without firsts grouped unitsOf
-  interleaved-grouped = one-order (unitsIn mixed) (both .second .grouped) (Q ∷ Q′ ∷ P ∷ P′ ∷ opi ∷ dci ∷ []) (both .second .order) (grouped-as (unitsIn mixed))
+  interleaved-grouped =
+      one-order (unitsIn mixed) (both .second .grouped) (Q ∷ Q′ ∷ P ∷ P′ ∷ opi ∷ dci ∷ []) (both .second .order) (grouped-as (unitsIn mixed))
 
   pub interleaved-stream : both .second .stream
       ≡ (0x00 ∷ 0x00 ∷ 0x00 ∷ 0x01 ∷ Q) ++ (0x00 ∷ 0x00 ∷ 0x00 ∷ 0x01 ∷ Q′) ++ (0x00 ∷ 0x00 ∷ 0x00 ∷ 0x01 ∷ P) ++ (0x00 ∷ 0x00 ∷ 0x00 ∷ 0x01 ∷ P′)

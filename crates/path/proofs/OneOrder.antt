@@ -26,7 +26,10 @@ module _ (m : ℕ) (f : ℕ → ℕ) (small : (i : ℕ) → i < suc (suc m) → 
       go true e =
           elim (decLe m (f (suc m))) [
             | no l ↦ omega arith
-            | yes l ↦ absurd (omega (arith, once i (suc m) (omega arith) (omega arith) (omega (arith, leb-true m (f i) e, small i (omega arith), small (suc m) (omega arith)))))
+            | yes l ↦ absurd (omega (
+              arith,
+              once i (suc m) (omega arith) (omega arith) (omega (arith, leb-true m (f i) e, small i (omega arith), small (suc m) (omega arith))),
+            ))
           ]
 
   moved-once : (i j : ℕ) → i < suc m → j < suc m → pick (leb m (f i)) (f i) ≡ pick (leb m (f j)) (f j) → i ≡ j
@@ -53,7 +56,8 @@ module _ (us gs : List (List ℕ)) (g : GroupedAs us gs) (k : ℕ) (h : k < leng
   place-small i (yes l) = g .each i l .1
   place-small i (no l) = h
 
-  place-once : (i j : ℕ) → i < suc (length us) → j < suc (length us) → (d : Dec (suc i ≤ length us)) (e : Dec (suc j ≤ length us)) → place i d ≡ place j e → i ≡ j
+  place-once : (i j : ℕ) → i < suc (length us) → j < suc (length us) → (d : Dec (suc i ≤ length us)) (e : Dec (suc j ≤ length us))
+      → place i d ≡ place j e → i ≡ j
   place-once i j a b (yes l) (yes n) e = sym (g .each i l .2) ∙ ap (λ (x : ℕ). getD (g .order) x 0) e ∙ g .each j n .2
   place-once i j a b (yes l) (no n) e = absurd (let z = sym (g .each i l .2) ∙ ap (λ (x : ℕ). getD (g .order) x 0) e in omega arith)
   place-once i j a b (no l) (yes n) e = absurd (let z = ap (λ (x : ℕ). getD (g .order) x 0) e ∙ g .each j n .2 in omega arith)
@@ -100,11 +104,13 @@ module _ (us gs hs : List (List ℕ)) (g : GroupedAs us gs) (h : GroupedAs us hs
   before (suc n) k a b =
       elim (decLe (suc k) n) [
         | yes l ↦ before n k l (omega arith)
-        | no l ↦ let e : n ≡ k = omega arith in subst (λ (x : ℕ). getD (g .order) x 0 ≡ getD (h .order) x 0) e (next n (omega arith) (λ j m. before n j m (omega arith)))
+        | no l ↦ let e : n ≡ k = omega arith in
+            subst (λ (x : ℕ). getD (g .order) x 0 ≡ getD (h .order) x 0) e (next n (omega arith) (λ j m. before n j m (omega arith)))
       ]
 
   pub one-order : gs ≡ hs
   one-order =
       g .units
-      ∙ ap (map (λ i. getD us i [])) (ext-getD 0 (g .order) (h .order) (g .count ∙ sym (h .count)) (λ i l. before (length us) i (omega (arith, g .count)) (omega arith)))
+      ∙ ap (map (λ i. getD us i []))
+      (ext-getD 0 (g .order) (h .order) (g .count ∙ sym (h .count)) (λ i l. before (length us) i (omega (arith, g .count)) (omega arith)))
       ∙ sym (h .units)

@@ -18,7 +18,8 @@ use Rattle.path.specs.Still.{unitsIn, Still}
 use Rattle.path.specs.Path.{Path, WholePath}
 use Rattle.path.proofs.Writes.{writes-of, counts-of}
 use Rattle.path.proofs.Carried.{splits, split-count, unit-below, unit-last}
-use Rattle.path.proofs.Steps.{config, expansion-of, listOf, streamOf, reads-as, carries, headOf, recordOf, headBack, itemOf, is-expanded, is-written, is-read-back, is-restored, is-assembled}
+use Rattle.path.proofs.Steps.{config, expansion-of, listOf, streamOf, reads-as, carries, headOf, recordOf}
+use Rattle.path.proofs.Steps.{headBack, itemOf, is-expanded, is-written, is-read-back, is-restored, is-assembled}
 
 -- one still
 module _ (C S : List ℕ) (still : Still C S) (pic : Picture) (chroma : pic .«chroma_format_idc» ≤ 3) (depth : pic .«bit_depth» ≤ 15) where
@@ -75,8 +76,8 @@ module _ {C S C′ S′ : List ℕ} {pic pic′ : Picture} {tols tols′ : Optio
         (λ k h. sym (p .unit k (omega (arith, grouped-long p))) ∙ same-unit k ∙ q .unit k (omega (arith, grouped-long p, same-count)))
 
     same-picture : S ≡ S′
-    same-picture =
-        ap (drop 2) (sym (p .last) ∙ same-unit (length (unitsIn C)) ∙ ap (λ (k : ℕ). held (q .stream) (getD (q .spans) k nowhere)) same-count ∙ q .last)
+    same-picture = ap (drop 2)
+        (sym (p .last) ∙ same-unit (length (unitsIn C)) ∙ ap (λ (k : ℕ). held (q .stream) (getD (q .spans) k nowhere)) same-count ∙ q .last)
 
 -- The claim (specs/Path.antt).
 pub whole-path : WholePath

@@ -83,8 +83,10 @@ module _ (C S : List ℕ) (size : ℕ) (us : List (List ℕ)) where
   abbrev pub full : FullHead × List ℕ
   full = withList (expandedHead config picture ptlOfP) (encode (grouped us))
 
-  pub meets : unitsIn C ≡ us → allBytes C ≡ true → parseCompact C ≡ accept (read, oneArray us) → toFull config picture (oneArray us) ≡ accept full → (size ≡ 3 → ⊥)
-      → length (havingType 12 us) ≤ 1 → length (havingType 13 us) ≤ 1 → allChecked us ≡ true → Clean S → length S ≤ 2 ^ 29 → 2 + length S < 256 ^ size → Still C S
+  pub meets : unitsIn C ≡ us → allBytes C ≡ true → parseCompact C ≡ accept (read, oneArray us)
+      → toFull config picture (oneArray us) ≡ accept full → (size ≡ 3 → ⊥)
+      → length (havingType 12 us) ≤ 1 → length (havingType 13 us) ≤ 1 → allChecked us ≡ true → Clean S → length S ≤ 2 ^ 29
+      → 2 + length S < 256 ^ size → Still C S
   meets e b r f n o d c s l p = record {
     bytes = bytes-of C b;
     read = read;

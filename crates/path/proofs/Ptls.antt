@@ -24,7 +24,12 @@ writable m r h f =
     let b = f .info-few in
     let c = f .levels-count in
     record {
-      fits = rw (le-leb (r .«general_profile_idc») 127 (omega arith), le-leb (r .«num_bytes_constraint_info») 63 (omega arith), le-leb (r .«num_sublayer_levels») 7 (omega arith), le-leb (r .«num_sub_profiles») 255 (f .subs-few));
+      fits = rw (
+        le-leb (r .«general_profile_idc») 127 (omega arith),
+        le-leb (r .«num_bytes_constraint_info») 63 (omega arith),
+        le-leb (r .«num_sublayer_levels») 7 (omega arith),
+        le-leb (r .«num_sub_profiles») 255 (f .subs-few),
+      );
       info-is = f .info-long;
       subs-are = f .subs-long;
       subs-small = f .subs-below;

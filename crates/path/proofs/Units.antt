@@ -62,8 +62,8 @@ clean-splits u h c = record { some = h; free = λ i k. c .free i (k .inside) (k 
 no-code : (S : List ℕ) → Clean S → (i : ℕ) → CodeAt (0 ∷ 65 ∷ S) i → ⊥
 no-code S c zero k = let e = k .second in omega arith
 no-code S c (suc zero) k = let e = k .first in omega arith
-no-code S c (suc (suc i)) k =
-    c .free i (omega (arith, k .inside)) (k .first) (subst (λ (n : ℕ). getD (0 ∷ 65 ∷ S) n 0 ≡ 0) a (k .second)) (subst (λ (n : ℕ). getD (0 ∷ 65 ∷ S) n 0 ≡ 1) b (k .third))
+no-code S c (suc (suc i)) k = c .free i (omega (arith, k .inside)) (k .first) (subst (λ (n : ℕ). getD (0 ∷ 65 ∷ S) n 0 ≡ 0) a (k .second))
+    (subst (λ (n : ℕ). getD (0 ∷ 65 ∷ S) n 0 ≡ 1) b (k .third))
   where
     a : suc (suc i) + 1 ≡ suc (suc (i + 1))
     a = omega arith

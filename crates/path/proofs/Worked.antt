@@ -53,7 +53,8 @@ rewritten o = andThen o (λ r. andThen (serializeFull (r .0 .head) (r .1)) (λ b
 
 pub record Worked : Type 0 where
   -- 60 0B P 03 Q reads: prefix size 4, 2 units
-  pub compact-reads : parseCompact C ≡ accept (record { config = plain 4; unitCount = 2; listLength = length (oneArray (P ∷ Q ∷ [])) }, oneArray (P ∷ Q ∷ []))
+  pub compact-reads : parseCompact C
+      ≡ accept (record { config = plain 4; unitCount = 2; listLength = length (oneArray (P ∷ Q ∷ [])) }, oneArray (P ∷ Q ∷ []))
   pub sps-head : parseSps P ≡ accept headOfP
   -- FF 00 15 1F 01 02 33 80 00 00 10 00 08 00 00 02 8F 00 01 00 0B P 90 00 01 00 03 Q
   pub expanded-and-written : written (parseCompact C) ≡ accept
@@ -62,7 +63,8 @@ pub record Worked : Type 0 where
   -- 9A restored, flag clear, prefix size 4
   pub restored : restore (plain 4) (0x9A ∷ []) ≡ accept (0x00 ∷ 0x00 ∷ 0x00 ∷ 0x03 ∷ 0x00 ∷ 0x41 ∷ 0x9A ∷ [])
   -- 40 00 00 reads (prefix size 3), 40 00 is 1, 40 00 00 00 is 7
-  pub size-3-reads : parseCompact (0x40 ∷ 0x00 ∷ 0x00 ∷ []) ≡ accept (record { config = plain 3; unitCount = 2; listLength = length (oneArray ([] ∷ [] ∷ [])) }, oneArray ([] ∷ [] ∷ []))
+  pub size-3-reads : parseCompact (0x40 ∷ 0x00 ∷ 0x00 ∷ [])
+      ≡ accept (record { config = plain 3; unitCount = 2; listLength = length (oneArray ([] ∷ [] ∷ [])) }, oneArray ([] ∷ [] ∷ []))
   pub unit-missing : parseCompact (0x40 ∷ 0x00 ∷ []) ≡ refuse 1
   pub byte-left : parseCompact (0x40 ∷ 0x00 ∷ 0x00 ∷ 0x00 ∷ []) ≡ refuse 7
   -- 00 00 55 reads as a full record of 2 bytes, written again as F8 00; FC 00 is 3
@@ -76,7 +78,12 @@ pub record Worked : Type 0 where
   pub extracted : rbsp (0x00 ∷ 0x00 ∷ 0x03 ∷ 0x00 ∷ 0x00 ∷ 0x03 ∷ []) ≡ 0x00 ∷ 0x00 ∷ 0x00 ∷ 0x00 ∷ []
 
 pub worked : Worked
-unfolding times many manyUpTo be toBe uint bytes chunk toChunk inside arrayRest array unitList decode unitsOf unitsOfType encodeUnits encodeArray encodeArrays encode drops nextZeros unescape bitsAt u skip align zerosBeforeOne ue presentFlags levels withoutFlags constraintBits generalConstraintsInfo constraintBytes profileTierLevel window spsHead vpsPtl parseSps vpsFirstPtl atEnd compactRecord parseCompact restore octets vvcPtlRecord headWithPtl vvcHead recordArray vvcRecord parseFull withFlags flagByte levelBytes subProfileBytes ptlBytes ptlPart headBytes arrayBytes arraysBytes fullBytes ptlFits ptlPartFits headFits unitsFit arrayFits arraysFit recordFits writeFull serializeFull havingType without firsts grouped multiLayerVps ptlOfSets expandUnits toFull
+unfolding times many manyUpTo be toBe uint bytes chunk toChunk inside arrayRest array unitList decode unitsOf unitsOfType encodeUnits encodeArray
+    encodeArrays encode drops nextZeros unescape bitsAt u skip align zerosBeforeOne ue presentFlags levels withoutFlags constraintBits
+    generalConstraintsInfo constraintBytes profileTierLevel window spsHead vpsPtl parseSps vpsFirstPtl atEnd compactRecord parseCompact restore
+    octets vvcPtlRecord headWithPtl vvcHead recordArray vvcRecord parseFull withFlags flagByte levelBytes subProfileBytes ptlBytes ptlPart headBytes
+    arrayBytes arraysBytes fullBytes ptlFits ptlPartFits headFits unitsFit arrayFits arraysFit recordFits writeFull serializeFull havingType without
+    firsts grouped multiLayerVps ptlOfSets expandUnits toFull
 worked = record {
   compact-reads = refl;
   sps-head = refl;

@@ -23,9 +23,10 @@ module _ (n : ℕ) (b c : List ℕ) (long : length b + length c ≤ n) (same : (
   not-longer h = let z = after 0 in let o = after 1 in omega arith
     where
       after : (v : ℕ) → getD c (length b + 0) 0 ≡ v
-      after v =
-          sym (List·getD-append c (drop (length c) (replicate n v)) 0 (length b + 0) (omega arith)) ∙ ap (λ (l : List ℕ). getD l (length b + 0) 0) (same v)
-          ∙ getD-append-add b (drop (length b) (replicate n v)) 0 0 ∙ getD-drop (length b) (replicate n v) 0 0 ∙ getD-replicate n (length b + 0) v 0 (omega arith)
+      after v = sym (List·getD-append c (drop (length c) (replicate n v)) 0 (length b + 0) (omega arith))
+          ∙ ap (λ (l : List ℕ). getD l (length b + 0) 0) (same v)
+          ∙ getD-append-add b (drop (length b) (replicate n v)) 0 0 ∙ getD-drop (length b) (replicate n v) 0 0
+          ∙ getD-replicate n (length b + 0) v 0 (omega arith)
 
   alike : length c ≡ length b → c ≡ b
   alike e =
@@ -58,7 +59,8 @@ accepted-of {A} (accept (x, c)) a b w =
     n = length b + length c
 
     given : (v : ℕ) → _≡_ {A = Outcome A × List ℕ} (accept x, overlay c (replicate n v)) (accept a, overlay b (replicate n v))
-    given v = rw (le-leb (length c) (length (replicate n v)) (omega (arith, length-replicate n v))) at (w (replicate n v) (omega (arith, length-replicate n v)))
+    given v = rw (le-leb (length c) (length (replicate n v)) (omega (arith, length-replicate n v)))
+        at (w (replicate n v) (omega (arith, length-replicate n v)))
 
 pub accepted-bytes : (o : Outcome (List ℕ)) (b : List ℕ) → Writes (counted o) (length b) b → o ≡ accept b
 accepted-bytes (refuse e) b w = let z : _≡_ {A = ℕ} 0 1 = cc (accepted-of (refuse e) (length b) b w) in absurd (omega arith)

@@ -21,7 +21,8 @@ module _ {A : Type 0} where
   pub padded-more : (N : ℕ) (z : A) (xs : List A) (v : A) (k : ℕ) → length xs ≡ k → k < N → set (padded N z xs) k v ≡ padded N z (xs ++ (v ∷ []))
   padded-more N z xs v k e h =
       let m : N - length xs ≡ suc (N - length (xs ++ (v ∷ []))) = omega (arith, length-append xs (v ∷ [])) in
-      rw m (set-at xs z (replicate (N - length (xs ++ (v ∷ []))) z) v k e ∙ sym (append-assoc xs (v ∷ []) (replicate (N - length (xs ++ (v ∷ []))) z)))
+      rw m
+      (set-at xs z (replicate (N - length (xs ++ (v ∷ []))) z) v k e ∙ sym (append-assoc xs (v ∷ []) (replicate (N - length (xs ++ (v ∷ []))) z)))
 
   -- a store at j, in what follows from j on
   drop-set-at : (j : ℕ) (l : List A) (v : A) → j < length l → drop j (set l j v) ≡ v ∷ drop (suc j) l
@@ -35,7 +36,9 @@ module _ {A : Type 0} where
 
   -- an element past the values is what the array is filled with
   pub padded-past : (N : ℕ) (z : A) (xs : List A) (i : ℕ) → length xs ≤ i → getD (padded N z xs) i z ≡ z
-  padded-past N z xs i h = let e : i ≡ length xs + (i - length xs) = omega arith in rw (e, getD-append-add xs (replicate (N - length xs) z) (i - length xs) z) (all (N - length xs) (i - length xs))
+  padded-past N z xs i h =
+      let e : i ≡ length xs + (i - length xs) = omega arith in
+      rw (e, getD-append-add xs (replicate (N - length xs) z) (i - length xs) z) (all (N - length xs) (i - length xs))
     where
       all : (n j : ℕ) → getD (replicate n z) j z ≡ z
       all zero j = refl

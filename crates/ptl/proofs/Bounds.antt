@@ -142,7 +142,8 @@ module _ (L : Parser ℕ) (s : List ℕ) (low : (p v q : ℕ) → L s p ≡ valu
       (record {
         count = rw (length-append, r .count) (omega arith);
         below = append-below 256 (lit< tt) below (v ∷ []) (r .below) (one-below 256 (lit< tt) v (w .0));
-        absent = absent-append (presentFlags m (byte % 128 * 2)) (isSet (byte / 128) ∷ []) below (v ∷ []) (flags-length m (byte % 128 * 2) ∙ sym (r .count)) (r .absent) (w .1);
+        absent = absent-append (presentFlags m (byte % 128 * 2)) (isSet (byte / 128) ∷ []) below (v ∷ [])
+            (flags-length m (byte % 128 * 2) ∙ sym (r .count)) (r .absent) (w .1);
       })))
 
 pub record Layered (m : ℕ) (l : Sublayers) : Type 0 where
@@ -161,7 +162,8 @@ layered m byte ls l h r e f =
       flags-past = λ i k. rw e (padded-past 7 false (presentFlags m byte) i (omega arith));
       long = rw f (length-padded 7 0 ls (omega arith));
       below = rw f (padded-below 256 (lit< tt) 7 ls (r .below));
-      absent = rw (e, f) (absent-append (presentFlags m byte) (replicate (7 - length (presentFlags m byte)) false) ls (replicate (7 - length ls) 0) (n ∙ sym (r .count)) (r .absent)
+      absent = rw (e, f) (absent-append (presentFlags m byte) (replicate (7 - length (presentFlags m byte)) false) ls (replicate (7 - length ls) 0)
+          (n ∙ sym (r .count)) (r .absent)
           (absent-zeros (7 - length ls) (7 - length (presentFlags m byte))));
     }
 
@@ -177,14 +179,18 @@ pub record Words (n : ℕ) (vs : List ℕ) : Type 0 where
   pub below : Below (2 ^ 32) vs
 
 -- read by any P whose values fit 32 bits
-pub times-read : (P : Parser ℕ) (s : List ℕ) → ((p v q : ℕ) → P s p ≡ value v q → v < 2 ^ 32) → (n p : ℕ) (vs : List ℕ) (q : ℕ) → times n P s p ≡ value vs q → Words n vs
+pub times-read : (P : Parser ℕ) (s : List ℕ) → ((p v q : ℕ) → P s p ≡ value v q → v < 2 ^ 32) → (n p : ℕ) (vs : List ℕ) (q : ℕ)
+    → times n P s p ≡ value vs q → Words n vs
 unfolding times
 times-read P s low zero p vs q e = let z : [] ≡ vs = cc in rw (← z) (record { count = refl; below = λ i. lit< tt })
 times-read P s low (suc n) p vs q e =
     first-read (P s p) _ e (λ v a g f. first-read (times n P s a) _ f (λ rest t h k.
     let z : v ∷ rest ≡ vs = cc in
     let r = times-read P s low n a rest t h in
-    rw (← z) (record { count = ap suc (r .count); below = append-below (2 ^ 32) (lit< tt) (v ∷ []) rest (one-below (2 ^ 32) (lit< tt) v (low p v a g)) (r .below) })))
+    rw (← z) (record {
+      count = ap suc (r .count);
+      below = append-below (2 ^ 32) (lit< tt) (v ∷ []) rest (one-below (2 ^ 32) (lit< tt) v (low p v a g)) (r .below);
+    })))
 
 pub record Profiled (v : SubProfiles) : Type 0 where
   pub few : v .«num_sub_profiles» ≤ 255
@@ -192,7 +198,8 @@ pub record Profiled (v : SubProfiles) : Type 0 where
   pub below : Below (2 ^ 32) (v .«general_sub_profile_idc»)
   pub past : (i : ℕ) → v .«num_sub_profiles» ≤ i → getD (v .«general_sub_profile_idc») i 0 ≡ 0
 
-profiled : (n : ℕ) (vs : List ℕ) (v : SubProfiles) → n < 256 → Words n vs → v .«num_sub_profiles» ≡ n → v .«general_sub_profile_idc» ≡ padded 255 0 vs → Profiled v
+profiled : (n : ℕ) (vs : List ℕ) (v : SubProfiles) → n < 256 → Words n vs → v .«num_sub_profiles» ≡ n
+    → v .«general_sub_profile_idc» ≡ padded 255 0 vs → Profiled v
 profiled n vs v h r e f = record {
   few = omega arith;
   long = rw f (length-padded 255 0 vs (omega arith));
@@ -228,8 +235,8 @@ pub record Fits (m : ℕ) (r : VvcPtlRecord) : Type 0 where
   pub subs-past : (i : ℕ) → r .«num_sub_profiles» ≤ i → getD (r .«general_sub_profile_idc») i 0 ≡ 0
 
 pub ptl-fits : (m : ℕ) (s : List ℕ) (p : ℕ) (r : VvcPtlRecord) (q : ℕ) → m ≤ 7 → Below 256 s → profileTierLevel m s p ≡ value r q → Fits m r
-ptl-fits m s p r q h k e =
-    first-read (general s p) _ (sym (sections m s p) ∙ e) (λ g a ge f. first-read (constraints s a) _ f (λ c b ce j. first-read (sublayers m s b) _ j (λ l d le i. first-read (subProfiles s d) _ i (λ v t ve o.
+ptl-fits m s p r q h k e = first-read (general s p) _ (sym (sections m s p) ∙ e) (λ g a ge f. first-read (constraints s a) _ f (λ c b ce j.
+    first-read (sublayers m s b) _ j (λ l d le i. first-read (subProfiles s d) _ i (λ v t ve o.
     let z : ptlOfSections m g c l v ≡ r = cc in
     let w = general-read s p g a ge in
     let x = constraints-read s a c b k ce in

@@ -90,18 +90,24 @@ copied-end s info from k n i e = rw (i, ← e) (cleared (take k (drop from s)))
 
 -- ---- read by read, each after the one before it
 module _ (s : List ℕ) (prior : BitsRead) where
-  pub bits-after : (fixed count r : BitsRead) (n : ℕ) → n ≡ numberIn count → partAfter fixed tt ≡ bind (parsed prior) (λ _ q. skip 71 s q) → parsed count ≡ bind (parsed fixed) (λ _ q. u 8 s q)
+  pub bits-after : (fixed count r : BitsRead) (n : ℕ) → n ≡ numberIn count → partAfter fixed tt ≡ bind (parsed prior) (λ _ q. skip 71 s q)
+      → parsed count ≡ bind (parsed fixed) (λ _ q. u 8 s q)
       → partAfter r tt ≡ bind (parsed count) (λ _ q. skip n s q) → partAfter r tt ≡ bind (parsed prior) (λ _ q. constraintBits s q)
   unfolding constraintBits
-  bits-after fixed count r n e h k l = l ∙ ap (λ m. bind (parsed count) (λ _ q. skip m s q)) e ∙ sym (bind-next-part prior fixed _ tt _ h ∙ bind-next fixed count _ _ k)
+  bits-after fixed count r n e h k l =
+      l ∙ ap (λ m. bind (parsed count) (λ _ q. skip m s q)) e ∙ sym (bind-next-part prior fixed _ tt _ h ∙ bind-next fixed count _ _ k)
 
-  module _ (flag d : BitsRead) (n : ℕ) (h : parsed flag ≡ bind (parsed prior) (λ _ q. u 1 s q)) (k : partAfter d tt ≡ bind (parsed flag) (λ _ q. announced n s q)) where
-    pub info-after : (r : BitsRead) → n ≡ numberIn flag → partAfter r tt ≡ bind (parsed d) (λ _ q. align s q) → partAfter r tt ≡ bind (parsed prior) (λ _ q. generalConstraintsInfo s q)
+  module _ (flag d : BitsRead) (n : ℕ) (h : parsed flag ≡ bind (parsed prior) (λ _ q. u 1 s q))
+      (k : partAfter d tt ≡ bind (parsed flag) (λ _ q. announced n s q)) where
+    pub info-after : (r : BitsRead) → n ≡ numberIn flag → partAfter r tt ≡ bind (parsed d) (λ _ q. align s q)
+        → partAfter r tt ≡ bind (parsed prior) (λ _ q. generalConstraintsInfo s q)
     unfolding generalConstraintsInfo
-    info-after r e l = l ∙ sym (bind-next prior flag _ _ h ∙ bind-next-part flag d _ tt _ (k ∙ ap (λ m. bind (parsed flag) (λ _ q. announced m s q)) e))
+    info-after r e l =
+        l ∙ sym (bind-next prior flag _ _ h ∙ bind-next-part flag d _ tt _ (k ∙ ap (λ m. bind (parsed flag) (λ _ q. announced m s q)) e))
 
 -- what is announced ends within the bytes
-pub announced-place : (s : List ℕ) (prior flag d : BitsRead) (n : ℕ) → parsed flag ≡ bind (parsed prior) (λ _ q. u 1 s q) → partAfter d tt ≡ bind (parsed flag) (λ _ q. announced n s q) → placeIn d ≤ 8 * length s
+pub announced-place : (s : List ℕ) (prior flag d : BitsRead) (n : ℕ) → parsed flag ≡ bind (parsed prior) (λ _ q. u 1 s q)
+    → partAfter d tt ≡ bind (parsed flag) (λ _ q. announced n s q) → placeIn d ≤ 8 * length s
 announced-place s prior flag (Value v q) n h k =
     first-read (parsed flag) _ (sym k) (λ b p e f. first-read (parsed prior) _ (sym h ∙ e) (λ _ t _ g.
     announced-span n s p (q .0) (u-read 1 s t b p g .within) f .within))
@@ -137,7 +143,8 @@ pub record Run (s : List ℕ) (p q : ℕ) : Type 0 where
   pub near : q ≤ (p + 344) / 8 * 8
   pub within : q ≤ 8 * length s
 
-pub run-of : (s : List ℕ) (prior f m i : BitsRead) {v : ℕ} {q : BitPosition} → FlagsAndInfo s prior f m i → i ≡ Value v q → Run s (placeIn prior) (q .0)
+pub run-of : (s : List ℕ) (prior f m i : BitsRead) {v : ℕ} {q : BitPosition} → FlagsAndInfo s prior f m i → i ≡ Value v q
+    → Run s (placeIn prior) (q .0)
 run-of s prior f m i {v} {q} h e =
     first-read (parsed m) _ (sym (h .info) ∙ ap (λ x. partAfter x tt) e) (λ y b hb l. first-read (parsed f) _ (sym (h .multilayer) ∙ hb) (λ x a ha k.
     first-read (parsed prior) _ (sym (h .frame-only) ∙ ha) (λ w p hp j.
@@ -148,7 +155,8 @@ run-of s prior f m i {v} {q} h e =
     record { some = omega arith; whole = z .whole; near = omega arith; within = z .within })))
 
 -- the bytes between the offsets of the two ends
-pub held-bytes : (s : List ℕ) (f m p q from to : ℕ) (info : List ℕ) → Run s p q → 8 * from ≡ p → 8 * to ≡ q → info ≡ padded 63 0 (withoutFlags (take (to - from) (drop from s)))
+pub held-bytes : (s : List ℕ) (f m p q from to : ℕ) (info : List ℕ) → Run s p q → 8 * from ≡ p → 8 * to ≡ q
+    → info ≡ padded 63 0 (withoutFlags (take (to - from) (drop from s)))
     → _≡_ {A = Constraints} (record {
       «ptl_frame_only_constraint_flag» = isSet f;
       «ptl_multilayer_enabled_flag» = isSet m;

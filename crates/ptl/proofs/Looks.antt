@@ -9,7 +9,8 @@ use lib.ListN.{take, drop}
 use lib.Seq.{take-take}
 use Rattle.bit_reader.specs.Bits.{u, isSet, skip}
 use Rattle.bit_reader.proofs.Numbers.{u-read}
-use Rattle.bit_reader.proofs.Looks.{LooksWithin, local-u, local-skip, local-align, local-more, local-give, local-here, local-if, local-bind-of, local-bind, local-times}
+use Rattle.bit_reader.proofs.Looks.{LooksWithin, local-u, local-skip, local-align, local-more, local-give}
+use Rattle.bit_reader.proofs.Looks.{local-here, local-if, local-bind-of, local-bind, local-times}
 use Rattle.ptl.specs.Ptl.{levels, constraintBits, generalConstraintsInfo, constraintBytes, profileTierLevel}
 
 -- ---- the constraint information: 71 bits, a count below 256, and as many bits

@@ -32,7 +32,12 @@ bind-value (value a q) = refl
 bind-value (refused e) = refl
 
 pub going-start : (P : Parser ℕ) (s : List ℕ) (n : ℕ) (prior : BitsRead) → Going P s n prior (replicate 255 0) prior 0
-going-start P s n prior = record { within = omega arith; long = refl; done = rw (sub-zero n) (same-first (parsed prior) _ _ (λ _ q. bind-value (times n P s q))); clear = refl }
+going-start P s n prior = record {
+  within = omega arith;
+  long = refl;
+  done = rw (sub-zero n) (same-first (parsed prior) _ _ (λ _ q. bind-value (times n P s q)));
+  clear = refl;
+}
 
 regroup : (x : Parsed (List ℕ)) (l l′ : List ℕ) (v : ℕ) → l′ ≡ l ++ (v ∷ [])
     → bind (bind x (λ rest t. value (v ∷ rest) t)) (λ rest t. value (l ++ rest) t) ≡ bind x (λ rest t. value (l′ ++ rest) t)
@@ -40,7 +45,8 @@ regroup (value a q) l l′ v e = rw (e, append-snoc l v a)
 regroup (refused r) l l′ v e = refl
 
 -- one more value, by the answer r after the last one
-value-on : (P : Parser ℕ) (s : List ℕ) (last r : BitsRead) (g : ℕ) (l l′ : List ℕ) → l′ ≡ l ++ (numberIn r ∷ []) → parsed r ≡ bind (parsed last) (λ _ q. P s q) → toCome P s last (suc g) l ≡ toCome P s r g l′
+value-on : (P : Parser ℕ) (s : List ℕ) (last r : BitsRead) (g : ℕ) (l l′ : List ℕ) → l′ ≡ l ++ (numberIn r ∷ [])
+    → parsed r ≡ bind (parsed last) (λ _ q. P s q) → toCome P s last (suc g) l ≡ toCome P s r g l′
 unfolding times
 value-on P s last r g l l′ e h =
     same-first (parsed last) _ _ (λ _ q. bind-bind (P s q) _ _)
@@ -54,14 +60,17 @@ profiles n values = record { «num_sub_profiles» = n; «general_sub_profile_idc
 abbrev pub counted : ℕ → Parsed (List ℕ) → Parsed SubProfiles
 counted n x = bind x (λ vs q. value (profiles n (padded 255 0 vs)) q)
 
-module _ (P : Parser ℕ) (s : List ℕ) (n : ℕ) (prior : BitsRead) (values : List ℕ) (last : BitsRead) (k : ℕ) (f : Going P s n prior values last k) (fits : n ≤ 255) where
-  pub going-on : (r : BitsRead) (v : ℕ) → v ≡ numberIn r → k < n → parsed r ≡ bind (parsed last) (λ _ q. P s q) → Going P s n prior (set values k v) r (k + 1)
+module _ (P : Parser ℕ) (s : List ℕ) (n : ℕ) (prior : BitsRead) (values : List ℕ) (last : BitsRead) (k : ℕ) (f : Going P s n prior values last k)
+    (fits : n ≤ 255) where
+  pub going-on : (r : BitsRead) (v : ℕ) → v ≡ numberIn r → k < n → parsed r ≡ bind (parsed last) (λ _ q. P s q)
+      → Going P s n prior (set values k v) r (k + 1)
   going-on r v e h d = record {
     within = omega arith;
     long = length-set values k v ∙ f .long;
     done = f .done
         ∙ ap (λ g. toCome P s last g (take k values)) fewer
-        ∙ value-on P s last r (n - (k + 1)) (take k values) (take (k + 1) (set values k v)) (rw (add-one, ← e) (take-suc-set values k v (omega arith))) d;
+        ∙ value-on P s last r (n - (k + 1)) (take k values) (take (k + 1) (set values k v))
+        (rw (add-one, ← e) (take-suc-set values k v (omega arith))) d;
     clear = drop-set-lt (k + 1) values k v (omega arith) ∙ sym (drop-drop 1 k values) ∙ ap (drop 1) (f .clear ∙ ap (λ m. replicate m 0) more);
   }
     where
@@ -75,7 +84,8 @@ module _ (P : Parser ℕ) (s : List ℕ) (n : ℕ) (prior : BitsRead) (values : 
   unfolding times
   going-end h =
       let e : n - k ≡ 0 = omega arith in
-      let w : padded 255 0 (take k values ++ []) ≡ values = rw (append-nil, length-take-le k values (omega arith), ← f .clear, take-append-drop k values) in
+      let w : padded 255 0 (take k values ++ []) ≡ values =
+      rw (append-nil, length-take-le k values (omega arith), ← f .clear, take-append-drop k values) in
       sym (sym (bind-bind (parsed prior) _ _)
       ∙ ap (counted n) (f .done ∙ ap (λ g. toCome P s last g (take k values)) e)
       ∙ bind-bind (parsed last) _ _

@@ -41,7 +41,8 @@ module _ (flags m : ℕ) (present : List Bool) (byte i : ℕ) (f : Flagged flags
   pub flags-on : (j j′ : ℕ) → i ≡ suc j → j′ ≡ j → Flagged flags m (set present j (isSet (byte / 128))) (byte % 128 * 2) j′
   unfolding presentFlags
   flags-on j j′ e d =
-      let g : presentFlags (suc j) byte ++ drop (suc j) present ≡ padded 7 false (presentFlags m flags) = ap (λ k. presentFlags k byte ++ drop k present) (sym e) ∙ f .done in
+      let g : presentFlags (suc j) byte ++ drop (suc j) present ≡ padded 7 false (presentFlags m flags) =
+      ap (λ k. presentFlags k byte ++ drop k present) (sym e) ∙ f .done in
       rw d
       (record {
         low = omega arith;
@@ -84,8 +85,10 @@ pub record Levelled (L : Parser ℕ) (s : List ℕ) (prior : BitsRead) (flags m 
   pub long : length part ≡ 7
   pub done : bind (parsed prior) (λ _ q. asArray (levels L m flags s q)) ≡ toCome L s last i byte (drop i part)
 
-pub levels-start : (L : Parser ℕ) (s : List ℕ) (prior : BitsRead) (flags m i : ℕ) → flags < 256 → i ≡ m → Levelled L s prior flags m (replicate 7 0) prior flags i
-levels-start L s prior flags m i h n = rw n (record { low = omega arith; small = h; long = refl; done = same-first (parsed prior) _ _ (λ _ q. go q (levels L m flags s q) refl) })
+pub levels-start : (L : Parser ℕ) (s : List ℕ) (prior : BitsRead) (flags m i : ℕ) → flags < 256 → i ≡ m
+    → Levelled L s prior flags m (replicate 7 0) prior flags i
+levels-start L s prior flags m i h n =
+    rw n (record { low = omega arith; small = h; long = refl; done = same-first (parsed prior) _ _ (λ _ q. go q (levels L m flags s q) refl) })
   where
     go : (p : ℕ) (x : Parsed (List ℕ)) → levels L m flags s p ≡ x → asArray x ≡ inFrontOf (drop m (replicate 7 0)) x
     go p (value ls q) e = rw (drop-replicate {A = ℕ} m 7 0, levels-length L s m flags p ls q e)
@@ -97,7 +100,8 @@ regroup : (x : Parsed (List ℕ)) (v : ℕ) (l l′ : List ℕ) → ((xs : List 
 regroup (value a q) v l l′ h = ap (λ (k : List ℕ). value k q) (h a)
 regroup (refused r) v l l′ h = refl
 
-level-on : (L : Parser ℕ) (s : List ℕ) (last r : BitsRead) (byte j : ℕ) (part : List ℕ) → j < length part → parsed r ≡ bind (parsed last) (λ _ q. (if isSet (byte / 128) then L else give 0) s q)
+level-on : (L : Parser ℕ) (s : List ℕ) (last r : BitsRead) (byte j : ℕ) (part : List ℕ) → j < length part
+    → parsed r ≡ bind (parsed last) (λ _ q. (if isSet (byte / 128) then L else give 0) s q)
     → toCome L s last (suc j) byte (drop (suc j) part) ≡ toCome L s r j (byte % 128 * 2) (drop j (set part j (numberIn r)))
 unfolding levels
 level-on L s last r byte j part k h =
@@ -105,8 +109,10 @@ level-on L s last r byte j part k h =
     ∙ bind-next last r _ (λ v q. inFrontOf (drop (suc j) part) (inFrontOf (v ∷ []) (levels L j (byte % 128 * 2) s q))) h
     ∙ same-first (parsed r) _ _ (λ _ q. regroup (levels L j (byte % 128 * 2) s q) (numberIn r) _ _ (λ xs. snoc-store xs j part (numberIn r) k))
 
-module _ (L : Parser ℕ) (s : List ℕ) (prior : BitsRead) (flags m : ℕ) (part : List ℕ) (last : BitsRead) (byte i : ℕ) (f : Levelled L s prior flags m part last byte i) (few : m ≤ 7) where
-  pub levels-on : (r : BitsRead) (v j j′ : ℕ) → v ≡ numberIn r → i ≡ suc j → j′ ≡ j → parsed r ≡ bind (parsed last) (λ _ q. (if isSet (byte / 128) then L else give 0) s q)
+module _ (L : Parser ℕ) (s : List ℕ) (prior : BitsRead) (flags m : ℕ) (part : List ℕ) (last : BitsRead) (byte i : ℕ)
+    (f : Levelled L s prior flags m part last byte i) (few : m ≤ 7) where
+  pub levels-on : (r : BitsRead) (v j j′ : ℕ) → v ≡ numberIn r → i ≡ suc j → j′ ≡ j
+      → parsed r ≡ bind (parsed last) (λ _ q. (if isSet (byte / 128) then L else give 0) s q)
       → Levelled L s prior flags m (set part j v) r (byte % 128 * 2) j′
   levels-on r v j j′ n e d h =
       rw (d, n)
@@ -122,9 +128,11 @@ module _ (L : Parser ℕ) (s : List ℕ) (prior : BitsRead) (flags m : ℕ) (par
   levels-end e = sym (f .done ∙ ap (λ (k : ℕ). toCome L s last k byte (drop k part)) e)
 
 -- ---- the section: the flags as an array, beside the answer for the levels
-pub sublayers-after : (s : List ℕ) (m byte : ℕ) (prior r d : BitsRead) (present : List Bool) (idcs : List ℕ) → byte ≡ numberIn r → parsed r ≡ bind (parsed prior) (λ _ q. byteIf (ltb 0 m) s q)
+pub sublayers-after : (s : List ℕ) (m byte : ℕ) (prior r d : BitsRead) (present : List Bool) (idcs : List ℕ) → byte ≡ numberIn r
+    → parsed r ≡ bind (parsed prior) (λ _ q. byteIf (ltb 0 m) s q)
     → present ≡ padded 7 false (presentFlags m byte) → partAfter d idcs ≡ bind (parsed r) (λ _ q. asArray (levels (u 8) m byte s q))
-    → _≡_ {A = Parsed Sublayers} (partAfter d (record { «sublayer_level_present_flag» = present; «sublayer_level_idc» = idcs })) (bind (parsed prior) (λ _ q. sublayers m s q))
+    → _≡_ {A = Parsed Sublayers} (partAfter d (record { «sublayer_level_present_flag» = present; «sublayer_level_idc» = idcs }))
+    (bind (parsed prior) (λ _ q. sublayers m s q))
 unfolding sublayers
 sublayers-after s m byte prior r d present idcs n h p k =
     part-in beside d idcs

@@ -26,8 +26,8 @@ use Rattle.parse.specs.inner.Answers.{orZeros}
 
 -- one section after the other
 abbrev pub inSections : ℕ → List ℕ → ℕ → Parsed VvcPtlRecord
-inSections m s p =
-    bind (general s p) (λ g a. bind (constraints s a) (λ c b. bind (sublayers m s b) (λ l d. bind (subProfiles s d) (λ v q. value (ptlOfSections m g c l v) q))))
+inSections m s p = bind (general s p)
+    (λ g a. bind (constraints s a) (λ c b. bind (sublayers m s b) (λ l d. bind (subProfiles s d) (λ v q. value (ptlOfSections m g c l v) q))))
 
 pub sections : (m : ℕ) (s : List ℕ) (p : ℕ) → profileTierLevel m s p ≡ inSections m s p
 unfolding profileTierLevel general constraints sublayers subProfiles constraintBytes
@@ -49,7 +49,8 @@ module _ (s : List ℕ) (m : ℕ) (prior r₁ r₂ r₃ r₄ : BitsRead) (g : Ge
   pub whole-refused : {r : PtlBits} {e : Refusal} → r ≡ record { answer = r₄; ptl = zeroPtl } → r₄ ≡ Refused e → ptlBitsOf r ≡ orZeros zeroPtl said
   whole-refused h k = rw (h, whole, k)
 
-  pub whole-read : {w : VvcPtlRecord} {n : ℕ} {q : BitPosition} → w ≡ ptlOfSections m g c l v → r₄ ≡ Value n q → (partAfter r₄ w, w) ≡ orZeros zeroPtl said
+  pub whole-read : {w : VvcPtlRecord} {n : ℕ} {q : BitPosition} → w ≡ ptlOfSections m g c l v → r₄ ≡ Value n q
+      → (partAfter r₄ w, w) ≡ orZeros zeroPtl said
   whole-read h k = rw (whole, k, h)
 
 -- ---- the first section ends two bytes on
@@ -71,7 +72,8 @@ general-read s p g q h =
     record { profile = omega arith; level = omega arith; next = omega arith })))
 
 -- so the next one starts at a whole byte where it does
-pub general-place : (s : List ℕ) (prior r : BitsRead) (g : General) → placeIn prior % 8 ≡ 0 → partAfter r g ≡ bind (parsed prior) (λ _ q. general s q) → placeIn r % 8 ≡ 0
+pub general-place : (s : List ℕ) (prior r : BitsRead) (g : General) → placeIn prior % 8 ≡ 0
+    → partAfter r g ≡ bind (parsed prior) (λ _ q. general s q) → placeIn r % 8 ≡ 0
 general-place s prior (Value v q) g e h =
     first-read (parsed prior) _ (sym h) (λ w p k f.
     let o = place-told prior k in

@@ -49,7 +49,8 @@ pub fn present_flags(flags: u32, m: usize) -> [bool; 7]
 // Reads the levels whose flag is set, from the highest of m sublayers down; the others are 0. Refusals: those of the read before, then 11.
 fn read_levels(rbsp: &[u8], prior: BitsRead, flags: u32, m: usize) -> LevelsRead
     requires { ⌜ (length (now rbsp) ≤ 2 ^ 20) × (m ≤ 7) × (flags < 256) ⌝ }
-    ensures { λ r. ⌜ partAfter (r .answer) (r .part) ≡ bind (parsed prior) (λ _ q. bind (levels (u 8) m flags (now (rbsp .entry)) q) (λ ls t. value (padded 7 0 ls) t)) ⌝ }
+    ensures { λ r. ⌜ partAfter (r .answer) (r .part)
+        ≡ bind (parsed prior) (λ _ q. bind (levels (u 8) m flags (now (rbsp .entry)) q) (λ ls t. value (padded 7 0 ls) t)) ⌝ }
 {
     let mut part = [0u8; 7];
     let mut last = prior;

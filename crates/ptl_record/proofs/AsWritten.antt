@@ -78,7 +78,8 @@ length-without (x ∷ xs) = refl
 
 -- ---- written again
 
-module _ (p : VvcPtlRecord) (fits : ptlFits p ≡ true) (info-is : length (p .«general_constraint_info») ≡ 63) (subs-are : length (p .«general_sub_profile_idc») ≡ 255) (sublayers : ℕ) where
+module _ (p : VvcPtlRecord) (fits : ptlFits p ≡ true) (info-is : length (p .«general_constraint_info») ≡ 63)
+    (subs-are : length (p .«general_sub_profile_idc») ≡ 255) (sublayers : ℕ) where
   abbrev q : VvcPtlRecord
   q = asWritten p sublayers
 
@@ -99,7 +100,8 @@ module _ (p : VvcPtlRecord) (fits : ptlFits p ≡ true) (info-is : length (p .«
   flags-again : (xs : List ℕ) → withFlags q (withoutFlags xs) ≡ withFlags p xs
   unfolding withFlags withoutFlags
   flags-again [] = refl
-  flags-again (x ∷ xs) = ap (λ (b : ℕ). (bit (p .«ptl_frame_only_constraint_flag») * 128 + bit (p .«ptl_multilayer_enabled_flag») * 64 + b) ∷ xs) (omega arith)
+  flags-again (x ∷ xs) =
+      ap (λ (b : ℕ). (bit (p .«ptl_frame_only_constraint_flag») * 128 + bit (p .«ptl_multilayer_enabled_flag») * 64 + b) ∷ xs) (omega arith)
 
   has-again : (i : ℕ) → i < m → hasLevel q i ≡ hasLevel p i
   has-again i h = rw (lt-ltb i m h) (getD-padded-upTo 7 false m (hasLevel p) false i h)
@@ -209,8 +211,8 @@ module _ (p : VvcPtlRecord) (sublayers : ℕ) (ok : Canonical p sublayers) where
   level-is k h = level-kept (hasLevel p k) (getD (p .«sublayer_level_idc») k 0) (λ e. ok .levels-rest k (sym (has-kept k h) ∙ e))
 
   levels-kept : padded 7 0 (upTo below (levelOf p)) ≡ p .«sublayer_level_idc»
-  levels-kept =
-      ap (λ (x : List ℕ). padded 7 0 x) (upTo-take (p .«sublayer_level_idc») 0 below (levelOf p) (omega (arith, ok .counted-few, ok .levels-are)) level-is)
+  levels-kept = ap (λ (x : List ℕ). padded 7 0 x)
+      (upTo-take (p .«sublayer_level_idc») 0 below (levelOf p) (omega (arith, ok .counted-few, ok .levels-are)) level-is)
       ∙ padded-back 7 0 (p .«sublayer_level_idc») below (ok .levels-are) (ok .counted-few) (λ i h. ok .levels-rest i (ok .flags-rest i h))
 
   pub kept : asWritten p sublayers ≡ p

@@ -68,7 +68,8 @@ module _ (s : List ℕ) where
       (λ k. reach-bind _ (rw e at (reach-words n (p + 4) k)) (omega arith) (λ l. reach-value _ _ l))
 
   -- above one sublayer a byte of flags
-  reach-flags : (sublayers p : ℕ) → p ≤ length s → Reach (length s) ((if ltb 1 sublayers then uint 1 else give 0) s p) (flagsAt sublayers s p) (levelsStart sublayers p)
+  reach-flags : (sublayers p : ℕ) → p ≤ length s
+      → Reach (length s) ((if ltb 1 sublayers then uint 1 else give 0) s p) (flagsAt sublayers s p) (levelsStart sublayers p)
   reach-flags sublayers p h = go (ltb 1 sublayers)
     where
       go : (t : Bool) → Reach (length s) ((if t then uint 1 else give 0) s p) (if t then getD s p 0 else 0) (if t then p + 1 else p)
@@ -76,7 +77,8 @@ module _ (s : List ℕ) where
       go false = reach-value 0 p h
 
   -- the level after a flag
-  reach-level : (f p : ℕ) → f < 256 → p ≤ length s → Reach (length s) ((if isSet (f / 128) then uint 1 else give 0) s p) (levelIf (f / 128) s p) (p + f / 128)
+  reach-level : (f p : ℕ) → f < 256 → p ≤ length s
+      → Reach (length s) ((if isSet (f / 128) then uint 1 else give 0) s p) (levelIf (f / 128) s p) (p + f / 128)
   reach-level f p h k = go (isSet (f / 128)) refl
     where
       go : (t : Bool) → isSet (f / 128) ≡ t → Reach (length s) ((if t then uint 1 else give 0) s p) (if t then getD s p 0 else 0) (p + f / 128)

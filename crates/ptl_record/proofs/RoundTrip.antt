@@ -13,13 +13,15 @@ use Rattle.bit_reader.specs.Bits.{isSet}
 use Rattle.ptl.specs.Ptl.{padded, presentFlags, withoutFlags}
 use Rattle.ptl.specs.declared.VvcPtlRecord.{VvcPtlRecord}
 use Rattle.ptl_record.specs.Read.{vvcPtlRecord}
-use Rattle.ptl_record.specs.Write.{constraintInfo, withFlags, hasLevel, flagByte, levelBytes, levelPart, subProfileBytes, ptlBytes, ptlFits, frontBytes}
+use Rattle.ptl_record.specs.Write.{constraintInfo, withFlags, hasLevel, flagByte, levelBytes}
+use Rattle.ptl_record.specs.Write.{levelPart, subProfileBytes, ptlBytes, ptlFits, frontBytes}
 use Rattle.ptl_record.specs.inner.Places.{words, levelsLen, levelsAt, flagsAt, levelsStart, countPlace, ptlEnd, ptlFields}
 use Rattle.ptl_record.specs.AsWritten.{upTo, levelOf, asWritten}
 use Rattle.ptl_record.proofs.Reading.{reads-after}
 use Rattle.ptl_record.proofs.Writing.{Fitting, fitting, flagged, with-first, info-long, length-withFlags, length-front, length-ptl}
 use Rattle.ptl_record.proofs.AsWritten.{Canonical, kept, bytes-again}
-use Rattle.ptl_record.proofs.Standing.{Stands, stands-left, stands-right, stands-between, stands-head, stands-take, bit-le, isSet-bit, flags-cleared, flag-small, len-back, flags-back, levels-back, words-back}
+use Rattle.ptl_record.proofs.Standing.{Stands, stands-left, stands-right, stands-between, stands-head, stands-take, bit-le}
+use Rattle.ptl_record.proofs.Standing.{isSet-bit, flags-cleared, flag-small, len-back, flags-back, levels-back, words-back}
 use Rattle.parse.specs.Logic.{bit}
 
 -- a PTL whose fields fit their places and whose arrays are as the struct has them
@@ -33,7 +35,8 @@ tier-back : (b : Bool) (n : ℕ) → isSet ((n * 2 + bit b) % 2) ≡ b
 tier-back true n = eq-eqb ((n * 2 + 1) % 2) 1 (omega arith)
 tier-back false n = ne-eqb ((n * 2 + 0) % 2) 1 (λ e. omega arith)
 
-module _ (p : VvcPtlRecord) (ok : Writable p) (sublayers : ℕ) (few : sublayers ≤ 7) (s : List ℕ) (at : ℕ) (st : Stands s at (ptlBytes p sublayers)) where
+module _ (p : VvcPtlRecord) (ok : Writable p) (sublayers : ℕ) (few : sublayers ≤ 7) (s : List ℕ) (at : ℕ)
+    (st : Stands s at (ptlBytes p sublayers)) where
   abbrev ci : List ℕ
   ci = constraintInfo p
 
@@ -223,7 +226,8 @@ module _ (p : VvcPtlRecord) (ok : Writable p) (sublayers : ℕ) (few : sublayers
 
 -- a PTL that was written is read again, whatever comes before and after
 pub round-trip : (p : VvcPtlRecord) → Writable p → (sublayers : ℕ) → sublayers ≤ 7 → (xs ys : List ℕ)
-    → vvcPtlRecord sublayers (xs ++ (ptlBytes p sublayers ++ ys)) (length xs) ≡ value (asWritten p sublayers) (length xs + length (ptlBytes p sublayers))
+    → vvcPtlRecord sublayers (xs ++ (ptlBytes p sublayers ++ ys)) (length xs)
+    ≡ value (asWritten p sublayers) (length xs + length (ptlBytes p sublayers))
 round-trip p ok sublayers few xs ys =
     read-standing p ok sublayers few (xs ++ (ptlBytes p sublayers ++ ys)) (length xs) (stands-between xs (ptlBytes p sublayers) ys)
 

@@ -71,7 +71,8 @@ isSet-bit false = refl
 pub flags-cleared : (p : VvcPtlRecord) (xs : List ℕ) → withoutFlags (withFlags p xs) ≡ withoutFlags xs
 unfolding withoutFlags withFlags
 flags-cleared p [] = refl
-flags-cleared p (x ∷ xs) = ap (λ (b : ℕ). b ∷ xs) (omega (arith, bit-le (p .«ptl_frame_only_constraint_flag»), bit-le (p .«ptl_multilayer_enabled_flag»)))
+flags-cleared p (x ∷ xs) =
+    ap (λ (b : ℕ). b ∷ xs) (omega (arith, bit-le (p .«ptl_frame_only_constraint_flag»), bit-le (p .«ptl_multilayer_enabled_flag»)))
 
 -- ---- the levels
 
@@ -91,8 +92,15 @@ module _ (p : VvcPtlRecord) where
   flag-even (suc (suc (suc (suc zero)))) h = omega (arith, bit-le (hasLevel p 0), bit-le (hasLevel p 1), bit-le (hasLevel p 2), bit-le (hasLevel p 3))
   flag-even (suc (suc (suc (suc (suc zero))))) h =
       omega (arith, bit-le (hasLevel p 0), bit-le (hasLevel p 1), bit-le (hasLevel p 2), bit-le (hasLevel p 3), bit-le (hasLevel p 4))
-  flag-even (suc (suc (suc (suc (suc (suc zero)))))) h =
-      omega (arith, bit-le (hasLevel p 0), bit-le (hasLevel p 1), bit-le (hasLevel p 2), bit-le (hasLevel p 3), bit-le (hasLevel p 4), bit-le (hasLevel p 5))
+  flag-even (suc (suc (suc (suc (suc (suc zero)))))) h = omega (
+    arith,
+    bit-le (hasLevel p 0),
+    bit-le (hasLevel p 1),
+    bit-le (hasLevel p 2),
+    bit-le (hasLevel p 3),
+    bit-le (hasLevel p 4),
+    bit-le (hasLevel p 5),
+  )
   flag-even (suc (suc (suc (suc (suc (suc (suc m))))))) h = absurd (omega arith)
 
   -- the top flag, and those below it
@@ -113,7 +121,8 @@ module _ (p : VvcPtlRecord) where
   len-back zero h = refl
   len-back (suc m) h =
       rw (flag-top m, flag-rest m (omega arith), len-back m (omega arith))
-      (sym (ap length (levels-split p m) ∙ length-append (oneLevel (hasLevel p m) (getD (p .«sublayer_level_idc») m 0)) (levelBytes p m) ∙ ap (λ (k : ℕ). k + length (levelBytes p m)) (length-one (hasLevel p m) (getD (p .«sublayer_level_idc») m 0))))
+      (sym (ap length (levels-split p m) ∙ length-append (oneLevel (hasLevel p m) (getD (p .«sublayer_level_idc») m 0)) (levelBytes p m)
+      ∙ ap (λ (k : ℕ). k + length (levelBytes p m)) (length-one (hasLevel p m) (getD (p .«sublayer_level_idc») m 0))))
 
   pub flags-back : (m : ℕ) → m < 7 → presentFlags m (flagByte p m) ≡ upTo m (hasLevel p)
   unfolding presentFlags upTo
@@ -141,13 +150,15 @@ module _ (p : VvcPtlRecord) where
 
 -- ---- the sub-profiles
 
-pub words-back : (s : List ℕ) (i : ℕ) (vs : List ℕ) → ((k : ℕ) → k < length vs → getD vs k 0 < 256 ^ 4) → Stands s i (subProfileBytes vs) → words (length vs) s i ≡ vs
+pub words-back : (s : List ℕ) (i : ℕ) (vs : List ℕ) → ((k : ℕ) → k < length vs → getD vs k 0 < 256 ^ 4) → Stands s i (subProfileBytes vs)
+    → words (length vs) s i ≡ vs
 unfolding words subProfileBytes
 words-back s i [] small st = refl
 words-back s i (v ∷ vs) small st =
     let l = stands-left s i (toBe 4 v) (subProfileBytes vs) st in
     let n = length-toBe 4 v in
     let r = rw n at (stands-right s i (toBe 4 v) (subProfileBytes vs) st) in
-    let a : be s i 4 ≡ be (toBe 4 v) 0 4 = be-same s (toBe 4 v) i 0 4 (λ k h. l .same k (omega arith) ∙ ap (λ (j : ℕ). getD (toBe 4 v) j 0) (omega arith)) in
+    let a : be s i 4 ≡ be (toBe 4 v) 0 4 =
+    be-same s (toBe 4 v) i 0 4 (λ k h. l .same k (omega arith) ∙ ap (λ (j : ℕ). getD (toBe 4 v) j 0) (omega arith)) in
     let b : be (toBe 4 v) 0 4 ≡ v = rw (append-nil (toBe 4 v)) at (be-toBe 4 v [] (small 0 (omega arith))) in
     rw (a, b, words-back s (i + 4) vs (λ k h. small (suc k) (omega arith)) r)

@@ -12,7 +12,8 @@ use borrow.Author.Tests.{leb-true, eq-eqb, ne-eqb}
 use Rattle.parse.specs.Logic.{if_then_else_, bit}
 use Rattle.boxes.proofs.Numbers.{length-toBe}
 use Rattle.ptl.specs.declared.VvcPtlRecord.{VvcPtlRecord}
-use Rattle.ptl_record.specs.Write.{constraintInfo, withFlags, hasLevel, flagByte, levelBytes, levelPart, subProfileBytes, ptlBytes, ptlFits, frontBytes}
+use Rattle.ptl_record.specs.Write.{constraintInfo, withFlags, hasLevel, flagByte, levelBytes}
+use Rattle.ptl_record.specs.Write.{levelPart, subProfileBytes, ptlBytes, ptlFits, frontBytes}
 use Rattle.ptl_record.specs.inner.Places.{oneLevel}
 use Rattle.parse.proofs.General.{both-true, sets-append}
 
@@ -37,7 +38,8 @@ module _ (p : VvcPtlRecord) where
   with-first [] h = absurd (omega arith)
   with-first (x ∷ xs) h = refl
 
-  pub info-long : length (p .«general_constraint_info») ≡ 63 → p .«num_bytes_constraint_info» ≤ 63 → (1 ≤ length (constraintInfo p)) × (length (constraintInfo p) ≤ 63)
+  pub info-long : length (p .«general_constraint_info») ≡ 63 → p .«num_bytes_constraint_info» ≤ 63
+      → (1 ≤ length (constraintInfo p)) × (length (constraintInfo p) ≤ 63)
   info-long l h =
       elim (decLe 1 (p .«num_bytes_constraint_info»)) [
         | yes k ↦
@@ -59,7 +61,8 @@ pub levels-split : (p : VvcPtlRecord) (j : ℕ) → levelBytes p (suc j) ≡ one
 unfolding levelBytes
 levels-split p j = go (hasLevel p j)
   where
-    go : (b : Bool) → (if b then getD (p .«sublayer_level_idc») j 0 ∷ levelBytes p j else levelBytes p j) ≡ oneLevel b (getD (p .«sublayer_level_idc») j 0) ++ levelBytes p j
+    go : (b : Bool) → (if b then getD (p .«sublayer_level_idc») j 0 ∷ levelBytes p j else levelBytes p j)
+        ≡ oneLevel b (getD (p .«sublayer_level_idc») j 0) ++ levelBytes p j
     go true = refl
     go false = refl
 

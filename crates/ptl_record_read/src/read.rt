@@ -104,7 +104,8 @@ fn levels_start(sublayers: u8, at: usize) -> usize
 
 // The fields of the record at a place, with n constraint bytes and the levels that were read.
 fn ptl_fields(s: &[u8], at: usize, n: usize, m: usize, levels: SublayerLevels) -> VvcPtlRecord
-    requires { ⌜ (length (now s) ≤ 2 ^ 30) × (n ≤ 63) × (at + 3 + n ≤ length (now s)) × (levels .next ≤ length (now s)) × (ptlEnd (now s) (levels .next) ≤ length (now s)) ⌝ }
+    requires { ⌜ (length (now s) ≤ 2 ^ 30) × (n ≤ 63) × (at + 3 + n ≤ length (now s)) × (levels .next ≤ length (now s))
+        × (ptlEnd (now s) (levels .next) ≤ length (now s)) ⌝ }
     ensures { λ r. ⌜ r ≡ ptlFields (now (s .entry)) at n m (levels .present) (levels .idc) (levels .next) ⌝ }
 {
     let second = place::byte(s, at + 1);

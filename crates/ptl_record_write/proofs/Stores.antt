@@ -90,7 +90,8 @@ module _ (p : VvcPtlRecord) (j : ℕ) where
 module _ (p : VvcPtlRecord) where
   pub front-stored : (d : List ℕ) (at : ℕ)
       → sets
-      (set (set (set d at (length (constraintInfo p))) (at + 1) (p .«general_profile_idc» * 2 + bit (p .«general_tier_flag»))) (at + 2) (p .«general_level_idc»))
+      (set (set (set d at (length (constraintInfo p))) (at + 1) (p .«general_profile_idc» * 2 + bit (p .«general_tier_flag»))) (at + 2)
+      (p .«general_level_idc»))
       (at + 3)
       (withFlags p (constraintInfo p))
       ≡ sets d at (frontBytes p)
@@ -120,6 +121,7 @@ module _ (p : VvcPtlRecord) (sublayers : ℕ) where
   ptl-stored d at =
       let a : at + length F + length L ≡ at + length (F ++ L) = omega (arith, length-append F L) in
       let b : at + length F + length L + 1 ≡ at + length ((F ++ L) ++ N) = omega (arith, length-append F L, length-append (F ++ L) N) in
-      ap (λ (x : List ℕ). sets (set x (at + length F + length L) (p .«num_sub_profiles»)) (at + length F + length L + 1) S) (sets-then d at (at + length F) F L refl)
+      ap (λ (x : List ℕ). sets (set x (at + length F + length L) (p .«num_sub_profiles»)) (at + length F + length L + 1) S)
+      (sets-then d at (at + length F) F L refl)
       ∙ ap (λ (x : List ℕ). sets x (at + length F + length L + 1) S) (sets-then d at (at + length F + length L) (F ++ L) N a)
       ∙ sets-then d at (at + length F + length L + 1) ((F ++ L) ++ N) S b

@@ -6,7 +6,8 @@ ghost use mathlib.Core.Path.{_≡_};
 ghost use Prim.Native.Nat.{_+_, _*_, _≤_, _<_};
 ghost use lib.ListN.{length, take};
 ghost use lib.Seq.{sets};
-ghost use Rattle.ptl_record.specs.Write.{constraintInfo, withFlags, hasLevel, flagByte, levelBytes, levelPart, subProfileBytes, ptlBytes, ptlFits, frontBytes};
+ghost use Rattle.ptl_record.specs.Write.{constraintInfo, withFlags, hasLevel, flagByte, levelBytes};
+ghost use Rattle.ptl_record.specs.Write.{levelPart, subProfileBytes, ptlBytes, ptlFits, frontBytes};
 ghost use Rattle.ptl_record.specs.inner.Places.{oneLevel};
 ghost use Rattle.ptl_record_write.specs.inner.Places.{firstConstraintByte};
 ghost use Rattle.parse.specs.Logic.{bit};
@@ -201,7 +202,8 @@ fn put_sub_profiles(out: &mut [u8], at: usize, a: [u32; 255], n: usize)
 // Stores the bytes of a PTL record for a number of sublayers from a place on, and returns the place after them.
 pub fn put_ptl(out: &mut [u8], at: usize, p: VvcPtlRecord, sublayers: u8) -> usize
     requires { ⌜ (ptlFits p ≡ true) × (sublayers ≤ 7) × (at + length (ptlBytes p sublayers) ≤ length (now out)) ⌝ }
-    ensures { λ r. ⌜ (r ≡ at + length (ptlBytes p sublayers)) × (now (out .exit) ≡ sets (now (out .entry)) at (ptlBytes p sublayers)) × (r ≤ at + 1094) ⌝ }
+    ensures { λ r. ⌜ (r ≡ at + length (ptlBytes p sublayers)) × (now (out .exit) ≡ sets (now (out .entry)) at (ptlBytes p sublayers))
+        × (r ≤ at + 1094) ⌝ }
 {
     let count = p.num_sub_profiles;
     let sub_profiles = p.general_sub_profile_idc;

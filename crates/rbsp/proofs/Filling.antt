@@ -47,7 +47,8 @@ module _ (p o₀ o : List ℕ) (z z′ n i : ℕ) (f : Filled p o₀ o z n i) (h
     few = omega (arith, zeros-le z (getD p i 0));
     room = simp length-set (omega arith);
     long = length-set o n (getD p i 0) ∙ f .long;
-    done = rw (e, add-one n, take-suc-set o n (getD p i 0) r, append-snoc (take n o) (getD p i 0) (unescape (nextZeros z (getD p i 0)) (drop (i + 1) p)))
+    done =
+        rw (e, add-one n, take-suc-set o n (getD p i 0) r, append-snoc (take n o) (getD p i 0) (unescape (nextZeros z (getD p i 0)) (drop (i + 1) p)))
         (f .done ∙ ap (λ (l : List ℕ). take n o ++ l) (step-kept z i p h d));
     kept = drop-set-lt (n + 1) o n (getD p i 0) (omega arith) ∙ drop-more o o₀ n (f .kept);
   }
@@ -67,10 +68,12 @@ fill-end p o₀ o z n i f h =
     }
 
 -- the output is full
-pub fill-full : (p o₀ o : List ℕ) (z n i : ℕ) → Filled p o₀ o z n i → i < length p → drops z (getD p i 0) ≡ false → n ≡ length o → Front (rbsp p) o₀ o n
+pub fill-full : (p o₀ o : List ℕ) (z n i : ℕ) → Filled p o₀ o z n i → i < length p → drops z (getD p i 0) ≡ false → n ≡ length o
+    → Front (rbsp p) o₀ o n
 fill-full p o₀ o z n i f h d e =
     let X = getD p i 0 ∷ unescape (nextZeros z (getD p i 0)) (drop (i + 1) p) in
-    let more : rbsp p ≡ o ++ X = f .done ∙ ap (λ (l : List ℕ). take n o ++ l) (step-kept z i p h d) ∙ ap (λ (l : List ℕ). l ++ X) (take-all n o (omega arith)) in
+    let more : rbsp p ≡ o ++ X = f .done ∙ ap (λ (l : List ℕ). take n o ++ l) (step-kept z i p h d)
+    ∙ ap (λ (l : List ℕ). l ++ X) (take-all n o (omega arith)) in
     record {
       count = omega (arith, ap length more ∙ length-append o X);
       stands = rw (more, take-at o X (length o₀) (f .long), drop-of-length-le o₀ {i = length o} (omega arith)) (sym (append-nil o));
@@ -86,7 +89,8 @@ module _ (p o : List ℕ) where
   unfolding extractRbsp
   extract-short n h e k = rw (le-leb (length p) (2 ^ 30) h, lt-leb (length (rbsp p)) (length o) (omega arith))
 
-  pub extract-done : (o′ : List ℕ) (m n : ℕ) → length p ≤ 2 ^ 30 → m ≡ length (rbsp p) → m ≤ length o → Front (rbsp p) o o′ n → (accept n, o′) ≡ extractRbsp p o
+  pub extract-done : (o′ : List ℕ) (m n : ℕ) → length p ≤ 2 ^ 30 → m ≡ length (rbsp p) → m ≤ length o → Front (rbsp p) o o′ n
+      → (accept n, o′) ≡ extractRbsp p o
   unfolding extractRbsp
   extract-done o′ m n h e k f =
       let long : n ≡ length (rbsp p) = omega (arith, f .count) in

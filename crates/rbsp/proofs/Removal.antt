@@ -32,7 +32,8 @@ unfolding nextZeros
 zeros-le z b = if-elim (λ n. n ≤ z + 1) (eqb b 0) (z + 1) 0 (omega arith) (omega arith)
 
 -- A turn of the loop that measures: the total is what is counted and the length of what is left.
-module _ (total z z′ i n n′ : ℕ) (l : List ℕ) (h : i < length l) (e : z′ ≡ nextZeros z (getD l i 0)) (inv : total ≡ n + length (unescape z (drop i l))) where
+module _ (total z z′ i n n′ : ℕ) (l : List ℕ) (h : i < length l) (e : z′ ≡ nextZeros z (getD l i 0))
+    (inv : total ≡ n + length (unescape z (drop i l))) where
   pub measure-kept : drops z (getD l i 0) ≡ false → n′ ≡ n + 1 → total ≡ n′ + length (unescape z′ (drop (i + 1) l))
   measure-kept d f = rw e (omega (arith, ap length (step-kept z i l h d)))
 

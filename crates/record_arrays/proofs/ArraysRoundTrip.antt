@@ -30,7 +30,8 @@ byte-there s pre post b p e l =
     uint-there 1 s p (omega arith) ∙ ap (λ v. value v (p + 1)) (be-one s p ∙ rw e (getD-at pre b post 0 p l))
 
 -- a number of w bytes after others
-pub number-there : (w : ℕ) (s pre post : List ℕ) (n p : ℕ) → s ≡ pre ++ (toBe w n ++ post) → length pre ≡ p → n < 256 ^ w → uint w s p ≡ value n (p + w)
+pub number-there : (w : ℕ) (s pre post : List ℕ) (n p : ℕ) → s ≡ pre ++ (toBe w n ++ post) → length pre ≡ p → n < 256 ^ w
+    → uint w s p ≡ value n (p + w)
 number-there w s pre post n p e l f =
     let m = ap length e ∙ length-append pre (toBe w n ++ post) in
     let k = length-append (toBe w n) post in
@@ -60,7 +61,11 @@ module _ (w : ℕ) (s : List ℕ) where
       let c : chunk w s p ≡ value (record { start = p + w; len = length u }) (p + w + length u) =
       rw (g, ← l) (chunk-toChunk w pre u (encodeUnits w us ++ post) (f .0)) in
       times-step (chunk w) s (length us) p (record { start = p + w; len = length u }) (p + w + length u) c
-      ∙ rw (units-read us (pre ++ toChunk w u) post (p + w + length u) (g ∙ sym (append-assoc pre (toChunk w u) (encodeUnits w us ++ post))) (past-unit u pre p l) (f .1), z)
+      ∙ rw (
+        units-read us (pre ++ toChunk w u) post (p + w + length u) (g ∙ sym (append-assoc pre (toChunk w u) (encodeUnits w us ++ post)))
+            (past-unit u pre p l) (f .1),
+        z,
+      )
     where
       z : p + w + length u + length (encodeUnits w us) ≡ p + length (toChunk w u ++ encodeUnits w us)
       z = omega (arith, length-append (toChunk w u) (encodeUnits w us), length-toChunk w u)
@@ -72,7 +77,11 @@ module _ (w : ℕ) (s : List ℕ) where
   units-held (u ∷ us) pre post p e l f =
       let g = after-unit u us pre post e in
       let h : held s (record { start = p + w; len = length u }) ≡ u = rw (g, ← l) (held-toChunk w pre u (encodeUnits w us ++ post) (f .0)) in
-      rw (h, units-held us (pre ++ toChunk w u) post (p + w + length u) (g ∙ sym (append-assoc pre (toChunk w u) (encodeUnits w us ++ post))) (past-unit u pre p l) (f .1))
+      rw (
+        h,
+        units-held us (pre ++ toChunk w u) post (p + w + length u) (g ∙ sym (append-assoc pre (toChunk w u) (encodeUnits w us ++ post)))
+            (past-unit u pre p l) (f .1),
+      )
 
 -- one array
 fits-below : (us : List (List ℕ)) → unitsFit us ≡ true → Below 2 [] us
@@ -107,15 +116,18 @@ module _ (s : List ℕ) (a : Array (List ℕ)) (pre post : List ℕ) (p : ℕ) (
   before-units : length (pre ++ (firstByte a ∷ countPart a)) ≡ p + 1 + length (countPart a)
   before-units = omega (arith, length-append pre (firstByte a ∷ countPart a))
 
-  all-fit : (leb (length (a .units)) 65535 ≡ true) × (unitsFit (a .units) ≡ true) × ((if holdsOne (a .unitType) then eqb (length (a .units)) 1 else true) ≡ true)
+  all-fit : (leb (length (a .units)) 65535 ≡ true) × (unitsFit (a .units) ≡ true)
+      × ((if holdsOne (a .unitType) then eqb (length (a .units)) 1 else true) ≡ true)
   unfolding arrayFits
   all-fit = let r = both-true _ _ fits in let q = both-true _ _ (r .1) in (r .0, q .0, q .1)
 
-  units-there : times (length (a .units)) (chunk 2) s (p + 1 + length (countPart a)) ≡ value (placedUnits 2 (p + 1 + length (countPart a)) (a .units)) (p + 1 + length (countPart a) + length (encodeUnits 2 (a .units)))
+  units-there : times (length (a .units)) (chunk 2) s (p + 1 + length (countPart a))
+      ≡ value (placedUnits 2 (p + 1 + length (countPart a)) (a .units)) (p + 1 + length (countPart a) + length (encodeUnits 2 (a .units)))
   units-there = units-read 2 s (a .units) (pre ++ (firstByte a ∷ countPart a)) post _ split-units before-units (fits-below (a .units) (all-fit .1))
 
   -- the count, or none for types 12 and 13
-  count-there : (c : Bool) → holdsOne (a .unitType) ≡ c → (if c then give 1 else uint 2) s (p + 1) ≡ value (length (a .units)) (p + 1 + length (countPart a))
+  count-there : (c : Bool) → holdsOne (a .unitType) ≡ c
+      → (if c then give 1 else uint 2) s (p + 1) ≡ value (length (a .units)) (p + 1 + length (countPart a))
   count-there true h = rw h (let n : length (a .units) ≡ 1 = eqb-true _ 1 (rw h at (all-fit .2)) in rw n (ap (value 1) (omega arith)))
   count-there false h =
       let f : s ≡ (pre ++ (firstByte a ∷ [])) ++ (toBe 2 (length (a .units)) ++ (encodeUnits 2 (a .units) ++ post)) =
@@ -134,12 +146,20 @@ module _ (s : List ℕ) (a : Array (List ℕ)) (pre post : List ℕ) (p : ℕ) (
       let m : firstByte a % 32 ≡ a .unitType = omega arith in
       let d : firstByte a / 128 ≡ a .complete = omega arith in
       let z : p + 1 + length (countPart a) + length (encodeUnits 2 (a .units)) ≡ p + length (arrayBytes a) = omega (arith, length-array) in
-      rw (byte-there s pre (countPart a ++ (encodeUnits 2 (a .units) ++ post)) (firstByte a) p split-first l, m, count-there (holdsOne (a .unitType)) refl, units-there, d, z)
+      rw (
+        byte-there s pre (countPart a ++ (encodeUnits 2 (a .units) ++ post)) (firstByte a) p split-first l,
+        m,
+        count-there (holdsOne (a .unitType)) refl,
+        units-there,
+        d,
+        z,
+      )
 
   pub array-held : heldArray s (placedInRecord p a) ≡ a
   array-held =
       ap (λ (us : List (List ℕ)). record { complete = a .complete; unitType = a .unitType; units = us })
-      (units-held 2 s (a .units) (pre ++ (firstByte a ∷ countPart a)) post (p + 1 + length (countPart a)) split-units before-units (fits-below (a .units) (all-fit .1)))
+      (units-held 2 s (a .units) (pre ++ (firstByte a ∷ countPart a)) post (p + 1 + length (countPart a)) split-units before-units
+      (fits-below (a .units) (all-fit .1)))
 
 -- arrays one after the other
 module _ (s : List ℕ) where
@@ -158,8 +178,13 @@ module _ (s : List ℕ) where
       let m : length (pre ++ arrayBytes a) ≡ p + length (arrayBytes a) = omega (arith, length-append pre (arrayBytes a)) in
       let z : p + length (arrayBytes a) + length (arraysBytes xs) ≡ p + length (arrayBytes a ++ arraysBytes xs) =
       omega (arith, length-append (arrayBytes a) (arraysBytes xs)) in
-      times-step recordArray s (length xs) p (placedInRecord p a) (p + length (arrayBytes a)) (array-read s a pre (arraysBytes xs ++ post) p g l one small (f .0))
-      ∙ rw (arrays-read h (pre ++ arrayBytes a) post (p + length (arrayBytes a)) (g ∙ sym (append-assoc pre (arrayBytes a) (arraysBytes xs ++ post))) m (f .1), z)
+      times-step recordArray s (length xs) p (placedInRecord p a) (p + length (arrayBytes a))
+      (array-read s a pre (arraysBytes xs ++ post) p g l one small (f .0))
+      ∙ rw (
+        arrays-read h (pre ++ arrayBytes a) post (p + length (arrayBytes a))
+            (g ∙ sym (append-assoc pre (arrayBytes a) (arraysBytes xs ++ post))) m (f .1),
+        z,
+      )
 
   pub arrays-held : {xs : List (Array (List ℕ))} → Sound xs → (pre post : List ℕ) (p : ℕ) → s ≡ pre ++ (arraysBytes xs ++ post) → length pre ≡ p
       → arraysFit xs ≡ true → heldArrays s (allPlacedInRecord p xs) ≡ xs
@@ -169,4 +194,8 @@ module _ (s : List ℕ) where
       let g = next-arrays a xs pre post e in
       let f = both-true _ _ fits in
       let m : length (pre ++ arrayBytes a) ≡ p + length (arrayBytes a) = omega (arith, length-append pre (arrayBytes a)) in
-      rw (array-held s a pre (arraysBytes xs ++ post) p g l one small (f .0), arrays-held h (pre ++ arrayBytes a) post (p + length (arrayBytes a)) (g ∙ sym (append-assoc pre (arrayBytes a) (arraysBytes xs ++ post))) m (f .1))
+      rw (
+        array-held s a pre (arraysBytes xs ++ post) p g l one small (f .0),
+        arrays-held h (pre ++ arrayBytes a) post (p + length (arrayBytes a))
+            (g ∙ sym (append-assoc pre (arrayBytes a) (arraysBytes xs ++ post))) m (f .1),
+      )

@@ -27,7 +27,8 @@ module _ (s : List ℕ) (at : ℕ) where
     unfolding countedArrays
     arrays-after = rw (byte-read s at some, is)
 
-    pub arrays-refused : (e : ℕ) → refused e ≡ roomTaken arraysInList s 0 (times n recordArray s (at + 1)) → listGiven s (countedArrays s at) ≡ refuse e
+    pub arrays-refused : (e : ℕ) → refused e ≡ roomTaken arraysInList s 0 (times n recordArray s (at + 1))
+        → listGiven s (countedArrays s at) ≡ refuse e
     arrays-refused e w = ap (listGiven s) (arrays-after ∙ room-refused arraysInList s (times n recordArray s (at + 1)) e w)
 
     -- the arrays when they are measured
@@ -46,7 +47,8 @@ module _ (s : List ℕ) (at : ℕ) where
       given = ap (listGiven s) (arrays-after ∙ found .read) ∙ ap (λ (l : ℕ). accept ((q, l), list)) list-long
 
       module _ (out : List ℕ) where
-        pub list-too-long : length out < 1 + room → _≡_ {A = Outcome (ℕ × ℕ) × List ℕ} (refuse 20, out) (lentOutput (listGiven s (countedArrays s at)) out)
+        pub list-too-long : length out < 1 + room
+            → _≡_ {A = Outcome (ℕ × ℕ) × List ℕ} (refuse 20, out) (lentOutput (listGiven s (countedArrays s at)) out)
         list-too-long h = let l = list-long in output-short (listGiven s (countedArrays s at)) out (q, 1 + room) list given (omega arith)
 
         module _ (h : 1 + room ≤ length out) where

@@ -20,7 +20,8 @@ use Rattle.unit_list.specs.declared.ChunkRead.the-variants as C
 use Rattle.unit_list.proofs.Encode.{length-toChunk}
 use Rattle.unit_list.proofs.Steps.{chunk-bytes, chunk-refused}
 use Rattle.record_arrays.specs.Read.{holdsOne, recordArray}
-use Rattle.record_arrays_read.specs.inner.Arrays.{arrayHead, arrayHeadOf, ArrayHeadFits, unitsInList, arrayInList, arraysInList, roomTaken, storedBytes, StoredAt}
+use Rattle.record_arrays_read.specs.inner.Arrays.{arrayHead, arrayHeadOf, ArrayHeadFits, unitsInList}
+use Rattle.record_arrays_read.specs.inner.Arrays.{arrayInList, arraysInList, roomTaken, storedBytes, StoredAt}
 use Rattle.record_arrays_read.specs.declared.ArrayHead.{ArrayHead}
 use Rattle.record_arrays_read.specs.declared.ArrayHeadRead.{ArrayHeadRead}
 use Rattle.record_arrays_read.specs.declared.ArrayHeadRead.the-variants as A
@@ -94,7 +95,8 @@ module _ (s : List ℕ) (p : ℕ) where
     array-short h = rw (first, count-short (holdsOne (getD s p 0 % 32)) h)
 
     array-counted : p + 1 + countLen (getD s p 0 % 32) ≤ length s
-        → arrayHead s p ≡ value (headWith (getD s p 0) (if holdsOne (getD s p 0 % 32) then 1 else be s (p + 1) 2)) (p + 1 + countLen (getD s p 0 % 32))
+        → arrayHead s p
+        ≡ value (headWith (getD s p 0) (if holdsOne (getD s p 0 % 32) then 1 else be s (p + 1) 2)) (p + 1 + countLen (getD s p 0 % 32))
     unfolding arrayHead
     array-counted h = rw (first, count-there (holdsOne (getD s p 0 % 32)) h)
 
@@ -131,7 +133,8 @@ abbrev after-head : (s : List ℕ) → ArrayHead → ℕ → Parsed (Array Span)
 after-head s h q = bind (times (h .count) (chunk 2) s q) (λ us r. value (withUnits h us) r)
 
 counted : (s : List ℕ) (b : ℕ) (x : Parsed ℕ)
-    → bind x (λ n r. bind (times n (chunk 2) s r) (λ us t. value (withUnits (headWith b n) us) t)) ≡ bind (bind x (λ n r. value (headWith b n) r)) (after-head s)
+    → bind x (λ n r. bind (times n (chunk 2) s r) (λ us t. value (withUnits (headWith b n) us) t))
+    ≡ bind (bind x (λ n r. value (headWith b n) r)) (after-head s)
 unfolding times
 counted s b (value n r) = refl
 counted s b (refused e) = refl
@@ -141,7 +144,8 @@ unfolding recordArray arrayHead
 array-split s p = go (uint 1 s p)
   where
     go : (x : Parsed ℕ)
-        → bind x (λ b q. bind ((if holdsOne (b % 32) then give 1 else uint 2) s q) (λ n r. bind (times n (chunk 2) s r) (λ us t. value (withUnits (headWith b n) us) t)))
+        → bind x (λ b q. bind ((if holdsOne (b % 32) then give 1 else uint 2) s q)
+        (λ n r. bind (times n (chunk 2) s r) (λ us t. value (withUnits (headWith b n) us) t)))
         ≡ bind (bind x (λ b q. bind ((if holdsOne (b % 32) then give 1 else uint 2) s q) (λ n r. value (headWith b n) r))) (after-head s)
     go (value b q) = counted s b ((if holdsOne (b % 32) then give 1 else uint 2) s q)
     go (refused e) = refl
@@ -153,7 +157,8 @@ headBytes h rest = toBe 4 rest ++ (h .complete ∷ h .«unit_type» ∷ [])
 head-long : (h : ArrayHead) (rest : ℕ) → length (headBytes h rest) ≡ 6
 head-long h rest = length-append (toBe 4 rest) (h .complete ∷ h .«unit_type» ∷ []) ∙ rw (length-toBe 4 rest)
 
-array-bytes : (s : List ℕ) (h : ArrayHead) (us : List Span) → arrayInList s (withUnits h us) ≡ headBytes h (2 + length (unitsInList s us)) ++ unitsInList s us
+array-bytes : (s : List ℕ) (h : ArrayHead) (us : List Span)
+    → arrayInList s (withUnits h us) ≡ headBytes h (2 + length (unitsInList s us)) ++ unitsInList s us
 unfolding encodeArray toChunk
 array-bytes s h us =
     let e : length (h .complete ∷ h .«unit_type» ∷ unitsInList s us) ≡ 2 + length (unitsInList s us) = omega arith in
@@ -184,7 +189,8 @@ module _ (s : List ℕ) (p : ℕ) where
 
     -- stored
     module _ (out : List ℕ) (to : ℕ) (stores : Puts (arrayInList s) (outcome (recordArray s p)) out to) where
-      units-of : (x : Parsed (List Span)) → outcome (bind x (λ us r. value (withUnits h us) r)) ≡ accept (stores .it) → Puts (unitsInList s) (outcome x) out (to + 6)
+      units-of : (x : Parsed (List Span)) → outcome (bind x (λ us r. value (withUnits h us) r)) ≡ accept (stores .it)
+          → Puts (unitsInList s) (outcome x) out (to + 6)
       units-of (value us r) g =
           let u : withUnits h us ≡ stores .it = cc in
           let b = ap (λ (a : Array Span). length (arrayInList s a)) u in
@@ -202,8 +208,10 @@ module _ (s : List ℕ) (p : ℕ) where
           let f = stores-units .room in
           omega arith
 
-      stored-of : (x : Parsed (List Span)) → Puts (unitsInList s) (outcome x) out (to + 6) → (d : List ℕ) (r : Stored) → StoredAt unitsInList s x out (to + 6) d r
-          → (e : List ℕ) → e ≡ sets d to (headBytes h (r .to - to - 4)) → StoredAt arrayInList s (bind x (λ us r. value (withUnits h us) r)) out to e r
+      stored-of : (x : Parsed (List Span)) → Puts (unitsInList s) (outcome x) out (to + 6) → (d : List ℕ) (r : Stored)
+          → StoredAt unitsInList s x out (to + 6) d r
+          → (e : List ℕ) → e ≡ sets d to (headBytes h (r .to - to - 4))
+          → StoredAt arrayInList s (bind x (λ us r. value (withUnits h us) r)) out to e r
       stored-of (refused j) g d r i e v = absurd (let w = g .found in let z : _≡_ {A = ℕ} 0 1 = cc in omega arith)
       stored-of (value us j) g d r i e v =
           let t = i .to in

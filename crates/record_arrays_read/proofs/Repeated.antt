@@ -84,7 +84,8 @@ module _ {A : Type 0} (P : Parser A) (f : List ℕ → A → List ℕ) (F : List
           let m : n ≡ suc (n - 1) = omega arith in
           ap (λ (k : ℕ). times k P s p) m ∙ times-step P s (n - 1) p a q w
 
-      room-bind : (k m : ℕ) → m ≡ k + length (f s a) → (x : Parsed (List A)) → roomTaken F s m x ≡ roomTaken F s k (bind x (λ rest r. value (a ∷ rest) r))
+      room-bind : (k m : ℕ) → m ≡ k + length (f s a)
+          → (x : Parsed (List A)) → roomTaken F s m x ≡ roomTaken F s k (bind x (λ rest r. value (a ∷ rest) r))
       room-bind k m e (value xs r) = ap (λ (j : ℕ). value j r) (let l = room-more a xs in omega arith)
       room-bind k m e (refused j) = refl
 

@@ -57,7 +57,8 @@ pub fn array_head(record: &[u8], at: usize) -> ArrayHeadRead
 // Writes the unit list of the arrays whose count is at place `at`; they are measured before anything is written. Refusals: 1, 20.
 pub fn read_list(record: &[u8], at: usize, out: &mut [u8]) -> ListRead
     requires { ⌜ length (now «record») ≤ 2 ^ 30 ⌝ }
-    ensures { λ r. ⌜ (listOf r, now (out .exit)) ≡ lentOutput (listGiven (now («record» .entry)) (countedArrays (now («record» .entry)) at)) (now (out .entry)) ⌝ }
+    ensures { λ r. ⌜ (listOf r, now (out .exit))
+        ≡ lentOutput (listGiven (now («record» .entry)) (countedArrays (now («record» .entry)) at)) (now (out .entry)) ⌝ }
 {
     if record.len() <= at {
         return ListRead::Refused(Refusal::Truncated);

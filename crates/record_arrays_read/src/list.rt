@@ -21,8 +21,10 @@ pub struct Stored {
 
 // Stores `count` units from place `from` of the record.
 fn put_units(record: &[u8], from: usize, count: usize, out: &mut [u8], to: usize) -> Stored
-    requires { ⌜ (length (now «record») ≤ 2 ^ 30) × (from ≤ length (now «record»)) × Puts (unitsInList (now «record»)) (outcome (times count (chunk 2) (now «record») from)) (now out) to ⌝ }
-    ensures { λ r. ⌜ StoredAt unitsInList (now («record» .entry)) (times count (chunk 2) (now («record» .entry)) from) (now (out .entry)) to (now (out .exit)) r ⌝ }
+    requires { ⌜ (length (now «record») ≤ 2 ^ 30) × (from ≤ length (now «record»))
+        × Puts (unitsInList (now «record»)) (outcome (times count (chunk 2) (now «record») from)) (now out) to ⌝ }
+    ensures { λ r. ⌜ StoredAt unitsInList (now («record» .entry)) (times count (chunk 2) (now («record» .entry)) from) (now (out .entry)) to
+        (now (out .exit)) r ⌝ }
 {
     let mut left = count;
     let mut at = from;
@@ -42,7 +44,8 @@ fn put_units(record: &[u8], from: usize, count: usize, out: &mut [u8], to: usize
 // Stores the array at a place of the record: its units first, then its length, complete and type before them.
 fn put_array(record: &[u8], at: usize, out: &mut [u8], to: usize) -> Stored
     requires { ⌜ (length (now «record») ≤ 2 ^ 30) × Puts (arrayInList (now «record»)) (outcome (recordArray (now «record») at)) (now out) to ⌝ }
-    ensures { λ r. ⌜ StoredAt arrayInList (now («record» .entry)) (recordArray (now («record» .entry)) at) (now (out .entry)) to (now (out .exit)) r ⌝ }
+    ensures { λ r. ⌜ StoredAt arrayInList (now («record» .entry)) (recordArray (now («record» .entry)) at) (now (out .entry)) to
+        (now (out .exit)) r ⌝ }
 {
     let ArrayHeadRead::Head(head, units) = super::arrays::array_head(record, at) else {
         return Stored { from: at, to: to };
@@ -55,8 +58,10 @@ fn put_array(record: &[u8], at: usize, out: &mut [u8], to: usize) -> Stored
 
 // Stores `count` arrays from place `from` of the record.
 pub fn put_arrays(record: &[u8], from: usize, count: usize, out: &mut [u8], to: usize)
-    requires { ⌜ (length (now «record») ≤ 2 ^ 30) × Puts (arraysInList (now «record»)) (outcome (times count recordArray (now «record») from)) (now out) to ⌝ }
-    ensures { λ _. ⌜ now (out .exit) ≡ sets (now (out .entry)) to (storedBytes arraysInList (now («record» .entry)) (times count recordArray (now («record» .entry)) from)) ⌝ }
+    requires { ⌜ (length (now «record») ≤ 2 ^ 30)
+        × Puts (arraysInList (now «record»)) (outcome (times count recordArray (now «record») from)) (now out) to ⌝ }
+    ensures { λ _. ⌜ now (out .exit)
+        ≡ sets (now (out .entry)) to (storedBytes arraysInList (now («record» .entry)) (times count recordArray (now («record» .entry)) from)) ⌝ }
 {
     let mut left = count;
     let mut at = from;

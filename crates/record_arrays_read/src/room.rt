@@ -19,7 +19,8 @@ pub enum ListRoom {
 // Measures `count` units from place `from` on.
 fn units_room(record: &[u8], from: usize, count: usize) -> ListRoom
     requires { ⌜ (length (now «record») ≤ 2 ^ 30) × (from ≤ length (now «record»)) ⌝ }
-    ensures { λ r. ⌜ (listRoomOf r ≡ roomTaken unitsInList (now («record» .entry)) 0 (times count (chunk 2) (now («record» .entry)) from)) × RoomFits (now («record» .entry)) from r ⌝ }
+    ensures { λ r. ⌜ (listRoomOf r ≡ roomTaken unitsInList (now («record» .entry)) 0 (times count (chunk 2) (now («record» .entry)) from))
+        × RoomFits (now («record» .entry)) from r ⌝ }
 {
     let mut left = count;
     let mut at = from;
@@ -38,7 +39,8 @@ fn units_room(record: &[u8], from: usize, count: usize) -> ListRoom
 // Measures the array at place `at`.
 fn array_room(record: &[u8], at: usize) -> ListRoom
     requires { ⌜ length (now «record») ≤ 2 ^ 30 ⌝ }
-    ensures { λ r. ⌜ (listRoomOf r ≡ roomTaken arrayInList (now («record» .entry)) 0 (recordArray (now («record» .entry)) at)) × RoomFits (now («record» .entry)) at r ⌝ }
+    ensures { λ r. ⌜ (listRoomOf r ≡ roomTaken arrayInList (now («record» .entry)) 0 (recordArray (now («record» .entry)) at))
+        × RoomFits (now («record» .entry)) at r ⌝ }
 {
     let ArrayHeadRead::Head(head, units) = super::arrays::array_head(record, at) else {
         return ListRoom::Short;
@@ -52,7 +54,8 @@ fn array_room(record: &[u8], at: usize) -> ListRoom
 // Measures `count` arrays from place `from` on.
 pub fn arrays_room(record: &[u8], from: usize, count: usize) -> ListRoom
     requires { ⌜ (length (now «record») ≤ 2 ^ 30) × (from ≤ length (now «record»)) ⌝ }
-    ensures { λ r. ⌜ (listRoomOf r ≡ roomTaken arraysInList (now («record» .entry)) 0 (times count recordArray (now («record» .entry)) from)) × RoomFits (now («record» .entry)) from r ⌝ }
+    ensures { λ r. ⌜ (listRoomOf r ≡ roomTaken arraysInList (now («record» .entry)) 0 (times count recordArray (now («record» .entry)) from))
+        × RoomFits (now («record» .entry)) from r ⌝ }
 {
     let mut left = count;
     let mut at = from;

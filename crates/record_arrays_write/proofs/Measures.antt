@@ -21,7 +21,8 @@ use Rattle.unit_list.specs.declared.ArrayStep.the-variants as A
 use Rattle.unit_list.proofs.Encode.{length-toChunk}
 use Rattle.record_arrays.specs.Read.{holdsOne}
 use Rattle.record_arrays.specs.Write.{arrayBytes, arraysBytes, unitsFit, arrayFits, arraysFit}
-use Rattle.record_arrays_write.specs.inner.Measures.{joined, nothing, unitMeasure, arrayBy, unitsMeasure, arraysMeasure, measuredBy, afterMeasured, arrayMeasured, Takes, ArrayWithin}
+use Rattle.record_arrays_write.specs.inner.Measures.{joined, nothing, unitMeasure, arrayBy, unitsMeasure, arraysMeasure}
+use Rattle.record_arrays_write.specs.inner.Measures.{measuredBy, afterMeasured, arrayMeasured, Takes, ArrayWithin}
 use Rattle.record_arrays_write.specs.declared.measure.Measure.{Measure}
 use Rattle.record_arrays_write.specs.declared.measure.ArrayMeasured.{ArrayMeasured}
 use Rattle.record_arrays_write.specs.declared.measure.ArrayMeasured.the-variants as R
@@ -124,17 +125,22 @@ pub record MeasuringUnits (s : List ℕ) (c here : ListCursor) (v : Measure) : T
 
 module _ (s : List ℕ) (c : ListCursor) where
   pub units-start : Fits s c → MeasuringUnits s c c nothing
-  units-start h = record { fits = h; end = refl; len = omega arith; count = omega arith; whole = after-start (measuredBy (unitsMeasure s) (arrayUnitsFrom s c)) }
+  units-start h =
+      record { fits = h; end = refl; len = omega arith; count = omega arith; whole = after-start (measuredBy (unitsMeasure s) (arrayUnitsFrom s c)) }
 
-  module _ (here : ListCursor) (v : Measure) (i : MeasuringUnits s c here v) (r : ListStep) (f : (unitsStepped s r ≡ arrayUnitsFrom s here) × UnitStepFits s here r) where
-    pub units-ended : r ≡ L.End → (accept v ≡ measuredBy (unitsMeasure s) (arrayUnitsFrom s c)) × ((c .at + v .len ≤ c .end) × (c .at + v .count ≤ c .end))
+  module _ (here : ListCursor) (v : Measure) (i : MeasuringUnits s c here v) (r : ListStep)
+      (f : (unitsStepped s r ≡ arrayUnitsFrom s here) × UnitStepFits s here r) where
+    pub units-ended : r ≡ L.End
+        → (accept v ≡ measuredBy (unitsMeasure s) (arrayUnitsFrom s c)) × ((c .at + v .len ≤ c .end) × (c .at + v .count ≤ c .end))
     units-ended e = (
-      after-end v ∙ ap (λ (m : Measure). afterMeasured v (accept m)) (sym (units-none s)) ∙ ap (λ (o : Outcome (List Span)). afterMeasured v (measuredBy (unitsMeasure s) o)) (sym (units-end s here r f e)) ∙ i .whole,
+      after-end v ∙ ap (λ (m : Measure). afterMeasured v (accept m)) (sym (units-none s))
+          ∙ ap (λ (o : Outcome (List Span)). afterMeasured v (measuredBy (unitsMeasure s) o)) (sym (units-end s here r f e)) ∙ i .whole,
       (omega (arith, i .len, i .fits .before, i .end), omega (arith, i .count, i .fits .before, i .end)),
     )
 
     pub units-refused : r ≡ L.Malformed → refuse 21 ≡ measuredBy (unitsMeasure s) (arrayUnitsFrom s c)
-    units-refused e = ap (λ (o : Outcome (List Span)). afterMeasured v (measuredBy (unitsMeasure s) o)) (sym (units-malformed s here r f e)) ∙ i .whole
+    units-refused e =
+        ap (λ (o : Outcome (List Span)). afterMeasured v (measuredBy (unitsMeasure s) o)) (sym (units-malformed s here r f e)) ∙ i .whole
 
     module _ (a : Span) (next : ListCursor) (e : r ≡ L.Unit a next) where
       pub unit-small : a .len < 2 ^ 32
@@ -172,7 +178,10 @@ length-array a = go (holdsOne (a .unitType))
     go : (b : Bool) → length ((a .complete * 128 + a .unitType) ∷ ((if b then [] else toBe 2 (length (a .units))) ++ encodeUnits 2 (a .units)))
         ≡ 1 + (if b then 0 else 2) + length (encodeUnits 2 (a .units))
     go true = omega arith
-    go false = let l = length-append (toBe 2 (length (a .units))) (encodeUnits 2 (a .units)) in let k = length-toBe 2 (length (a .units)) in omega arith
+    go false =
+        let l = length-append (toBe 2 (length (a .units))) (encodeUnits 2 (a .units)) in
+        let k = length-toBe 2 (length (a .units)) in
+        omega arith
 
 arrays-none : (s : List ℕ) → accept nothing ≡ measuredBy (arraysMeasure s) (accept [])
 unfolding arraysBytes arraysFit
@@ -182,7 +191,8 @@ module _ (s : List ℕ) (complete t : ℕ) where
   abbrev pub arrayWith : List Span → Array Span
   arrayWith us = record { complete = complete; unitType = t; units = us }
 
-  array-more : (us : List Span) (xs : List (Array Span)) → joined (arrayBy t (unitsMeasure s us)) (arraysMeasure s xs) ≡ arraysMeasure s (arrayWith us ∷ xs)
+  array-more : (us : List Span) (xs : List (Array Span))
+      → joined (arrayBy t (unitsMeasure s us)) (arraysMeasure s xs) ≡ arraysMeasure s (arrayWith us ∷ xs)
   unfolding arraysBytes arraysFit arrayFits
   array-more us xs =
       let l = length-array (heldArray s (arrayWith us)) in
@@ -223,7 +233,8 @@ module _ (s : List ℕ) (here : ListCursor) (r : ArrayStep) (f : (arraysStepped 
     pub unread-measured : refuse 21 ≡ measuredBy (unitsMeasure s) (arrayUnitsFrom s c) → refuse 21 ≡ measuredBy (arraysMeasure s) (arraysFrom s here)
     unread-measured h = arrays-unread s b (c .«unit_type») (arrayUnitsFrom s c) (arraysFrom s c) h ∙ ap (measuredBy (arraysMeasure s)) (entered .0)
 
-    module _ (m : Measure) (h : accept m ≡ measuredBy (unitsMeasure s) (arrayUnitsFrom s c)) (w : (c .at + m .len ≤ c .end) × (c .at + m .count ≤ c .end)) where
+    module _ (m : Measure) (h : accept m ≡ measuredBy (unitsMeasure s) (arrayUnitsFrom s c))
+        (w : (c .at + m .len ≤ c .end) × (c .at + m .count ≤ c .end)) where
       pub units-few : m .len < 2 ^ 32
       units-few = let g = entered .1 .fits in omega (arith, w .0, g .within, g .lent)
 
@@ -252,7 +263,8 @@ module _ (s : List ℕ) (c : ListCursor) where
   pub arrays-start : Fits s c → MeasuringArrays s c c nothing
   arrays-start h = record { fits = h; len = omega arith; count = omega arith; whole = after-start (measuredBy (arraysMeasure s) (arraysFrom s c)) }
 
-  module _ (here : ListCursor) (v : Measure) (i : MeasuringArrays s c here v) (r : ArrayMeasured) (f : (arrayMeasured s r ≡ measuredBy (arraysMeasure s) (arraysFrom s here)) × ArrayWithin s here r) where
+  module _ (here : ListCursor) (v : Measure) (i : MeasuringArrays s c here v) (r : ArrayMeasured)
+      (f : (arrayMeasured s r ≡ measuredBy (arraysMeasure s) (arraysFrom s here)) × ArrayWithin s here r) where
     pub arrays-ended : r ≡ R.End → (accept v ≡ measuredBy (arraysMeasure s) (arraysFrom s c)) × ((v .len ≤ length s) × (v .count ≤ length s))
     arrays-ended e = (
       after-end v ∙ ap (afterMeasured v) (sym (ap (arrayMeasured s) e) ∙ f .0) ∙ i .whole,

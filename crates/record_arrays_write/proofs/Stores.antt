@@ -53,7 +53,8 @@ module _ (s : List ℕ) (c : ListCursor) (out₀ : List ℕ) (to₀ : ℕ) where
     units-done = go r f
       where
         go : (r : ListStep) → (unitsStepped s r ≡ arrayUnitsFrom s here) × UnitStepFits s here r → OneOf (1 ∷ 2 ∷ []) (tagOf list-step.the-type r)
-            → (to ≡ to₀ + length (bytesOf (unitBytes 2 s) (arrayUnitsFrom s c))) × (out ≡ sets out₀ to₀ (bytesOf (unitBytes 2 s) (arrayUnitsFrom s c)))
+            → (to ≡ to₀ + length (bytesOf (unitBytes 2 s) (arrayUnitsFrom s c)))
+            × (out ≡ sets out₀ to₀ (bytesOf (unitBytes 2 s) (arrayUnitsFrom s c)))
         go (L.Unit a next) f k = absurd (⊎-elim (λ h. omega arith) (λ h. omega arith) k)
         go L.End f k = copying-done 2 s out₀ to₀ (arrayUnitsFrom s c) (arrayUnitsFrom s here) out to (i .putting) (sym (f .0))
         go L.Malformed f k = absurd (copying-never 2 s out₀ to₀ (arrayUnitsFrom s c) (arrayUnitsFrom s here) out to (i .putting) 21 (sym (f .0)))
@@ -61,8 +62,11 @@ module _ (s : List ℕ) (c : ListCursor) (out₀ : List ℕ) (to₀ : ℕ) where
     module _ (a : Span) (next : ListCursor) (e : r ≡ L.Unit a next) where
       pub unit-room : (a .start + a .len ≤ length s) × (to + 2 + a .len ≤ length out)
       unit-room =
-          let h = ahead s here r f a next e .inside in
-          (h, copying-room 2 s out₀ to₀ (arrayUnitsFrom s c) (arrayUnitsFrom s here) out to (i .putting) a h (arrayUnitsFrom s next) (units-next s here r f a next e))
+          let h = ahead s here r f a next e .inside in (
+            h,
+            copying-room 2 s out₀ to₀ (arrayUnitsFrom s c) (arrayUnitsFrom s here) out to (i .putting) a h (arrayUnitsFrom s next)
+                (units-next s here r f a next e),
+          )
 
       pub units-less : length s - next .at < length s - here .at
       units-less = ahead s here r f a next e .less
@@ -79,7 +83,8 @@ module _ (s : List ℕ) (c : ListCursor) (out₀ : List ℕ) (to₀ : ℕ) where
 -- ---- one array
 
 -- a byte and two runs, stored one after the other
-pub three-stored : (d : List ℕ) (to x : ℕ) (xs ys : List ℕ) → sets (sets (set d to x) (to + 1) xs) (to + 1 + length xs) ys ≡ sets d to (x ∷ (xs ++ ys))
+pub three-stored : (d : List ℕ) (to x : ℕ) (xs ys : List ℕ)
+    → sets (sets (set d to x) (to + 1) xs) (to + 1 + length xs) ys ≡ sets d to (x ∷ (xs ++ ys))
 three-stored d to x xs ys = rw (add-one to) (sets-append (set d to x) _ xs ys)
 
 module _ (s : List ℕ) (complete t : ℕ) (us : List Span) where
@@ -122,7 +127,8 @@ module _ (s : List ℕ) (complete t : ℕ) (o : Outcome (List Span)) (out : List
     pub count-puts : Puts (countBytes s t) o d₁ (to + 1)
     count-puts = let l = array-long s complete t (h .it) in let k = one-long in record { it = h .it; found = h .found; room = omega (arith, h .room) }
 
-    module _ (d₂ : List ℕ) (at : ℕ) (e₂ : (at ≡ to + 1 + length (bytesOf (countBytes s t) o)) × (d₂ ≡ sets d₁ (to + 1) (bytesOf (countBytes s t) o))) where
+    module _ (d₂ : List ℕ) (at : ℕ)
+        (e₂ : (at ≡ to + 1 + length (bytesOf (countBytes s t) o)) × (d₂ ≡ sets d₁ (to + 1) (bytesOf (countBytes s t) o))) where
       two-long : length d₂ ≡ length out
       two-long = ap length (e₂ .1) ∙ length-sets d₁ (to + 1) (bytesOf (countBytes s t) o) ∙ one-long
 
@@ -147,7 +153,8 @@ module _ (s : List ℕ) (complete t : ℕ) (o : Outcome (List Span)) (out : List
           let n = ap length u in
           let k = ap length w in (
             omega (arith, e₂ .0, e₃ .0),
-            e₃ .1 ∙ rw (e₂ .1, e₂ .0, e₁, is, u, w, count-found, array-parts s complete t us) (three-stored out to (complete * 128 + t) (countBytes s t us) (unitBytes 2 s us)),
+            e₃ .1 ∙ rw (e₂ .1, e₂ .0, e₁, is, u, w, count-found, array-parts s complete t us)
+                (three-stored out to (complete * 128 + t) (countBytes s t us) (unitBytes 2 s us)),
           )
 
 -- ---- arrays
@@ -177,8 +184,10 @@ module _ (s : List ℕ) (c₀ : ListCursor) (out₀ : List ℕ) (to₀ : ℕ) wh
         go : (r : ArrayStep) → (arraysStepped s r ≡ arraysFrom s here) × ArrayStepFits s here r → OneOf (1 ∷ 2 ∷ []) (tagOf array-step.the-type r)
             → out ≡ sets out₀ to₀ (bytesOf (arraysInRecord s) (arraysFrom s c₀))
         go (A.Array b c) f k = absurd (⊎-elim (λ h. omega arith) (λ h. omega arith) k)
-        go A.End f k = putting-end (arraysInRecord s) out₀ to₀ (arraysFrom s c₀) (arraysFrom s here) out to (i .putting) (arrays-nil s) (sym (f .0)) .1
-        go A.Malformed f k = absurd (putting-never (arraysInRecord s) out₀ to₀ (arraysFrom s c₀) (arraysFrom s here) out to (i .putting) 21 (sym (f .0)))
+        go A.End f k =
+            putting-end (arraysInRecord s) out₀ to₀ (arraysFrom s c₀) (arraysFrom s here) out to (i .putting) (arrays-nil s) (sym (f .0)) .1
+        go A.Malformed f k =
+            absurd (putting-never (arraysInRecord s) out₀ to₀ (arraysFrom s c₀) (arraysFrom s here) out to (i .putting) 21 (sym (f .0)))
 
     module _ (b : ℕ) (c : ListCursor) (e : r ≡ A.Array b c) where
       -- the units of this array, since all are found
@@ -212,23 +221,26 @@ module _ (s : List ℕ) (c₀ : ListCursor) (out₀ : List ℕ) (to₀ : ℕ) wh
             g .unitType,
             g .fits,
             puts-found (arrayInRecord s b (c .«unit_type»)) (arrayUnitsFrom s c) out to (u .units) (u .found)
-                (putting-room (arraysInRecord s) out₀ to₀ (arraysFrom s c₀) (arraysFrom s here) out to (i .putting) a (arrayBytes (heldArray s a)) (arrays-first s a) (arraysFrom s c) (u .next)),
+                (putting-room (arraysInRecord s) out₀ to₀ (arraysFrom s c₀) (arraysFrom s here) out to (i .putting) a (arrayBytes (heldArray s a))
+                (arrays-first s a) (arraysFrom s c) (u .next)),
           )
 
       pub arrays-less : length s - c .end < length s - here .end
       arrays-less = let g = entered s here r f b c e .1 in omega (arith, g .first, g .fits .before, g .fits .within)
 
       pub arrays-again : (next : ℕ) (d : List ℕ)
-          → (next ≡ to + length (bytesOf (arrayInRecord s b (c .«unit_type»)) (arrayUnitsFrom s c))) × (d ≡ sets out to (bytesOf (arrayInRecord s b (c .«unit_type»)) (arrayUnitsFrom s c)))
+          → (next ≡ to + length (bytesOf (arrayInRecord s b (c .«unit_type»)) (arrayUnitsFrom s c)))
+          × (d ≡ sets out to (bytesOf (arrayInRecord s b (c .«unit_type»)) (arrayUnitsFrom s c)))
           → PuttingArrays s c₀ out₀ to₀ c d next
       arrays-again next d h =
           let g = entered s here r f b c e .1 in
           let u = has-units in
           let a = arrayWith s b (c .«unit_type») (u .units) in
-          let w : bytesOf (arrayInRecord s b (c .«unit_type»)) (arrayUnitsFrom s c) ≡ arrayBytes (heldArray s a) = ap (bytesOf (arrayInRecord s b (c .«unit_type»))) (u .found) in
+          let w : bytesOf (arrayInRecord s b (c .«unit_type»)) (arrayUnitsFrom s c) ≡ arrayBytes (heldArray s a) =
+          ap (bytesOf (arrayInRecord s b (c .«unit_type»))) (u .found) in
           record {
             fits = g .fits;
-            putting =
-                putting-again (arraysInRecord s) out₀ to₀ (arraysFrom s c₀) (arraysFrom s here) out to (i .putting) a (arrayBytes (heldArray s a)) (arrays-first s a)
+            putting = putting-again (arraysInRecord s) out₀ to₀ (arraysFrom s c₀) (arraysFrom s here) out to (i .putting) a
+                (arrayBytes (heldArray s a)) (arrays-first s a)
                 (arraysFrom s c) (u .next) d (h .1 ∙ ap (λ (x : List ℕ). sets out to x) w) next (h .0 ∙ ap (λ (x : List ℕ). to + length x) w);
           }

@@ -6,7 +6,8 @@ use unit_list::walk;
 ghost use mathlib.Core.Path.{_≡_};
 ghost use Prim.Native.Nat.{_+_, _<_, _^_};
 ghost use Rattle.unit_list.specs.inner.Walk.{Fits, arrayUnitsFrom, arraysFrom};
-ghost use Rattle.record_arrays_write.specs.inner.Measures.{joined, unitMeasure, arrayFitsBy, arrayBy, measuredBy, unitsMeasure, arraysMeasure, measureOf, UnitsWithin, ArraysWithin, arrayMeasured, ArrayWithin};
+ghost use Rattle.record_arrays_write.specs.inner.Measures.{joined, unitMeasure, arrayFitsBy, arrayBy, measuredBy, unitsMeasure};
+ghost use Rattle.record_arrays_write.specs.inner.Measures.{arraysMeasure, measureOf, UnitsWithin, ArraysWithin, arrayMeasured, ArrayWithin};
 
 // Units or arrays: how many, the bytes that they take in a record, and whether every value fits its field.
 pub struct Measure {
@@ -118,7 +119,8 @@ pub fn measure_units(list: &[u8], c: ListCursor) -> RecordMeasure
 // Measures the array after a cursor's end.
 fn measure_array(list: &[u8], c: ListCursor) -> ArrayMeasured
     requires { ⌜ Fits (now list) c ⌝ }
-    ensures { λ r. ⌜ (arrayMeasured (now (list .entry)) r ≡ measuredBy (arraysMeasure (now (list .entry))) (arraysFrom (now (list .entry)) c)) × ArrayWithin (now (list .entry)) c r ⌝ }
+    ensures { λ r. ⌜ (arrayMeasured (now (list .entry)) r ≡ measuredBy (arraysMeasure (now (list .entry))) (arraysFrom (now (list .entry)) c))
+        × ArrayWithin (now (list .entry)) c r ⌝ }
 {
     match walk::array_step(list, c) {
         ArrayStep::Array(_, first) => {
@@ -135,7 +137,8 @@ fn measure_array(list: &[u8], c: ListCursor) -> ArrayMeasured
 // Measures the arrays after a cursor's end.
 pub fn measure_arrays(list: &[u8], c: ListCursor) -> RecordMeasure
     requires { ⌜ Fits (now list) c ⌝ }
-    ensures { λ r. ⌜ (measureOf r ≡ measuredBy (arraysMeasure (now (list .entry))) (arraysFrom (now (list .entry)) c)) × ArraysWithin (now (list .entry)) r ⌝ }
+    ensures { λ r. ⌜ (measureOf r ≡ measuredBy (arraysMeasure (now (list .entry))) (arraysFrom (now (list .entry)) c))
+        × ArraysWithin (now (list .entry)) r ⌝ }
 {
     let mut here = c;
     let mut sum = Measure {

@@ -20,7 +20,8 @@ ghost use Rattle.unit_list.specs.inner.Written.{unitBytes};
 // Stores the units after a cursor, up to the end of its array, and returns the place after them.
 fn put_units(list: &[u8], c: ListCursor, out: &mut [u8], to: usize) -> usize
     requires { ⌜ Fits (now list) c × Puts (unitBytes 2 (now list)) (arrayUnitsFrom (now list) c) (now out) to ⌝ }
-    ensures { λ r. ⌜ (r ≡ to + length (bytesOf (unitBytes 2 (now (list .entry))) (arrayUnitsFrom (now (list .entry)) c))) × (now (out .exit) ≡ sets (now (out .entry)) to (bytesOf (unitBytes 2 (now (list .entry))) (arrayUnitsFrom (now (list .entry)) c))) ⌝ }
+    ensures { λ r. ⌜ (r ≡ to + length (bytesOf (unitBytes 2 (now (list .entry))) (arrayUnitsFrom (now (list .entry)) c)))
+        × (now (out .exit) ≡ sets (now (out .entry)) to (bytesOf (unitBytes 2 (now (list .entry))) (arrayUnitsFrom (now (list .entry)) c))) ⌝ }
 {
     let mut here = c;
     let mut at = to;
@@ -37,7 +38,9 @@ fn put_units(list: &[u8], c: ListCursor, out: &mut [u8], to: usize) -> usize
 // Stores the count of the units after a cursor, if the array has one, and returns the place after it.
 fn put_count(list: &[u8], c: ListCursor, out: &mut [u8], to: usize) -> usize
     requires { ⌜ Fits (now list) c × Puts (countBytes (now list) (c .«unit_type»)) (arrayUnitsFrom (now list) c) (now out) to ⌝ }
-    ensures { λ r. ⌜ (r ≡ to + length (bytesOf (countBytes (now (list .entry)) (c .«unit_type»)) (arrayUnitsFrom (now (list .entry)) c))) × (now (out .exit) ≡ sets (now (out .entry)) to (bytesOf (countBytes (now (list .entry)) (c .«unit_type»)) (arrayUnitsFrom (now (list .entry)) c))) ⌝ }
+    ensures { λ r. ⌜ (r ≡ to + length (bytesOf (countBytes (now (list .entry)) (c .«unit_type»)) (arrayUnitsFrom (now (list .entry)) c)))
+        × (now (out .exit)
+        ≡ sets (now (out .entry)) to (bytesOf (countBytes (now (list .entry)) (c .«unit_type»)) (arrayUnitsFrom (now (list .entry)) c))) ⌝ }
 {
     if record_arrays::array::holds_one(c.unit_type) {
         return to;
@@ -51,8 +54,11 @@ fn put_count(list: &[u8], c: ListCursor, out: &mut [u8], to: usize) -> usize
 
 // Stores an array whose units follow a cursor, and returns the place after it.
 fn put_array(list: &[u8], complete: u8, c: ListCursor, out: &mut [u8], to: usize) -> usize
-    requires { ⌜ (complete ≤ 1) × (c .«unit_type» ≤ largestType) × Fits (now list) c × Puts (arrayInRecord (now list) complete (c .«unit_type»)) (arrayUnitsFrom (now list) c) (now out) to ⌝ }
-    ensures { λ r. ⌜ (r ≡ to + length (bytesOf (arrayInRecord (now (list .entry)) complete (c .«unit_type»)) (arrayUnitsFrom (now (list .entry)) c))) × (now (out .exit) ≡ sets (now (out .entry)) to (bytesOf (arrayInRecord (now (list .entry)) complete (c .«unit_type»)) (arrayUnitsFrom (now (list .entry)) c))) ⌝ }
+    requires { ⌜ (complete ≤ 1) × (c .«unit_type» ≤ largestType) × Fits (now list) c
+        × Puts (arrayInRecord (now list) complete (c .«unit_type»)) (arrayUnitsFrom (now list) c) (now out) to ⌝ }
+    ensures { λ r. ⌜ (r ≡ to + length (bytesOf (arrayInRecord (now (list .entry)) complete (c .«unit_type»)) (arrayUnitsFrom (now (list .entry)) c)))
+        × (now (out .exit) ≡ sets (now (out .entry)) to
+        (bytesOf (arrayInRecord (now (list .entry)) complete (c .«unit_type»)) (arrayUnitsFrom (now (list .entry)) c))) ⌝ }
 {
     let first = record_arrays::array::array_byte(complete, c.unit_type);
     place::put(out, to, first);
@@ -63,7 +69,8 @@ fn put_array(list: &[u8], complete: u8, c: ListCursor, out: &mut [u8], to: usize
 // Stores the arrays after a cursor's end.
 pub fn put_arrays(list: &[u8], c: ListCursor, out: &mut [u8], to: usize)
     requires { ⌜ Fits (now list) c × Puts (arraysInRecord (now list)) (arraysFrom (now list) c) (now out) to ⌝ }
-    ensures { λ _. ⌜ now (out .exit) ≡ sets (now (out .entry)) to (bytesOf (arraysInRecord (now (list .entry))) (arraysFrom (now (list .entry)) c)) ⌝ }
+    ensures { λ _. ⌜ now (out .exit)
+        ≡ sets (now (out .entry)) to (bytesOf (arraysInRecord (now (list .entry))) (arraysFrom (now (list .entry)) c)) ⌝ }
 {
     let mut here = c;
     let mut next = to;

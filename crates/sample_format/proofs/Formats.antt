@@ -83,7 +83,8 @@ module _ (h : VvcConfig) (s : List ℕ) (r : UnitPlace) (e : placeOf r ≡ spsPl
       first (a ∷ us) = refl
 
       go : (o : Outcome (List (Array Span)))
-          → andThen (placeFound inFirst (andThen o (λ xs. accept (unitsOfType 15 xs))) 0) (λ p. if h .«ptl_present_flag» then headFormat h else firstAt s p)
+          → andThen (placeFound inFirst (andThen o (λ xs. accept (unitsOfType 15 xs))) 0)
+          (λ p. if h .«ptl_present_flag» then headFormat h else firstAt s p)
           ≡ andThen o (λ xs. if h .«ptl_present_flag» then headFormat h else firstFormat s (unitsOfType 15 xs))
       go (accept xs) = ap (λ (o : Outcome Format). if h .«ptl_present_flag» then headFormat h else o) (first (unitsOfType 15 xs))
       go (refuse n) = refl

@@ -40,12 +40,14 @@ module _ (size : ℕ) (s : List ℕ) where
       (left-end size s p (omega arith), refl)
   made-left (u ∷ us) f pre p e l =
       let fits = f 0 (omega arith) in
-      let c : chunk size s p ≡ value (record { start = p + size; len = length u }) (p + size + length u) = rw (e, ← l) (chunk-toChunk size pre u (toItem size us) (fits .1)) in
+      let c : chunk size s p ≡ value (record { start = p + size; len = length u }) (p + size + length u) =
+      rw (e, ← l) (chunk-toChunk size pre u (toItem size us) (fits .1)) in
       let h : held s (record { start = p + size; len = length u }) ≡ u = rw (e, ← l) (held-toChunk size pre u (toItem size us) (fits .1)) in
       let k = chunk-read size s p (record { start = p + size; len = length u }) (p + size + length u) c in
       let n : be s p size ≡ length u = sym (k .len) in
       let m : length (pre ++ toChunk size u) ≡ p + size + length u = omega (arith, length-append pre (toChunk size u), length-chunk u) in
-      let rest = made-left us (λ i o. f (suc i) (omega arith)) (pre ++ toChunk size u) (p + size + length u) (e ∙ sym (append-assoc pre (toChunk size u) (toItem size us))) m in
+      let rest = made-left us (λ i o. f (suc i) (omega arith)) (pre ++ toChunk size u) (p + size + length u)
+      (e ∙ sym (append-assoc pre (toChunk size u) (toItem size us))) m in
       (left-more size s p (omega arith) (λ z. omega arith) (omega arith) ∙ rw (n, rest .0), rw (h, rest .1))
 
 -- what an item of these units is split into
@@ -59,6 +61,7 @@ pub record ItemSplit (size : ℕ) (us : List (List ℕ)) : Type 0 where
 pub split-made : (size : ℕ) (us : List (List ℕ)) → 1 ≤ size → size ≤ 4 → AllFit size us → length (toItem size us) ≤ 2 ^ 30 → ItemSplit size us
 split-made size us one four f l =
     let m = made-left size (toItem size us) us f [] 0 refl refl in
-    let r : splitItem size (toItem size us) ≡ accept (placed size 0 us) = split-lent size (toItem size us) l ∙ items-left size (toItem size us) one four ∙ m .0 in
+    let r : splitItem size (toItem size us) ≡ accept (placed size 0 us) = split-lent size (toItem size us) l
+    ∙ items-left size (toItem size us) one four ∙ m .0 in
     let n : length (placed size 0 us) ≡ length us = sym (length-map (placed size 0 us) (held (toItem size us))) ∙ ap length (m .1) in
     record { spans = placed size 0 us; read = r; bytes = m .1; count = rw (r, n) }

@@ -132,7 +132,8 @@ module _ (size : ℕ) (s : List ℕ) where
       bad : (p e : ℕ) → p < length s → itemUnit size s p ≡ refused e → M p
       bad p e h w xs l v = let x = left-bad p e h w in let z : _≡_ {A = ℕ} 0 1 = cc in absurd (omega arith)
 
-      go : (p : ℕ) (a : Span) (q : ℕ) → Read size s p a q → ((ys : List Span) → q ≤ length s → itemUnitsFrom size s q ≡ accept ys → Apart (length s) q ys)
+      go : (p : ℕ) (a : Span) (q : ℕ) → Read size s p a q
+          → ((ys : List Span) → q ≤ length s → itemUnitsFrom size s q ≡ accept ys → Apart (length s) q ys)
           → (o : Outcome (List Span)) → itemUnitsFrom size s q ≡ o → (xs : List Span) → more a o ≡ accept xs → Apart (length s) p xs
       go p a q r ih (refuse e) w xs v = let z : _≡_ {A = ℕ} 0 1 = cc in absurd (omega arith)
       go p a q r ih (accept ys) w xs v =
@@ -233,7 +234,8 @@ pub record Turn (size : ℕ) (s : List ℕ) (p : ℕ) (a : Span) (next : ℕ) : 
   pub rest : itemUnitsFrom size s p ≡ more a (itemUnitsFrom size s next)
 
 -- where the unit lies that a step found
-step-ahead : (size : ℕ) (s : List ℕ) (p : ℕ) (a : Span) (next : ℕ) → itemStep size s p ≡ accept (some (record { unit = a; next = next })) → UnitAhead s p a next
+step-ahead : (size : ℕ) (s : List ℕ) (p : ℕ) (a : Span) (next : ℕ) → itemStep size s p ≡ accept (some (record { unit = a; next = next }))
+    → UnitAhead s p a next
 step-ahead size s p a next e =
     elim (decLe (length s) p) [
       | yes k ↦ absurd (let x = sym (step-end size s p k) ∙ e in let z : _≡_ {A = ℕ} 0 1 = cc in omega arith)
@@ -270,7 +272,8 @@ found-onward size s p N.End e = tt
 found-onward size s p (N.Refused x) e = tt
 
 -- a step that found no unit: there is none
-pub found-none : (size : ℕ) (s : List ℕ) (p : ℕ) (r : NextUnit) → nextOf r ≡ itemStep size s p → OneOf (1 ∷ 2 ∷ []) (tagOf the-type r) → total (itemUnitsFrom size s p) ≡ 0
+pub found-none : (size : ℕ) (s : List ℕ) (p : ℕ) (r : NextUnit) → nextOf r ≡ itemStep size s p → OneOf (1 ∷ 2 ∷ []) (tagOf the-type r)
+    → total (itemUnitsFrom size s p) ≡ 0
 found-none size s p (N.Unit a next) e k = absurd (⊎-elim (λ h. omega arith) (λ h. omega arith) k)
 found-none size s p N.End e k = ap total (sym (found-left size s p N.End e))
 found-none size s p (N.Refused x) e k = ap total (sym (found-left size s p (N.Refused x) e))

@@ -47,12 +47,18 @@ unit-between : {code : List ℕ} → StartCode code → (u : List ℕ) (us : Lis
     → trim (take (scan (u ++ annexB code us)) (u ++ annexB code us)) ≡ u
 unfolding annexB
 unit-between c u [] h = rw (append-nil u, scan-none u (h .free), take-length u) (trim-whole u (h .some) (h .ends))
-unit-between StartCode.three u (v ∷ us) h =
-    rw (scan-then-code u (v ++ annexB (0 ∷ 0 ∷ 1 ∷ []) us) (scan-none u (h .free)), take-at u (0 ∷ 0 ∷ 1 ∷ (v ++ annexB (0 ∷ 0 ∷ 1 ∷ []) us)) (length u) refl)
+unit-between StartCode.three u (v ∷ us) h = rw (
+  scan-then-code u (v ++ annexB (0 ∷ 0 ∷ 1 ∷ []) us) (scan-none u (h .free)),
+  take-at u (0 ∷ 0 ∷ 1 ∷ (v ++ annexB (0 ∷ 0 ∷ 1 ∷ []) us)) (length u) refl,
+)
     (trim-whole u (h .some) (h .ends))
 unit-between StartCode.four u (v ∷ us) h =
     let e : suc (length u) ≡ length u + 1 = omega arith in
-    rw (scan-then-four u (v ++ annexB (0 ∷ 0 ∷ 0 ∷ 1 ∷ []) us) (scan-none u (h .free)), e, take-append-add u (0 ∷ 0 ∷ 0 ∷ 1 ∷ (v ++ annexB (0 ∷ 0 ∷ 0 ∷ 1 ∷ []) us)) 1)
+    rw (
+      scan-then-four u (v ++ annexB (0 ∷ 0 ∷ 0 ∷ 1 ∷ []) us) (scan-none u (h .free)),
+      e,
+      take-append-add u (0 ∷ 0 ∷ 0 ∷ 1 ∷ (v ++ annexB (0 ∷ 0 ∷ 0 ∷ 1 ∷ []) us)) 1,
+    )
     (trim-zero u ∙ trim-whole u (h .some) (h .ends))
 
 module _ (s u t : List ℕ) (q : ℕ) (here : scan (drop q s) ≡ 0) (inside : q < length s) (follows : drop (q + 3) s ≡ u ++ t)
@@ -87,7 +93,8 @@ module _ (code : List ℕ) (c : StartCode code) where
         let l = length-append pre (code ++ (u ++ annexB code us)) in
         let p = place in
         sym (units-scan stream (length pre))
-        ∙ (rw p at (unit-first stream u (annexB code us) (startCodeFrom stream (length pre)) (scan-stays stream (length pre)) (omega arith) (rw p after-code) (unit-between c u us h) (h .some)))
+        ∙ (rw p at (unit-first stream u (annexB code us) (startCodeFrom stream (length pre)) (scan-stays stream (length pre)) (omega arith)
+        (rw p after-code) (unit-between c u us h) (h .some)))
 
     holds-unit : held stream (record { start = length pre + length code; len = length u }) ≡ u
     holds-unit = rw after-code (take-at u (annexB code us) (length u) refl)
@@ -99,11 +106,13 @@ module _ (code : List ℕ) (c : StartCode code) where
     length-done = let a = length-append pre (code ++ u) in let b = length-append code u in omega arith
 
   -- from the place where the first start code begins on, the stream splits into the units
-  split-after : (us : List (List ℕ)) → AllSplittable us → (pre : List ℕ) → map (held (pre ++ annexB code us)) (streamUnitsFrom (pre ++ annexB code us) (length pre)) ≡ us
+  split-after : (us : List (List ℕ)) → AllSplittable us
+      → (pre : List ℕ) → map (held (pre ++ annexB code us)) (streamUnitsFrom (pre ++ annexB code us) (length pre)) ≡ us
   unfolding annexB
   split-after [] h pre = rw (append-nil pre, units-end pre (length pre) (omega arith))
   split-after (u ∷ us) h pre =
-      let rest : map (held ((pre ++ (code ++ u)) ++ annexB code us)) (streamUnitsFrom ((pre ++ (code ++ u)) ++ annexB code us) (length (pre ++ (code ++ u)))) ≡ us
+      let rest : map (held ((pre ++ (code ++ u)) ++ annexB code us))
+      (streamUnitsFrom ((pre ++ (code ++ u)) ++ annexB code us) (length (pre ++ (code ++ u)))) ≡ us
       = split-after us (λ k l. h (suc k) (omega arith)) (pre ++ (code ++ u)) in
       let first = h 0 (omega arith) in
       rw (one-unit pre u us first, holds-unit pre u us first)
@@ -125,7 +134,8 @@ module _ (size : ℕ) (u : List ℕ) (one : 1 ≤ size) (four : size ≤ 4) (som
   unfolding toItem placed
   made-one =
       let e : 0 + size ≡ size = omega arith in
-      rw e at (made-left size (toChunk size u) (u ∷ []) (λ k h. let z : k ≡ 0 = omega arith in rw z (some, fits)) [] 0 (sym (append-nil (toChunk size u))) refl)
+      rw e at (made-left size (toChunk size u) (u ∷ []) (λ k h. let z : k ≡ 0 = omega arith in rw z (some, fits)) [] 0
+      (sym (append-nil (toChunk size u))) refl)
 
   -- one unit after its length is an item of that unit
   pub split-one : itemUnits size (toChunk size u) ≡ accept (record { start = size; len = length u } ∷ [])

@@ -161,7 +161,8 @@ module _ (s : List ℕ) where
             let l = segment-le q z i in
             let m = scan-le (drop (q + 3) s) in
             let n = length-drop (q + 3) s in
-            View.unit (record { start = q + 3; len = segmentLen q z i }) (record { some = omega arith; ahead = omega arith; after = refl; inside = omega arith }) (units-unit q z i (omega arith)))
+            View.unit (record { start = q + 3; len = segmentLen q z i })
+            (record { some = omega arith; ahead = omega arith; after = refl; inside = omega arith }) (units-unit q z i (omega arith)))
       ]
 
   view-within : (f p : ℕ) → length s ≤ p + f → View p
@@ -169,7 +170,8 @@ module _ (s : List ℕ) where
   view-within (suc f) p h =
       elim (decLe (length s) (startCodeFrom s p)) [
         | yes k ↦ View.ends (sym (units-scan p) ∙ units-end (startCodeFrom s p) k)
-        | no k ↦ earlier p (startCodeFrom s p) (omega arith) (units-scan p) (view-code (startCodeFrom s p) (scan-stays p) (omega arith) (λ r l. view-within f r (omega arith)))
+        | no k ↦ earlier p (startCodeFrom s p) (omega arith) (units-scan p)
+            (view-code (startCodeFrom s p) (scan-stays p) (omega arith) (λ r l. view-within f r (omega arith)))
       ]
 
   pub view : (p : ℕ) → View p
@@ -233,7 +235,8 @@ module _ (s : List ℕ) where
     passed-next k z = rw (left-lent p (turn .lent), left-lent b (turn .lent), turn .rest) (ap accept (nth-next inFirst a (streamUnitsFrom s b) k z))
 
   -- what the next unit says
-  given-is : (p : ℕ) → ((2 ^ 30 < length s) × (nextGiven s p ≡ refuse 23)) ⊎ ((length s ≤ 2 ^ 30) × (nextGiven s p ≡ accept (firstNext (streamUnitsFrom s p))))
+  given-is : (p : ℕ)
+      → ((2 ^ 30 < length s) × (nextGiven s p ≡ refuse 23)) ⊎ ((length s ≤ 2 ^ 30) × (nextGiven s p ≡ accept (firstNext (streamUnitsFrom s p))))
   given-is p =
       elim (decLe (length s) (2 ^ 30)) [
         | yes k ↦ inr (k, given-lent p _ k refl)
@@ -244,7 +247,8 @@ module _ (s : List ℕ) where
   first-none [] e = refl
   first-none (x ∷ xs) e = let z : _≡_ {A = ℕ} 0 1 = cc in absurd (omega arith)
 
-  first-some : (p : ℕ) (a : Span) (b : ℕ) (xs : List Span) → length s ≤ 2 ^ 30 → streamUnitsFrom s p ≡ xs → firstNext xs ≡ some (record { unit = a; next = b }) → Passed p a b
+  first-some : (p : ℕ) (a : Span) (b : ℕ) (xs : List Span) → length s ≤ 2 ^ 30 → streamUnitsFrom s p ≡ xs
+      → firstNext xs ≡ some (record { unit = a; next = b }) → Passed p a b
   first-some p a b [] h e w = let z : _≡_ {A = ℕ} 0 1 = cc in absurd (omega arith)
   first-some p a b (x ∷ xs) h e w =
       let y : _≡_ {A = Next} (record { unit = x; next = x .start + x .len }) (record { unit = a; next = b }) = cc in

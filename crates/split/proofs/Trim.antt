@@ -68,7 +68,8 @@ module _ (s : List ℕ) (from end : ℕ) (some : from < end) (inside : end ≤ l
 
   pub trim-stays : (getD s (end - 1) 0 ≡ 0 → ⊥) → length (trim (take (end - from) (drop from s))) ≡ end - from
   trim-stays z =
-      let t : trim (take (end - from) (drop from s)) ≡ take (end - from) (drop from s) = rw last-byte (trim-other (take (end - 1 - from) (drop from s)) (getD s (end - 1) 0) z) in
+      let t : trim (take (end - from) (drop from s)) ≡ take (end - from) (drop from s) =
+      rw last-byte (trim-other (take (end - 1 - from) (drop from s)) (getD s (end - 1) 0) z) in
       let l : length (drop from s) ≡ length s - from = length-drop from s in
       ap length t ∙ length-take-le (end - from) (drop from s) (omega arith)
 

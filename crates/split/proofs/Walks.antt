@@ -21,7 +21,8 @@ module _ (n : ℕ) (t : Outcome ℕ) (o : Outcome (List Span)) (whole : plus n (
   count-refused k e = ap (λ (o : Outcome (List Span)). plus n (countFound o)) (sym e) ∙ whole
 
 -- finding, with i units to pass; the unit x is the answer
-module _ (i : ℕ) (x : Span) (o : Outcome (List Span)) (there : i < total o) (whole : found o i ≡ x) (a : Span) (rest : Outcome (List Span)) (e : o ≡ more a rest) where
+module _ (i : ℕ) (x : Span) (o : Outcome (List Span)) (there : i < total o) (whole : found o i ≡ x) (a : Span) (rest : Outcome (List Span))
+    (e : o ≡ more a rest) where
   pub find-here : i ≡ 0 → a ≡ x
   find-here z = go i z there whole
     where

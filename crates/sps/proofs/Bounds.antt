@@ -72,7 +72,8 @@ depth-bounds s p d q e =
     let x : v ≡ d = cc in
     omega (arith, ltb-false 8 v (passed-test (ltb 8 v) 14 s p₃ h₄))))))
 
-pub depth-after : (s : List ℕ) (prior r : BitsRead) {d : ℕ} {q : BitPosition} → parsed r ≡ bind (parsed prior) (λ _ p. depth s p) → r ≡ Value d q → d ≤ 8
+pub depth-after : (s : List ℕ) (prior r : BitsRead) {d : ℕ} {q : BitPosition} → parsed r ≡ bind (parsed prior) (λ _ p. depth s p)
+    → r ≡ Value d q → d ≤ 8
 depth-after s prior r {d} {q} h e = first-read (parsed prior) _ (sym h ∙ ap parsed e) (λ _ p _ k. depth-bounds s p d (q .0) k)
 
 -- ---- an SPS's head

@@ -26,7 +26,8 @@ module _ (s : List ℕ) where
   fine (Value d q) h = rw (le-ltb 8 d h)
   fine (Refused e) h = refl
 
-  set : (r : BitsRead) (f : Unit {0} → ℕ → Parsed ℕ) → numberIn r ≡ 1 → refused 13 ≡ bind (parsed r) (λ _ q. bind (refuseIf (isSet (numberIn r)) 13 s q) f)
+  set : (r : BitsRead) (f : Unit {0} → ℕ → Parsed ℕ) → numberIn r ≡ 1
+      → refused 13 ≡ bind (parsed r) (λ _ q. bind (refuseIf (isSet (numberIn r)) 13 s q) f)
   set (Value b q) f h = rw (eq-eqb b 1 h)
   set (Refused e) f h = absurd (omega arith)
 

@@ -25,7 +25,8 @@ use Rattle.still.specs.Calls.{Calls, TwoCalls, WholeCalls}
 use Rattle.still.proofs.Pictures.{any-picture}
 
 -- one still: the steps of its path are those of the calls
-module _ {C S : List ℕ} {pic : Picture} {tols : Option ℕ} (still : Still C S) (chroma : pic .«chroma_format_idc» ≤ 3) (depth : pic .«bit_depth» ≤ 15) (p : Path C S pic tols) where
+module _ {C S : List ℕ} {pic : Picture} {tols : Option ℕ} (still : Still C S) (chroma : pic .«chroma_format_idc» ≤ 3) (depth : pic .«bit_depth» ≤ 15)
+    (p : Path C S pic tols) where
   is-record : stillRecord C pic ≡ accept (p .bytes)
   unfolding stillRecord
   is-record =
@@ -71,8 +72,8 @@ abbrev picture : Picture
 picture = record { «chroma_format_idc» = 1; «bit_depth» = 8; width = 16; height = 8 }
 
 pub worked-calls : (tols tols′ : Option ℕ) → TwoCalls C (0x9A ∷ []) mixed [] picture picture tols tols′
-worked-calls =
-    whole-calls C (0x9A ∷ []) mixed [] (instances .worked) (instances .interleaved) picture picture (omega arith) (omega arith) (omega arith) (omega arith)
+worked-calls = whole-calls C (0x9A ∷ []) mixed [] (instances .worked) (instances .interleaved) picture picture (omega arith) (omega arith)
+    (omega arith) (omega arith)
 
 pub worked-record : stillRecord C (record { «chroma_format_idc» = 1; «bit_depth» = 8; width = 16; height = 8 }) ≡ accept
     ((0xFF ∷ 0x00 ∷ 0x15 ∷ 0x1F ∷ 0x01 ∷ 0x02 ∷ 0x33 ∷ 0x80 ∷ 0x00 ∷ 0x00 ∷ 0x10 ∷ 0x00 ∷ 0x08 ∷ 0x00 ∷ 0x00 ∷ 0x02 ∷ [])
@@ -82,6 +83,6 @@ worked-record = worked .expanded-and-written
 
 pub worked-stream : (tols : Option ℕ) → stillStream C (0x9A ∷ []) tols ≡ accept
     ((0x00 ∷ 0x00 ∷ 0x00 ∷ 0x01 ∷ P) ++ (0x00 ∷ 0x00 ∷ 0x00 ∷ 0x01 ∷ Q) ++ (0x00 ∷ 0x00 ∷ 0x00 ∷ 0x01 ∷ 0x00 ∷ 0x41 ∷ 0x9A ∷ []))
-worked-stream tols =
-    is-stream (instances .worked) (omega arith) (omega arith) (I.both picture picture (omega arith) (omega arith) (omega arith) (omega arith) tols tols .first)
+worked-stream tols = is-stream (instances .worked) (omega arith) (omega arith)
+    (I.both picture picture (omega arith) (omega arith) (omega arith) (omega arith) tols tols .first)
     ∙ ap accept (I.worked-stream picture picture (omega arith) (omega arith) (omega arith) (omega arith) tols tols)

@@ -87,7 +87,8 @@ module _ (c : CompactVvcConfig) (list : List ℕ) (from : ReadFrom c list) where
 
     pub expanded-count : full .listLength ≡ length expanded-list
     expanded-count =
-        let y : accept (full, expanded-list) ≡ accept (withList (expandedHead c pic (expanded .ptl)) (encode (grouped us))) = sym expands ∙ expanded .of-any pic in
+        let y : accept (full, expanded-list) ≡ accept (withList (expandedHead c pic (expanded .ptl)) (encode (grouped us))) = sym expands
+        ∙ expanded .of-any pic in
         let z : (full, expanded-list) ≡ withList (expandedHead c pic (expanded .ptl)) (encode (grouped us)) = cc in
         ap (λ (x : FullHead × List ℕ). x .0 .listLength) z ∙ ap (λ (x : FullHead × List ℕ). length (x .1)) (sym z)
 
@@ -159,10 +160,12 @@ module _ (c : CompactVvcConfig) (list : List ℕ) (from : ReadFrom c list) where
     assembles-back item (some t) = refl
 
     needs-no-read : (S : List ℕ) (tols : Option ℕ)
-        → streamExpanded c head arrays S tols ≡ andThen (serializeFull head arrays) (λ _. andThen (restore c S) (λ item. assemble head arrays item tols))
+        → streamExpanded c head arrays S tols
+        ≡ andThen (serializeFull head arrays) (λ _. andThen (restore c S) (λ item. assemble head arrays item tols))
     needs-no-read S tols = go (serializeFull head arrays) refl
       where
-        same : (o : Outcome (List ℕ)) → andThen o (λ item. assemble (headRead head) arrays item tols) ≡ andThen o (λ item. assemble head arrays item tols)
+        same : (o : Outcome (List ℕ))
+            → andThen o (λ item. assemble (headRead head) arrays item tols) ≡ andThen o (λ item. assemble head arrays item tols)
         same (accept item) = assembles-back item tols
         same (refuse n) = refl
 

@@ -57,7 +57,8 @@ list-counted : (C : List ℕ) (r : CompactParsed) (list : List ℕ) → parseCom
 unfolding parseCompact
 list-counted C r list e = go (leb (length C) (2 ^ 30)) (outcome (compactRecord C 0)) e
   where
-    go : (b : Bool) (o : Outcome (CompactVvcConfig × List Span)) → (if b then andThen o (λ x. accept (parsedWith C x)) else refuse 23) ≡ accept (r, list) → r .listLength ≡ length list
+    go : (b : Bool) (o : Outcome (CompactVvcConfig × List Span))
+        → (if b then andThen o (λ x. accept (parsedWith C x)) else refuse 23) ≡ accept (r, list) → r .listLength ≡ length list
     go true (accept x) f =
         let z : parsedWith C x ≡ (r, list) = cc in
         ap (λ (y : CompactParsed × List ℕ). y .0 .listLength) (sym z) ∙ ap (λ (y : CompactParsed × List ℕ). length (y .1)) z
@@ -73,10 +74,15 @@ pub record Read (C : List ℕ) (c : CompactVvcConfig) (n len : ℕ) (after : Lis
 
 module _ (C : List ℕ) (bytes : AllBytes C) (out : List ℕ) where
   read-fits : 8554 ≤ length out → (r : CompactParsed) (list : List ℕ) → parseCompact C ≡ accept (r, list) → length list ≤ length out
-  read-fits room r list e = let h = list-short (r .config) list (record { compact = C; bytes = bytes; read = r; reads = e; config = refl }) in omega arith
+  read-fits room r list e =
+      let h = list-short (r .config) list (record { compact = C; bytes = bytes; read = r; reads = e; config = refl }) in
+      omega arith
 
   pub was-read : (c : CompactVvcConfig) (n len : ℕ) (after : List ℕ)
-      → _≡_ {A = Outcome CompactParsed × List ℕ} (accept (record { config = c; unitCount = n; listLength = len }), after) (lentOutput (parseCompact C) out) → 8554 ≤ length out → Read C c n len after
+      → _≡_ {A = Outcome CompactParsed × List ℕ} (
+        accept (record { config = c; unitCount = n; listLength = len }),
+        after,
+      ) (lentOutput (parseCompact C) out) → 8554 ≤ length out → Read C c n len after
   was-read c n len after e room =
       let r : CompactParsed = record { config = c; unitCount = n; listLength = len } in
       let s = stored (parseCompact C) out (read-fits room) r after e in
@@ -90,7 +96,8 @@ module _ (C : List ℕ) (bytes : AllBytes C) (out : List ℕ) where
         from = record { compact = C; bytes = bytes; read = r; reads = g; config = refl };
       }
 
-  pub not-read : (n : ℕ) (after : List ℕ) → _≡_ {A = Outcome CompactParsed × List ℕ} (refuse n, after) (lentOutput (parseCompact C) out) → 8554 ≤ length out
+  pub not-read : (n : ℕ) (after : List ℕ)
+      → _≡_ {A = Outcome CompactParsed × List ℕ} (refuse n, after) (lentOutput (parseCompact C) out) → 8554 ≤ length out
       → parseCompact C ≡ refuse n
   not-read n after e room = not-stored (parseCompact C) out (read-fits room) n after e
 
@@ -108,12 +115,16 @@ module _ (c : CompactVvcConfig) (pic : Picture) (list : List ℕ) (from : ReadFr
   expansion-fits room full l e = let h = expanded-short c list from pic full l e in omega arith
 
   answer-is : (o : Outcome FullHead) (x : Outcome FullHead) (h : VvcConfig) (after d : List ℕ)
-      → _≡_ {A = (Outcome FullHead × VvcConfig) × List ℕ} ((o, h), after) (handsBack (λ r. r .head) zeroHead x, d) → _≡_ {A = Outcome FullHead × List ℕ} (o, after) (x, d)
+      → _≡_ {A = (Outcome FullHead × VvcConfig) × List ℕ} ((o, h), after) (handsBack (λ r. r .head) zeroHead x, d)
+      → _≡_ {A = Outcome FullHead × List ℕ} (o, after) (x, d)
   answer-is o (accept r) h after d e = ap (λ (y : (Outcome FullHead × VvcConfig) × List ℕ). (y .0 .0, y .1)) e
   answer-is o (refuse n) h after d e = ap (λ (y : (Outcome FullHead × VvcConfig) × List ℕ). (y .0 .0, y .1)) e
 
   pub was-expanded : (h : VvcConfig) (len : ℕ) (after : List ℕ)
-      → _≡_ {A = (Outcome FullHead × VvcConfig) × List ℕ} ((accept (record { head = h; listLength = len }), h), after) (expandedGiven (toFull c pic list) out) → 8746 ≤ length out
+      → _≡_ {A = (Outcome FullHead × VvcConfig) × List ℕ} (
+        (accept (record { head = h; listLength = len }), h),
+        after,
+      ) (expandedGiven (toFull c pic list) out) → 8746 ≤ length out
       → Expanded c pic list h len after
   was-expanded h len after e room =
       let r : FullHead = record { head = h; listLength = len } in
@@ -136,7 +147,8 @@ module _ (c : CompactVvcConfig) (pic : Picture) (list : List ℕ) (from : ReadFr
 -- ### the path, step by step
 
 -- what a later step returns is what the whole path returns
-pub given-as : (o whole : Outcome (List ℕ)) (out : List ℕ) (x : Outcome ℕ × List ℕ) → whole ≡ o → x ≡ lentOutput (counted o) out → x ≡ lentOutput (counted whole) out
+pub given-as : (o whole : Outcome (List ℕ)) (out : List ℕ) (x : Outcome ℕ × List ℕ) → whole ≡ o → x ≡ lentOutput (counted o) out
+    → x ≡ lentOutput (counted whole) out
 given-as o whole out x e f = f ∙ ap (λ (y : Outcome (List ℕ)). lentOutput (counted y) out) (sym e)
 
 -- the same for its length and its refusal
@@ -154,7 +166,8 @@ module _ (c : CompactVvcConfig) (pic : Picture) (list : List ℕ) where
   record-unexpanded n e = rw e
 
 module _ (c : CompactVvcConfig) (list S : List ℕ) (tols : Option ℕ) where
-  pub stream-expanded : (full : FullHead) (l : List ℕ) → toFull c anyPicture list ≡ accept (full, l) → streamFrom c list S tols ≡ streamExpanded c (full .head) l S tols
+  pub stream-expanded : (full : FullHead) (l : List ℕ) → toFull c anyPicture list ≡ accept (full, l)
+      → streamFrom c list S tols ≡ streamExpanded c (full .head) l S tols
   stream-expanded full l e = rw e
 
   pub stream-unexpanded : (n : ℕ) → toFull c anyPicture list ≡ refuse n → streamFrom c list S tols ≡ refuse n
@@ -175,7 +188,8 @@ module _ (C S : List ℕ) (tols : Option ℕ) where
   stream-too-long h = lent-too-long S _ h
 
   module _ (lent : length S ≤ 2 ^ 30) where
-    pub stream-read : (r : CompactParsed) (list : List ℕ) → parseCompact C ≡ accept (r, list) → stillStream C S tols ≡ streamFrom (r .config) list S tols
+    pub stream-read : (r : CompactParsed) (list : List ℕ) → parseCompact C ≡ accept (r, list)
+        → stillStream C S tols ≡ streamFrom (r .config) list S tols
     unfolding stillStream streamWith
     stream-read r list e = lent-within S _ lent ∙ rw e
 

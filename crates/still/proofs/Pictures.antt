@@ -70,10 +70,16 @@ module _ (pic any : Picture) where
         first-step (refuse m) e = let z : m ≡ n = cc in ap refuse z
 
   -- full write is refused with both pictures or with neither
-  module _ (c : CompactVvcConfig) (ptl : VvcPtlRecord) (chroma : pic .«chroma_format_idc» ≤ 3) (depth : pic .«bit_depth» ≤ 15) (chroma′ : any .«chroma_format_idc» ≤ 3) (depth′ : any .«bit_depth» ≤ 15) where
+  module _ (c : CompactVvcConfig) (ptl : VvcPtlRecord) (chroma : pic .«chroma_format_idc» ≤ 3) (depth : pic .«bit_depth» ≤ 15)
+      (chroma′ : any .«chroma_format_idc» ≤ 3) (depth′ : any .«bit_depth» ≤ 15) where
     fits-alike : headFits (expandedHead c pic ptl) ≡ headFits (expandedHead c any ptl)
     unfolding headFits ptlPartFits
-    fits-alike = rw (le-leb (pic .«chroma_format_idc») 3 chroma, le-leb (any .«chroma_format_idc») 3 chroma′, le-leb (pic .«bit_depth» - 8) 7 (omega arith), le-leb (any .«bit_depth» - 8) 7 (omega arith))
+    fits-alike = rw (
+      le-leb (pic .«chroma_format_idc») 3 chroma,
+      le-leb (any .«chroma_format_idc») 3 chroma′,
+      le-leb (pic .«bit_depth» - 8) 7 (omega arith),
+      le-leb (any .«bit_depth» - 8) 7 (omega arith),
+    )
 
     write-alike : (xs : List (Array (List ℕ))) → done (writeFull (expandedHead c pic ptl) xs) ≡ done (writeFull (expandedHead c any ptl) xs)
     unfolding writeFull recordFits
@@ -89,11 +95,13 @@ module _ (pic any : Picture) where
     unfolding serializeFull
     serialize-alike list = go (decode list)
       where
-        go : (o : Outcome (List (Array Span))) → done (andThen o (λ xs. writeFull (expandedHead c pic ptl) (heldArrays list xs))) ≡ done (andThen o (λ xs. writeFull (expandedHead c any ptl) (heldArrays list xs)))
+        go : (o : Outcome (List (Array Span))) → done (andThen o (λ xs. writeFull (expandedHead c pic ptl) (heldArrays list xs)))
+            ≡ done (andThen o (λ xs. writeFull (expandedHead c any ptl) (heldArrays list xs)))
         go (accept xs) = write-alike (heldArrays list xs)
         go (refuse n) = refl
 
-    assemble-alike : (list item : List ℕ) (tols : Option ℕ) → assemble (expandedHead c pic ptl) list item tols ≡ assemble (expandedHead c any ptl) list item tols
+    assemble-alike : (list item : List ℕ) (tols : Option ℕ)
+        → assemble (expandedHead c pic ptl) list item tols ≡ assemble (expandedHead c any ptl) list item tols
     unfolding assemble accessUnit
     assemble-alike list item none = refl
     assemble-alike list item (some t) = refl
@@ -101,14 +109,18 @@ module _ (pic any : Picture) where
     -- the rest of the path uses nothing of the picture
     stream-alike : (list S : List ℕ) (tols : Option ℕ) → Ready c (expandedHead c pic ptl) list → Ready c (expandedHead c any ptl) list
         → streamExpanded c (expandedHead c pic ptl) list S tols ≡ streamExpanded c (expandedHead c any ptl) list S tols
-    stream-alike list S tols r q = r .steps S tols ∙ both (serializeFull (expandedHead c pic ptl) list) (serializeFull (expandedHead c any ptl) list) (serialize-alike list) ∙ sym (q .steps S tols)
+    stream-alike list S tols r q =
+        r .steps S tols ∙ both (serializeFull (expandedHead c pic ptl) list) (serializeFull (expandedHead c any ptl) list) (serialize-alike list)
+        ∙ sym (q .steps S tols)
       where
-        rest : (o : Outcome (List ℕ)) → andThen o (λ item. assemble (expandedHead c pic ptl) list item tols) ≡ andThen o (λ item. assemble (expandedHead c any ptl) list item tols)
+        rest : (o : Outcome (List ℕ)) → andThen o (λ item. assemble (expandedHead c pic ptl) list item tols)
+            ≡ andThen o (λ item. assemble (expandedHead c any ptl) list item tols)
         rest (accept item) = assemble-alike list item tols
         rest (refuse n) = refl
 
         both : (o x : Outcome (List ℕ)) → done o ≡ done x
-            → andThen o (λ _. andThen (restore c S) (λ item. assemble (expandedHead c pic ptl) list item tols)) ≡ andThen x (λ _. andThen (restore c S) (λ item. assemble (expandedHead c any ptl) list item tols))
+            → andThen o (λ _. andThen (restore c S) (λ item. assemble (expandedHead c pic ptl) list item tols))
+            ≡ andThen x (λ _. andThen (restore c S) (λ item. assemble (expandedHead c any ptl) list item tols))
         both (accept a) (accept b) e = rest (restore c S)
         both (accept a) (refuse n) e = let z : _≡_ {A = ℕ} 0 1 = cc in absurd (omega arith)
         both (refuse m) (accept b) e = let z : _≡_ {A = ℕ} 0 1 = cc in absurd (omega arith)
@@ -139,6 +151,7 @@ module _ (S : List ℕ) (tols : Option ℕ) (pic : Picture) (chroma : pic .«chr
   unfolding streamWith stillStream
   any-picture C bytes = ap (lentInput S) (go (parseCompact C) refl)
     where
-      go : (o : Outcome (CompactParsed × List ℕ)) → parseCompact C ≡ o → andThen o (λ r. streamOf pic (r .0 .config) (r .1)) ≡ andThen o (λ r. streamOf anyPicture (r .0 .config) (r .1))
+      go : (o : Outcome (CompactParsed × List ℕ)) → parseCompact C ≡ o
+          → andThen o (λ r. streamOf pic (r .0 .config) (r .1)) ≡ andThen o (λ r. streamOf anyPicture (r .0 .config) (r .1))
       go (refuse n) e = refl
       go (accept r) e = list-alike (r .0 .config) (r .1) (record { compact = C; bytes = bytes; read = r .0; reads = e; config = refl })

@@ -28,7 +28,8 @@ use Rattle.still.proofs.Lists.{Ready}
 
 -- the length of the item when the length of the record is known, or the first refusal
 module _ (c : CompactVvcConfig) (h : VvcConfig) (list S : List ℕ) where
-  pub item-counted : (m : ℕ) (n : Outcome ℕ) → accept m ≡ countFound (serializeFull h list) → n ≡ countFound (restore c S) → n ≡ countFound (itemAfter c h list S)
+  pub item-counted : (m : ℕ) (n : Outcome ℕ) → accept m ≡ countFound (serializeFull h list) → n ≡ countFound (restore c S)
+      → n ≡ countFound (itemAfter c h list S)
   item-counted m n e f = go (serializeFull h list) e
     where
       go : (o : Outcome (List ℕ)) → accept m ≡ countFound o → n ≡ countFound (andThen o (λ _. restore c S))
@@ -65,10 +66,16 @@ module _ (c : CompactVvcConfig) (h : VvcConfig) (list S : List ℕ) (tols : Opti
     steps-made : Made
     steps-made = go (serializeFull h list) refl (restore c S) refl e
       where
-        go : (o : Outcome (List ℕ)) → serializeFull h list ≡ o → (x : Outcome (List ℕ)) → restore c S ≡ x → accept m ≡ countFound (andThen o (λ _. x)) → Made
+        go : (o : Outcome (List ℕ)) → serializeFull h list ≡ o → (x : Outcome (List ℕ)) → restore c S ≡ x
+            → accept m ≡ countFound (andThen o (λ _. x)) → Made
         go (refuse n) f x g e = let z : _≡_ {A = ℕ} 0 1 = cc in absurd (omega arith)
         go (accept b) f (refuse n) g e = let z : _≡_ {A = ℕ} 0 1 = cc in absurd (omega arith)
-        go (accept b) f (accept i) g e = record { item = i; long = cc; restored = g; made = ready .steps S tols ∙ ap (λ (o : Outcome (List ℕ)). after o (restore c S)) f ∙ ap (after (accept b)) g }
+        go (accept b) f (accept i) g e = record {
+          item = i;
+          long = cc;
+          restored = g;
+          made = ready .steps S tols ∙ ap (λ (o : Outcome (List ℕ)). after o (restore c S)) f ∙ ap (after (accept b)) g;
+        }
 
     -- with the flag set the stored bytes are the item
     pub stream-layers : length S ≤ 2 ^ 30 → c .«multi_layer_flag» ≡ true → streamExpanded c h list S tols ≡ assemble h list S tols
@@ -120,7 +127,8 @@ module _ (c : CompactVvcConfig) (h : VvcConfig) (list S : List ℕ) (tols : Opti
           let split : splitItem (h .«length_size») chunk ≡ accept (a ∷ []) =
           rw (ready .size) (split-lent size chunk k ∙ split-one size (stillUnit S) (ready .plain .low) (ready .plain .high) (omega arith) f) in
           let holds = held-one size (stillUnit S) (ready .plain .low) (ready .plain .high) (omega arith) f in
-          one-assembled h list chunk tols (ready .plain .units) a (stillUnit S) (ready .plain .listed) split holds (λ x. omega arith) (λ x. omega arith)
+          one-assembled h list chunk tols (ready .plain .units) a (stillUnit S) (ready .plain .listed) split holds
+          (λ x. omega arith) (λ x. omega arith)
           ∙ rw (le-leb (length chunk) (2 ^ 30) k, ready .plain .listed)
 
       pub stream-plain : streamExpanded c h list S tols ≡ plainStream size list S

@@ -48,14 +48,18 @@ module _ (s : List ℕ) where
         rw (le-ltb 65536 (length s) short, whole (value a (a .start + a .len)) e, h, rest)
 
 -- what was written is no longer than the output
-pub written-within : (o : Outcome (List ℕ)) (out after : List ℕ) (n : ℕ) → _≡_ {A = Outcome ℕ × List ℕ} (accept n, after) (lentOutput (counted o) out) → n ≤ length after
+pub written-within : (o : Outcome (List ℕ)) (out after : List ℕ) (n : ℕ)
+    → _≡_ {A = Outcome ℕ × List ℕ} (accept n, after) (lentOutput (counted o) out) → n ≤ length after
 written-within (refuse m) out after n e =
     let q : _≡_ {A = Outcome ℕ} (accept n) (refuse m) = ap (λ (y : Outcome ℕ × List ℕ). y .0) e in
     let z : _≡_ {A = ℕ} 0 1 = cc in
     absurd (omega arith)
 written-within (accept b) out after n e = go (leb (length b) (length out)) e
   where
-    go : (x : Bool) → _≡_ {A = Outcome ℕ × List ℕ} (accept n, after) (if_then_else_ {A = Outcome ℕ × List ℕ} x (accept (length b), overlay b out) (refuse 20, out)) → n ≤ length after
+    go : (x : Bool) → _≡_ {A = Outcome ℕ × List ℕ} (
+      accept n,
+      after,
+    ) (if_then_else_ {A = Outcome ℕ × List ℕ} x (accept (length b), overlay b out) (refuse 20, out)) → n ≤ length after
     go true f =
         let q : _≡_ {A = Outcome ℕ} (accept n) (accept (length b)) = ap (λ (y : Outcome ℕ × List ℕ). y .0) f in
         let r : after ≡ overlay b out = ap (λ (y : Outcome ℕ × List ℕ). y .1) f in
@@ -68,5 +72,6 @@ written-within (accept b) out after n e = go (leb (length b) (length out)) e
         absurd (omega arith)
 
 -- the same for the answer of a call
-pub answer-within : (o : Outcome (List ℕ)) (out after : List ℕ) (n : ℕ) (w : Written) → w ≡ W.Bytes n → _≡_ {A = Outcome ℕ × List ℕ} (writtenOf w, after) (lentOutput (counted o) out) → n ≤ length after
+pub answer-within : (o : Outcome (List ℕ)) (out after : List ℕ) (n : ℕ) (w : Written) → w ≡ W.Bytes n
+    → _≡_ {A = Outcome ℕ × List ℕ} (writtenOf w, after) (lentOutput (counted o) out) → n ≤ length after
 answer-within o out after n w h e = written-within o out after n (ap (λ (x : Written). (writtenOf x, after)) (sym h) ∙ e)

@@ -61,7 +61,8 @@ module _ (size : ℕ) (list S : List ℕ) (n : ℕ) (long : ItemLong size S n) w
   plain-too-long h = lent-too-long (toChunk size (stillUnit S)) _ (omega arith)
 
   -- else the stream is that of the units measured
-  pub plain-measured : Plain size list → n ≤ 2 ^ 30 → (r : SizesAnswer) → sizesAnswerOf r ≡ andThen (gather size none list []) (λ g. accept (sizesOf list [] g)) → PlainSizes size list S r
+  pub plain-measured : Plain size list → n ≤ 2 ^ 30
+      → (r : SizesAnswer) → sizesAnswerOf r ≡ andThen (gather size none list []) (λ g. accept (sizesOf list [] g)) → PlainSizes size list S r
   plain-measured p h (M.Sized v) e = (listed-at size list p v e, lent-within (toChunk size (stillUnit S)) _ (omega arith))
   plain-measured p h (M.Refused x) e = absurd (never-refused size list p (numberOf x) e)
 
@@ -100,12 +101,13 @@ module _ (size : ℕ) (list : List ℕ) (v : Sizes) (k : Listed size list v) whe
 
     pub stream-given : unitsStream list S ≡ accept streamBytes
     unfolding annexB
-    stream-given =
-        rw (k .listed) (ap accept (stream-append (map (held list) (k .units)) (stillUnit S ∷ []) ∙ ap (λ (x : List ℕ). front ++ (startCode ++ x)) (append-nil (stillUnit S))))
+    stream-given = rw (k .listed) (ap accept
+        (stream-append (map (held list) (k .units)) (stillUnit S ∷ []) ∙ ap (λ (x : List ℕ). front ++ (startCode ++ x)) (append-nil (stillUnit S))))
 
     pub stream-long : length streamBytes ≡ 4 * v .listed + v .lengths + 6 + length S
     stream-long = omega (arith, length-append front (startCode ++ stillUnit S), front-long)
 
     -- the length of the stream
-    pub stream-counted : plainStream size list S ≡ unitsStream list S → (n : ℕ) → n ≡ 4 * v .listed + v .lengths + 6 + length S → accept n ≡ countFound (plainStream size list S)
+    pub stream-counted : plainStream size list S ≡ unitsStream list S → (n : ℕ) → n ≡ 4 * v .listed + v .lengths + 6 + length S
+        → accept n ≡ countFound (plainStream size list S)
     stream-counted e n h = ap accept (h ∙ sym stream-long) ∙ ap countFound (sym (e ∙ stream-given))

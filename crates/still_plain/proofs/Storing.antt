@@ -19,7 +19,8 @@ use Rattle.still_measure.proofs.Streams.{known, front, front-found, front-long,
 use Rattle.parse.proofs.General.{sets-append}
 
 -- start code, header and stored bytes make the unit in the stream
-pub picture-stored : (S out d e f g : List ℕ) (at : ℕ) (header : List ℕ) → header ≡ nalHeader 8 0 1 → d ≡ sets out at (toBe 4 1) → e ≡ set d (at + 4) (getD header 0 0)
+pub picture-stored : (S out d e f g : List ℕ) (at : ℕ) (header : List ℕ) → header ≡ nalHeader 8 0 1 → d ≡ sets out at (toBe 4 1)
+    → e ≡ set d (at + 4) (getD header 0 0)
     → f ≡ set e (at + 5) (getD header 1 0) → g ≡ sets f (at + 6) S → g ≡ sets out at (startCode ++ stillUnit S)
 unfolding toBe
 picture-stored S out d e f g at header h x y z w =
@@ -31,7 +32,8 @@ module _ (size : ℕ) (list : List ℕ) (v : Sizes) (k : Listed size list v) whe
   pub puts-front : (out : List ℕ) → 4 * v .listed + v .lengths ≤ length out → PutsStream size none list [] v out
   puts-front out h = let a = ap (λ (w : Sizes). w .kept) (k .sized) in puts-stream size none list [] v out (known size list v k) (omega arith)
 
-  pub stream-stored : (S out d e : List ℕ) (at : ℕ) → at ≡ 4 * v .listed + v .lengths → d ≡ sets out 0 (gatheredBytes list [] (gather size none list []))
+  pub stream-stored : (S out d e : List ℕ) (at : ℕ) → at ≡ 4 * v .listed + v .lengths
+      → d ≡ sets out 0 (gatheredBytes list [] (gather size none list []))
       → e ≡ sets d at (startCode ++ stillUnit S) → e ≡ sets out 0 (streamBytes size list v k S)
   stream-stored S out d e at h x y =
       let a : at ≡ 0 + length (front size list v k) = omega (arith, front-long size list v k) in

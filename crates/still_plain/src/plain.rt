@@ -33,7 +33,8 @@ fn put_picture(stored: &[u8], out: &mut [u8], at: usize)
 // Stores the stream of a list that was measured and of the stored bytes. Refusal: 20.
 fn put_sized(length_size: u8, list: &[u8], stored: &[u8], sizes: Sizes, out: &mut [u8]) -> Written
     requires { ⌜ Listed «length_size» (now list) sizes × (length (now stored) ≤ 2 ^ 30) ⌝ }
-    ensures { λ r. ⌜ (writtenOf r, now (out .exit)) ≡ lentOutput (counted (unitsStream (now (list .entry)) (now (stored .entry)))) (now (out .entry)) ⌝ }
+    ensures { λ r. ⌜ (writtenOf r, now (out .exit))
+        ≡ lentOutput (counted (unitsStream (now (list .entry)) (now (stored .entry)))) (now (out .entry)) ⌝ }
 {
     let at = access_unit::lengths::stream_len(sizes.listed, sizes.lengths);
     let len = stream::picture_end(at, stored.len());
@@ -55,7 +56,8 @@ pub fn put_plain(
     out: &mut [u8],
 ) -> Written
     requires { ⌜ Plain «length_size» (now list) × (length (now stored) ≤ 2 ^ 30) × ItemLong «length_size» (now stored) «item_len» ⌝ }
-    ensures { λ r. ⌜ (writtenOf r, now (out .exit)) ≡ lentOutput (counted (plainStream «length_size» (now (list .entry)) (now (stored .entry)))) (now (out .entry)) ⌝ }
+    ensures { λ r. ⌜ (writtenOf r, now (out .exit))
+        ≡ lentOutput (counted (plainStream «length_size» (now (list .entry)) (now (stored .entry)))) (now (out .entry)) ⌝ }
 {
     match stream::plain_sizes(length_size, list, stored, item_len) {
         SizesAnswer::Sized(sizes) => put_sized(length_size, list, stored, sizes, out),

@@ -32,7 +32,8 @@ fn put_expanded(
     out: &mut [u8],
 ) -> Written
     requires { ⌜ ExpandedFrom config head (now list) × (length (now stored) ≤ 2 ^ 30) ⌝ }
-    ensures { λ r. ⌜ (writtenOf r, now (out .exit)) ≡ lentOutput (counted (streamExpanded config head (now (list .entry)) (now (stored .entry)) (tolsOf tols))) (now (out .entry)) ⌝ }
+    ensures { λ r. ⌜ (writtenOf r, now (out .exit))
+        ≡ lentOutput (counted (streamExpanded config head (now (list .entry)) (now (stored .entry)) (tolsOf tols))) (now (out .entry)) ⌝ }
 {
     match stream::restored_len(config, head, list, stored) {
         Counted::Count(item_len) => {
@@ -55,7 +56,8 @@ fn put_stream(
     out: &mut [u8],
 ) -> Written
     requires { ⌜ ReadFrom config (now list) × (length (now stored) ≤ 2 ^ 30) ⌝ }
-    ensures { λ r. ⌜ (writtenOf r, now (out .exit)) ≡ lentOutput (counted (streamFrom config (now (list .entry)) (now (stored .entry)) (tolsOf tols))) (now (out .entry)) ⌝ }
+    ensures { λ r. ⌜ (writtenOf r, now (out .exit))
+        ≡ lentOutput (counted (streamFrom config (now (list .entry)) (now (stored .entry)) (tolsOf tols))) (now (out .entry)) ⌝ }
 {
     let mut grouped = [0u8; EXPANDED_LIST];
     let expanded = expand::to_full(config, list, ANY_PICTURE, &mut grouped);
@@ -71,7 +73,8 @@ fn put_stream(
 // Refusals: 23, 1, 7; with the flag set 16 and the VPS's; 17, the SPS's, 18, the VPS's; 3, 22; with the flag clear 6 and 23 (an item above 2^30
 // bytes), else in byte order 1 and 5; 20.
 pub fn still_stream(record: &[u8], stored: &[u8], tols: Target, out: &mut [u8]) -> Written
-    ensures { λ r. ⌜ (writtenOf r, now (out .exit)) ≡ lentOutput (counted (stillStream (now («record» .entry)) (now (stored .entry)) (tolsOf tols))) (now (out .entry)) ⌝ }
+    ensures { λ r. ⌜ (writtenOf r, now (out .exit))
+        ≡ lentOutput (counted (stillStream (now («record» .entry)) (now (stored .entry)) (tolsOf tols))) (now (out .entry)) ⌝ }
 {
     if LARGEST_INPUT < stored.len() {
         return Written::Refused(Refusal::InputTooLong);

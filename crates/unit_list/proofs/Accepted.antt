@@ -50,7 +50,8 @@ accepted s xs e =
     refuses : (n : ℕ) → decode s ≡ refuse n → decode s ≡ accept xs → ⊥
     refuses n f g = let z : _≡_ {A = ℕ} 0 1 = cc in omega arith
 
-    go : (s : List ℕ) → length s ≤ 2 ^ 30 → getD s 0 0 ≡ 1 → (o : Parsed (List (Array Span))) → many (array 4) s 1 ≡ o → outcomeOr 21 o ≡ accept xs → Accepted s xs
+    go : (s : List ℕ) → length s ≤ 2 ^ 30 → getD s 0 0 ≡ 1 → (o : Parsed (List (Array Span))) → many (array 4) s 1 ≡ o
+        → outcomeOr 21 o ≡ accept xs → Accepted s xs
     go [] h v o m f = absurd (omega arith)
     go (b ∷ s) h v (refused n) m f = absurd (let z : _≡_ {A = ℕ} 0 1 = cc in omega arith)
     go (b ∷ s) h v (value ys r) m f =

@@ -180,8 +180,13 @@ module _ (w : ℕ) (s : List ℕ) (p : ℕ) where
     module _ (two : 2 ≤ a .len) (complete : getD s (a .start) 0 ≤ 1) where
       pub array-type : largestType < getD s (a .start + 1) 0 → IsRefused (array w s p)
       unfolding array inside arrayRest
-      array-type h =
-          rw (e, byte-there (a .start) (omega arith), le-ltb 1 (getD s (a .start) 0) complete, byte-there (a .start + 1) (omega arith), lt-ltb largestType (getD s (a .start + 1) 0) h) tt
+      array-type h = rw (
+        e,
+        byte-there (a .start) (omega arith),
+        le-ltb 1 (getD s (a .start) 0) complete,
+        byte-there (a .start + 1) (omega arith),
+        lt-ltb largestType (getD s (a .start + 1) 0) h,
+      ) tt
 
       -- an array with its units
       abbrev pub headed : List Span → Array Span
@@ -192,7 +197,14 @@ module _ (w : ℕ) (s : List ℕ) (p : ℕ) where
         unfolding array inside arrayRest
         array-reads =
             let two-on : a .start + 1 + 1 ≡ a .start + 2 = omega arith in
-            rw (e, byte-there (a .start) (omega arith), le-ltb 1 (getD s (a .start) 0) complete, byte-there (a .start + 1) (omega arith), le-ltb largestType (getD s (a .start + 1) 0) small, two-on)
+            rw (
+              e,
+              byte-there (a .start) (omega arith),
+              le-ltb 1 (getD s (a .start) 0) complete,
+              byte-there (a .start + 1) (omega arith),
+              le-ltb largestType (getD s (a .start + 1) 0) small,
+              two-on,
+            )
 
 not-refused : {A : Type 0} (o : Parsed A) (x : A) (q : ℕ) → o ≡ value x q → IsRefused o → ⊥
 not-refused (value a p) x q e h = h
@@ -223,7 +235,8 @@ module _ (w : ℕ) (s : List ℕ) (some : 1 ≤ w) where
     where
       units : (a : Span) → chunk w s p ≡ value a (a .start + a .len) → 2 ≤ a .len → getD s (a .start) 0 ≤ 1 → getD s (a .start + 1) 0 ≤ largestType
           → (o : Parsed (List Span)) → many (chunk w) (take (a .start + a .len) s) (a .start + 2) ≡ o
-          → bind o (λ us r. value (record { complete = getD s (a .start) 0; unitType = getD s (a .start + 1) 0; units = us }) r) ≡ value x q → ArrayRead p x q
+          → bind o (λ us r. value (record { complete = getD s (a .start) 0; unitType = getD s (a .start + 1) 0; units = us }) r) ≡ value x q
+          → ArrayRead p x q
       units a c two one small (refused n) f g = absurd (let z : _≡_ {A = ℕ} 0 1 = cc in omega arith)
       units a c two one small (value us r) f g =
           let y : record { complete = getD s (a .start) 0; unitType = getD s (a .start + 1) 0; units = us } ≡ x = cc in
@@ -244,7 +257,8 @@ module _ (w : ℕ) (s : List ℕ) (some : 1 ≤ w) where
                       elim (decLe (getD s (a .start + 1) 0) largestType) [
                         | no k ↦ absurd (not-refused (array w s p) x q e (array-type w s p a c two one (omega arith)))
                         | yes small ↦
-                            units a c two one small (many (chunk w) (take (a .start + a .len) s) (a .start + 2)) refl (sym (array-reads w s p a c two one small) ∙ e)
+                            units a c two one small (many (chunk w) (take (a .start + a .len) s) (a .start + 2)) refl
+                            (sym (array-reads w s p a c two one small) ∙ e)
                       ]
                 ]
           ]
@@ -264,18 +278,22 @@ module _ (w : ℕ) (s : List ℕ) (some : 1 ≤ w) where
       (one : getD s (a .start) 0 ≤ 1) (small : getD s (a .start + 1) 0 ≤ largestType) where
     pub arrays-step : outcomeOr n (many (array w) s p)
         ≡ andThen (outcomeOr n (many (chunk w) (take (a .start + a .len) s) (a .start + 2)))
-        (λ us. more (record { complete = getD s (a .start) 0; unitType = getD s (a .start + 1) 0; units = us }) (outcomeOr n (many (array w) s (a .start + a .len))))
+        (λ us. more (record { complete = getD s (a .start) 0; unitType = getD s (a .start + 1) 0; units = us })
+        (outcomeOr n (many (array w) s (a .start + a .len))))
     arrays-step = go (many (chunk w) (take (a .start + a .len) s) (a .start + 2)) refl
       where
         go : (o : Parsed (List Span)) → many (chunk w) (take (a .start + a .len) s) (a .start + 2) ≡ o → outcomeOr n (many (array w) s p)
             ≡ andThen (outcomeOr n o)
-            (λ us. more (record { complete = getD s (a .start) 0; unitType = getD s (a .start + 1) 0; units = us }) (outcomeOr n (many (array w) s (a .start + a .len))))
+            (λ us. more (record { complete = getD s (a .start) 0; unitType = getD s (a .start + 1) 0; units = us })
+            (outcomeOr n (many (array w) s (a .start + a .len))))
         go (refused m) f = run-refused (array w) s p n left (rw (array-reads w s p a c two one small, f) tt)
         go (value us r) f =
             let h = units-run p a c two us r f in
-            let g : array w s p ≡ value (record { complete = getD s (a .start) 0; unitType = getD s (a .start + 1) 0; units = us }) (a .start + a .len) =
+            let g : array w s p
+            ≡ value (record { complete = getD s (a .start) 0; unitType = getD s (a .start + 1) 0; units = us }) (a .start + a .len) =
             array-reads w s p a c two one small ∙ rw (f, h .0) in
-            run-step (array w) s p n left array-advances (record { complete = getD s (a .start) 0; unitType = getD s (a .start + 1) 0; units = us }) (a .start + a .len) g
+            run-step (array w) s p n left array-advances (record { complete = getD s (a .start) 0; unitType = getD s (a .start + 1) 0; units = us })
+            (a .start + a .len) g
 
   -- the arrays of a run lie before the end
   pub arrays-lie : (p : ℕ) → p ≤ length s → (xs : List (Array Span)) (r : ℕ) → many (array w) s p ≡ value xs r → Lies w (length s) p (unitsOf xs)

@@ -17,7 +17,8 @@ use Rattle.boxes.specs.Parts.{held}
 use Rattle.boxes.specs.declared.Span.{Span}
 use Rattle.boxes.proofs.Numbers.{be-take, be-one}
 use Rattle.boxes.proofs.Fields.{uint-there, uint-short, chunk-read, chunk-advances}
-use Rattle.unit_list.specs.UnitList.{Array, array, arrayRest, largestType, decode, heldArray, heldArrays, encodeUnits, encodeArray, encodeArrays, encode}
+use Rattle.unit_list.specs.UnitList.{Array, array, arrayRest, largestType, decode, heldArray}
+use Rattle.unit_list.specs.UnitList.{heldArrays, encodeUnits, encodeArray, encodeArrays, encode}
 use Rattle.unit_list.proofs.Arrays.{Sound, run-value, chunks-run, array-read, array-advances}
 use Rattle.unit_list.proofs.Left.{decode-versionless, decode-arrays}
 use Rattle.unit_list.proofs.Accepted.{sound-held, accepted}
@@ -36,7 +37,8 @@ after (value a p) f b r e = record { given = a; place = p; first = refl; rest = 
 after (refused n) f b r e = absurd (let z : _≡_ {A = ℕ} 0 1 = cc in omega arith)
 
 -- equal answers with an array have equal fields
-array-made : (c t : ℕ) (us : List Span) (r : ℕ) (x : Array Span) (q : ℕ) → _≡_ {A = Parsed (Array Span)} (value (record { complete = c; unitType = t; units = us }) r) (value x q)
+array-made : (c t : ℕ) (us : List Span) (r : ℕ) (x : Array Span) (q : ℕ)
+    → _≡_ {A = Parsed (Array Span)} (value (record { complete = c; unitType = t; units = us }) r) (value x q)
     → (x .complete ≡ c) × (x .unitType ≡ t) × (_≡_ {A = Parsed (List Span)} (value us r) (value (x .units) q))
 array-made c t us r x q e =
     let y : record { complete = c; unitType = t; units = us } ≡ x = cc in
@@ -131,7 +133,8 @@ module _ (s : List ℕ) (all : (i : ℕ) → getD s i 0 < 256) where
   held-again a = rw (← drop-drop (a .len) (a .start) s) (take-append-drop (a .len) (drop (a .start) s))
 
   -- an array's complete and type, before its units
-  headed : (c u : ℕ) (rest : List ℕ) (i : ℕ) → c ≡ getD s i 0 → u ≡ getD s (i + 1) 0 → i + 2 ≤ length s → rest ≡ drop (i + 2) s → c ∷ u ∷ rest ≡ drop i s
+  headed : (c u : ℕ) (rest : List ℕ) (i : ℕ) → c ≡ getD s i 0 → u ≡ getD s (i + 1) 0 → i + 2 ≤ length s → rest ≡ drop (i + 2) s
+      → c ∷ u ∷ rest ≡ drop i s
   headed c u rest i f g h e =
       let two : i + 2 ≡ suc (suc i) = omega arith in
       rw (f, g, e, add-one i, two, ← drop-cons s (suc i) 0 (omega arith)) (sym (drop-cons s i 0 (omega arith)))
@@ -151,7 +154,8 @@ module _ (s : List ℕ) (all : (i : ℕ) → getD s i 0 < 256) where
           append-assoc (toChunk w (held s a)) (encodeUnits w (map (held s) us)) (drop e s)
           ∙ rw h (chunk-again w p q (held s a) (omega arith) (omega arith) (rw (← x, ← y) (held-again a)))
 
-      units-again : (p : ℕ) (us : List Span) (r : ℕ) → p ≤ e → many (chunk w) (take e s) p ≡ value us r → encodeUnits w (map (held s) us) ++ drop e s ≡ drop p s
+      units-again : (p : ℕ) (us : List Span) (r : ℕ) → p ≤ e → many (chunk w) (take e s) p ≡ value us r
+          → encodeUnits w (map (held s) us) ++ drop e s ≡ drop p s
       unfolding encodeUnits
       units-again p us r h m =
           let l = length-take-le e s fits in
@@ -171,7 +175,8 @@ module _ (s : List ℕ) (all : (i : ℕ) → getD s i 0 < 256) where
         let l = length-take-le e s (omega arith) in
         let run = chunks-run w (take e s) some (i + 2) (omega arith) (x .units) q (t .units) in
         let end : q ≡ e = run .end ∙ l in
-        let us : encodeUnits w (map (held s) (x .units)) ++ drop e s ≡ drop (i + 2) s = units-again e (omega arith) (i + 2) (x .units) q (omega arith) (t .units) in
+        let us : encodeUnits w (map (held s) (x .units)) ++ drop e s ≡ drop (i + 2) s =
+        units-again e (omega arith) (i + 2) (x .units) q (omega arith) (t .units) in
         let start : i ≡ p + w = k .start in
         let rest : (x .complete ∷ x .unitType ∷ encodeUnits w (map (held s) (x .units))) ++ drop e s ≡ drop (p + w) s =
         headed (x .complete) (x .unitType) (encodeUnits w (map (held s) (x .units)) ++ drop e s) i (t .complete) (t .unitType) (omega arith) us
@@ -179,7 +184,8 @@ module _ (s : List ℕ) (all : (i : ℕ) → getD s i 0 < 256) where
         rw end (chunk-again w p e (x .complete ∷ x .unitType ∷ encodeUnits w (map (held s) (x .units))) (omega arith) (omega arith) rest)
 
     -- arrays up to the end
-    arrays-again : (p : ℕ) (xs : List (Array Span)) (r : ℕ) → p ≤ length s → many (array w) s p ≡ value xs r → encodeArrays w (heldArrays s xs) ≡ drop p s
+    arrays-again : (p : ℕ) (xs : List (Array Span)) (r : ℕ) → p ≤ length s → many (array w) s p ≡ value xs r
+        → encodeArrays w (heldArrays s xs) ≡ drop p s
     unfolding encodeArrays
     arrays-again p xs r h m =
         run-value (array w) s (array-advances w s some) (λ p xs r. p ≤ length s → encodeArrays w (heldArrays s xs) ≡ drop p s)
@@ -198,7 +204,8 @@ encode-decode s all xs e =
       | yes h ↦ go s all h (many (array 4) s 1) refl (sym (decode-arrays s (accepted s xs e .lent) h) ∙ e)
     ]
   where
-    go : (s : List ℕ) → ((i : ℕ) → getD s i 0 < 256) → getD s 0 0 ≡ 1 → (o : Parsed (List (Array Span))) → many (array 4) s 1 ≡ o → outcomeOr 21 o ≡ accept xs
+    go : (s : List ℕ) → ((i : ℕ) → getD s i 0 < 256) → getD s 0 0 ≡ 1 → (o : Parsed (List (Array Span))) → many (array 4) s 1 ≡ o
+        → outcomeOr 21 o ≡ accept xs
         → 1 ∷ encodeArrays 4 (heldArrays s xs) ≡ s
     go [] all h o m f = absurd (omega arith)
     go (b ∷ s) all h (refused n) m f = absurd (let z : _≡_ {A = ℕ} 0 1 = cc in omega arith)

@@ -13,7 +13,8 @@ use Rattle.boxes.specs.declared.Span.{Span}
 use Rattle.boxes.proofs.Numbers.{length-toBe}
 use Rattle.parse.proofs.Many.{many-nil, many-step}
 use Rattle.boxes.proofs.Fields.{chunk-toChunk, held-toChunk, chunk-advances}
-use Rattle.unit_list.specs.UnitList.{Array, array, largestType, decode, unitsOf, heldArray, heldArrays, encodeUnits, encodeArray, encodeArrays, encode}
+use Rattle.unit_list.specs.UnitList.{Array, array, largestType, decode, unitsOf, heldArray}
+use Rattle.unit_list.specs.UnitList.{heldArrays, encodeUnits, encodeArray, encodeArrays, encode}
 use Rattle.unit_list.specs.Answers.{listUnits}
 use Rattle.unit_list.proofs.Arrays.{Sound, sound-none, sound-more, array-reads, array-advances}
 use Rattle.unit_list.proofs.Left.{decode-arrays}
@@ -55,17 +56,23 @@ module _ (w : ℕ) (some : 1 ≤ w) (s : List ℕ) where
 
 module _ (w : ℕ) (s : List ℕ) where
   -- units that lie anywhere in s hold their bytes
-  units-hold : (us : List (List ℕ)) (pre post : List ℕ) (p : ℕ) → s ≡ pre ++ (encodeUnits w us ++ post) → length pre ≡ p → length (encodeUnits w us) < 256 ^ w
+  units-hold : (us : List (List ℕ)) (pre post : List ℕ) (p : ℕ) → s ≡ pre ++ (encodeUnits w us ++ post) → length pre ≡ p
+      → length (encodeUnits w us) < 256 ^ w
       → map (held s) (placedUnits w p us) ≡ us
   unfolding encodeUnits placedUnits
   units-hold [] pre post p e l f = refl
   units-hold (u ∷ us) pre post p e l f =
       let k = length-append (toChunk w u) (encodeUnits w us) in
       let j = length-toChunk w u in
-      let g : s ≡ pre ++ (toChunk w u ++ (encodeUnits w us ++ post)) = e ∙ ap (λ (x : List ℕ). pre ++ x) (append-assoc (toChunk w u) (encodeUnits w us) post) in
+      let g : s ≡ pre ++ (toChunk w u ++ (encodeUnits w us ++ post)) = e
+      ∙ ap (λ (x : List ℕ). pre ++ x) (append-assoc (toChunk w u) (encodeUnits w us) post) in
       let h : held s (record { start = p + w; len = length u }) ≡ u = rw (g, ← l) (held-toChunk w pre u (encodeUnits w us ++ post) (omega arith)) in
       let m : length (pre ++ toChunk w u) ≡ p + w + length u = omega (arith, length-append pre (toChunk w u)) in
-      rw (h, units-hold us (pre ++ toChunk w u) post (p + w + length u) (g ∙ sym (append-assoc pre (toChunk w u) (encodeUnits w us ++ post))) m (omega arith))
+      rw (
+        h,
+        units-hold us (pre ++ toChunk w u) post (p + w + length u)
+            (g ∙ sym (append-assoc pre (toChunk w u) (encodeUnits w us ++ post))) m (omega arith),
+      )
 
 -- what follows an array's length, and what comes before its units
 abbrev restOf : ℕ → Array (List ℕ) → List ℕ
@@ -82,8 +89,8 @@ module _ (w : ℕ) (s : List ℕ) (a : Array (List ℕ)) (pre post : List ℕ) (
   length-array = length-toChunk w (restOf w a)
 
   length-head : length (pre ++ headOf w a) ≡ p + w + 2
-  length-head =
-      length-append pre (headOf w a) ∙ rw (length-append (toBe w (length (restOf w a))) (a .complete ∷ a .unitType ∷ []), length-toBe w (length (restOf w a)), l) (omega arith)
+  length-head = length-append pre (headOf w a)
+      ∙ rw (length-append (toBe w (length (restOf w a))) (a .complete ∷ a .unitType ∷ []), length-toBe w (length (restOf w a)), l) (omega arith)
 
   units-after : pre ++ encodeArray w a ≡ (pre ++ headOf w a) ++ encodeUnits w (a .units)
   unfolding encodeArray toChunk
@@ -113,14 +120,16 @@ module _ (w : ℕ) (s : List ℕ) (a : Array (List ℕ)) (pre post : List ℕ) (
   before = length-append pre (toBe w (length (restOf w a))) ∙ rw (length-toBe w (length (restOf w a)), l)
 
   complete-at : getD s (p + w) 0 ≡ a .complete
-  complete-at = rw bytes-at (getD-at (pre ++ toBe w (length (restOf w a))) (a .complete) (a .unitType ∷ (encodeUnits w (a .units) ++ post)) 0 (p + w) before)
+  complete-at =
+      rw bytes-at (getD-at (pre ++ toBe w (length (restOf w a))) (a .complete) (a .unitType ∷ (encodeUnits w (a .units) ++ post)) 0 (p + w) before)
 
   type-at : getD s (p + w + 1) 0 ≡ a .unitType
   type-at =
       let m : length ((pre ++ toBe w (length (restOf w a))) ++ (a .complete ∷ [])) ≡ p + w + 1 =
       length-append (pre ++ toBe w (length (restOf w a))) (a .complete ∷ []) ∙ rw before (omega arith) in
       rw bytes-at
-      (ap (λ (x : List ℕ). getD x (p + w + 1) 0) (sym (append-assoc (pre ++ toBe w (length (restOf w a))) (a .complete ∷ []) (a .unitType ∷ (encodeUnits w (a .units) ++ post))))
+      (ap (λ (x : List ℕ). getD x (p + w + 1) 0)
+      (sym (append-assoc (pre ++ toBe w (length (restOf w a))) (a .complete ∷ []) (a .unitType ∷ (encodeUnits w (a .units) ++ post))))
       ∙ getD-at ((pre ++ toBe w (length (restOf w a))) ++ (a .complete ∷ [])) (a .unitType) (encodeUnits w (a .units) ++ post) 0 (p + w + 1) m)
 
   rest-at : take (p + w + length (restOf w a)) s ≡ (pre ++ headOf w a) ++ encodeUnits w (a .units)
@@ -135,7 +144,8 @@ module _ (w : ℕ) (s : List ℕ) (a : Array (List ℕ)) (pre post : List ℕ) (
         let k = length-array in
         let c : chunk w s p ≡ value (record { start = p + w; len = length (restOf w a) }) (p + w + length (restOf w a)) =
         unfold encodeArray in rw (e, ← l) (chunk-toChunk w pre (restOf w a) post (omega arith)) in
-        let u = units-written w some (take (p + w + length (restOf w a)) s) (a .units) (pre ++ headOf w a) (p + w + 2) rest-at length-head (omega arith) in
+        let u = units-written w some (take (p + w + length (restOf w a)) s) (a .units) (pre ++ headOf w a)
+        (p + w + 2) rest-at length-head (omega arith) in
         let m : length (take (p + w + length (restOf w a)) s) ≡ p + length (encodeArray w a) =
         ap length rest-at ∙ length-append (pre ++ headOf w a) (encodeUnits w (a .units)) ∙ rw length-head (omega arith) in
         array-reads w s p (record { start = p + w; len = length (restOf w a) }) c (omega arith) (rw complete-at one) (rw type-at small)
@@ -157,7 +167,8 @@ module _ (w : ℕ) (s : List ℕ) where
       let c = array-written w s a pre (encodeArrays w xs) p e l g some one small in
       let m : length (pre ++ encodeArray w a) ≡ p + length (encodeArray w a) = length-append pre (encodeArray w a) ∙ rw l in
       many-step (array w) s (array-advances w s some) p (placedArray w p a) (p + length (encodeArray w a)) (omega arith) c
-      ∙ rw (arrays-written some h (pre ++ encodeArray w a) (p + length (encodeArray w a)) (e ∙ sym (append-assoc pre (encodeArray w a) (encodeArrays w xs))) m (omega arith))
+      ∙ rw (arrays-written some h (pre ++ encodeArray w a) (p + length (encodeArray w a))
+      (e ∙ sym (append-assoc pre (encodeArray w a) (encodeArrays w xs))) m (omega arith))
 
   arrays-held : (xs : List (Array (List ℕ))) (pre : List ℕ) (p : ℕ) → s ≡ pre ++ encodeArrays w xs → length pre ≡ p
       → length (encodeArrays w xs) < 256 ^ w → heldArrays s (placedArrays w p xs) ≡ xs
@@ -167,7 +178,8 @@ module _ (w : ℕ) (s : List ℕ) where
       let k = length-append (encodeArray w a) (encodeArrays w xs) in
       let m : length (pre ++ encodeArray w a) ≡ p + length (encodeArray w a) = length-append pre (encodeArray w a) ∙ rw l in
       let h = array-held w s a pre (encodeArrays w xs) p e l (omega arith) in
-      let t = arrays-held xs (pre ++ encodeArray w a) (p + length (encodeArray w a)) (e ∙ sym (append-assoc pre (encodeArray w a) (encodeArrays w xs))) m (omega arith) in
+      let t = arrays-held xs (pre ++ encodeArray w a) (p + length (encodeArray w a))
+      (e ∙ sym (append-assoc pre (encodeArray w a) (encodeArrays w xs))) m (omega arith) in
       rw (h, t)
 
 -- what is read of s: where it lies, and the bytes that it holds

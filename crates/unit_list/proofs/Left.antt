@@ -10,7 +10,8 @@ use Rattle.boxes.specs.Bytes.{chunk}
 use Rattle.boxes.specs.declared.Span.{Span}
 use Rattle.boxes.proofs.Fields.{uint-there, uint-short}
 use Rattle.unit_list.specs.UnitList.{Array, unitList, decode}
-use Rattle.unit_list.specs.inner.Walk.{typed, typedUnits, typedList, typedUnitsFrom, arrayUnitsFrom, arraysFrom, front, arraysStepped, unitsStepped, stepped, Fits, Entered, ArrayStepFits, UnitStepFits, StepFits}
+use Rattle.unit_list.specs.inner.Walk.{typed, typedUnits, typedList, typedUnitsFrom, arrayUnitsFrom, arraysFrom, front}
+use Rattle.unit_list.specs.inner.Walk.{arraysStepped, unitsStepped, stepped, Fits, Entered, ArrayStepFits, UnitStepFits, StepFits}
 use Rattle.unit_list.specs.declared.ListCursor.{ListCursor}
 use Rattle.unit_list.specs.declared.ListStep.{ListStep}
 use Rattle.unit_list.specs.declared.ListStep.the-variants as L
@@ -58,7 +59,8 @@ left-start s l h = left-arrays s front refl ∙ rw (decode-arrays s l h)
 module _ (s : List ℕ) (c : ListCursor) (e : c .at ≡ c .end) where
   pub left-entered : (b : ℕ) (d : ListCursor) → arraysStepped s (A.Array b d) ≡ arraysFrom s c → typedUnitsFrom s d ≡ typedUnitsFrom s c
   unfolding typedUnitsFrom typedUnits
-  left-entered b d f = go (arrayUnitsFrom s d) (arraysFrom s d) ∙ ap (λ (o : Outcome (List (Array Span))). andThen o (λ xs. accept (typedUnits xs))) f ∙ sym (left-arrays s c e)
+  left-entered b d f = go (arrayUnitsFrom s d) (arraysFrom s d) ∙ ap (λ (o : Outcome (List (Array Span))). andThen o (λ xs. accept (typedUnits xs))) f
+      ∙ sym (left-arrays s c e)
     where
       go : (u : Outcome (List Span)) (o : Outcome (List (Array Span)))
           → andThen u (λ us. andThen o (λ xs. accept (typed (d .«unit_type») us ++ typedUnits xs)))
@@ -82,7 +84,8 @@ module _ (s : List ℕ) (c : ListCursor) where
   left-unit a d e t f = rw (← f, ← e, ← t) (go (arrayUnitsFrom s d) (arraysFrom s d))
     where
       go : (u : Outcome (List Span)) (o : Outcome (List (Array Span)))
-          → more (record { unit = a; unitType = d .«unit_type» }) (andThen u (λ us. andThen o (λ xs. accept (typed (d .«unit_type») us ++ typedUnits xs))))
+          → more (record { unit = a; unitType = d .«unit_type» })
+          (andThen u (λ us. andThen o (λ xs. accept (typed (d .«unit_type») us ++ typedUnits xs))))
           ≡ andThen (more a u) (λ us. andThen o (λ xs. accept (typed (d .«unit_type») us ++ typedUnits xs)))
       go (refuse m) o = refl
       go (accept us) (refuse m) = refl
@@ -101,8 +104,10 @@ module _ (s : List ℕ) (c here : ListCursor) (inv : Fits s here × (typedUnitsF
 
       pub turn-entered : (length s - d .end < length s - here .end) × (Fits s d × (typedUnitsFrom s d ≡ typedUnitsFrom s c) × (c .at ≤ d .at))
       turn-entered =
-          let h = entered .1 in
-          (omega (arith, h .first, h .fits .before, h .fits .within), (h .fits, left-entered s here e b d (entered .0) ∙ inv .1, omega (arith, inv .2, h .first)))
+          let h = entered .1 in (
+            omega (arith, h .first, h .fits .before, h .fits .within),
+            (h .fits, left-entered s here e b d (entered .0) ∙ inv .1, omega (arith, inv .2, h .first)),
+          )
 
     pub turn-end : r ≡ A.End → accept [] ≡ typedUnitsFrom s c
     turn-end g = left-end s here e (sym (ap (arraysStepped s) g) ∙ f .0) ∙ inv .1
@@ -110,8 +115,11 @@ module _ (s : List ℕ) (c here : ListCursor) (inv : Fits s here × (typedUnitsF
     pub turn-malformed : r ≡ A.Malformed → refuse 21 ≡ typedUnitsFrom s c
     turn-malformed g = left-malformed s here e (sym (ap (arraysStepped s) g) ∙ f .0) ∙ inv .1
 
-  pub turn-unit : ((here .at ≡ here .end) → ⊥) → (r : ListStep) → (unitsStepped s r ≡ arrayUnitsFrom s here) × UnitStepFits s here r → (stepped s r ≡ typedUnitsFrom s c) × StepFits s c r
-  turn-unit h (L.Unit a d) f =
-      (left-unit s here a d (f .1 .1) (f .1 .2) (f .0) ∙ inv .1, record { start = omega (arith, f .1 .0 .start, inv .2); next = f .1 .0 .next; fits = f .1 .0 .fits })
+  pub turn-unit : ((here .at ≡ here .end) → ⊥) → (r : ListStep) → (unitsStepped s r ≡ arrayUnitsFrom s here) × UnitStepFits s here r
+      → (stepped s r ≡ typedUnitsFrom s c) × StepFits s c r
+  turn-unit h (L.Unit a d) f = (
+    left-unit s here a d (f .1 .1) (f .1 .2) (f .0) ∙ inv .1,
+    record { start = omega (arith, f .1 .0 .start, inv .2); next = f .1 .0 .next; fits = f .1 .0 .fits },
+  )
   turn-unit h L.End f = absurd (h (f .1))
   turn-unit h L.Malformed f = (left-unread s here (f .0) ∙ inv .1, tt)

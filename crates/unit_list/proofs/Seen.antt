@@ -45,9 +45,18 @@ module _ (s : List ℕ) (c : ListCursor) (w : Wanted) (k : ℕ) where
     pub again : Walked next (seeing w k (next .«unit_type») a seen)
 
   pub walked-start : Fits s c → Walked c (record { count = 0; unit = nowhere })
-  walked-start f = record { fits = f; done = []; count = refl; unit = refl; few = omega arith; inside = omega arith; left = after-nil (wantedOf w (typedUnitsFrom s c)) }
+  walked-start f = record {
+    fits = f;
+    done = [];
+    count = refl;
+    unit = refl;
+    few = omega arith;
+    inside = omega arith;
+    left = after-nil (wantedOf w (typedUnitsFrom s c));
+  }
 
-  module _ (here : ListCursor) (seen : Seen) (i : Walked here seen) (r : ListStep) (f : (stepped s r ≡ typedUnitsFrom s here) × StepFits s here r) where
+  module _ (here : ListCursor) (seen : Seen) (i : Walked here seen) (r : ListStep)
+      (f : (stepped s r ≡ typedUnitsFrom s here) × StepFits s here r) where
     module _ (a : Span) (next : ListCursor) (g : r ≡ L.Unit a next) where
       turn : ListTurn s here a next
       turn = list-found s here r f a next g
@@ -72,8 +81,8 @@ module _ (s : List ℕ) (c : ListCursor) (w : Wanted) (k : ℕ) where
                 unit = rw (i .count, i .unit) (sym (done-last (i .done) a k));
                 few = omega (arith, turn .ahead, i .few);
                 inside = kept (eqb (seen .count) k);
-                left =
-                    done-more (i .done) (wantedOf w (typedUnitsFrom s here)) (wantedOf w (typedUnitsFrom s c)) (i .left) a (wantedOf w (typedUnitsFrom s next))
+                left = done-more (i .done) (wantedOf w (typedUnitsFrom s here)) (wantedOf w (typedUnitsFrom s c)) (i .left) a
+                    (wantedOf w (typedUnitsFrom s next))
                     (sym (ap (wantedOf w) (turn .typed)) ∙ wanted-more w here-unit h (typedUnitsFrom s next));
               })
           go false h =
@@ -96,12 +105,14 @@ module _ (s : List ℕ) (c : ListCursor) (w : Wanted) (k : ℕ) where
 
     pub walked-end : r ≡ L.End → Finds s (wantedOf w (typedUnitsFrom s c)) k (record { counted = Count (seen .count); unit = seen .unit })
     walked-end g =
-        let o : accept (i .done) ≡ wantedOf w (typedUnitsFrom s c) = done-end (i .done) (wantedOf w (typedUnitsFrom s here)) (wantedOf w (typedUnitsFrom s c)) (i .left) (wanted-end s here r f w g) in
+        let o : accept (i .done) ≡ wantedOf w (typedUnitsFrom s c) =
+        done-end (i .done) (wantedOf w (typedUnitsFrom s here)) (wantedOf w (typedUnitsFrom s c)) (i .left) (wanted-end s here r f w g) in
         rw (← o) (record { count = ap accept (i .count); unit = i .unit; inside = i .inside })
 
     pub walked-malformed : r ≡ L.Malformed → Finds s (wantedOf w (typedUnitsFrom s c)) k (record { counted = Refused UnitList; unit = nowhere })
     walked-malformed g =
-        let o : refuse 21 ≡ wantedOf w (typedUnitsFrom s c) = done-refused (i .done) (wantedOf w (typedUnitsFrom s here)) (wantedOf w (typedUnitsFrom s c)) (i .left) 21 (wanted-malformed s here r f w g) in
+        let o : refuse 21 ≡ wantedOf w (typedUnitsFrom s c) = done-refused (i .done) (wantedOf w (typedUnitsFrom s here))
+        (wantedOf w (typedUnitsFrom s c)) (i .left) 21 (wanted-malformed s here r f w g) in
         rw (← o) (record { count = refl; unit = refl; inside = omega arith })
 
 -- what the start of a walk says of the whole list

@@ -17,7 +17,8 @@ use Rattle.unit_list.specs.declared.ListCursor.{ListCursor}
 use Rattle.unit_list.specs.declared.ArrayStep.the-variants as A
 use Rattle.unit_list.specs.declared.ChunkRead.{ChunkRead}
 use Rattle.unit_list.specs.declared.ChunkRead.the-variants as C
-use Rattle.unit_list.proofs.Arrays.{IsRefused, run-nil, run-step, run-refused, array-no-chunk, array-short, array-complete, array-type, arrays-step}
+use Rattle.unit_list.proofs.Arrays.{IsRefused, run-nil, run-step, run-refused, array-no-chunk}
+use Rattle.unit_list.proofs.Arrays.{array-short, array-complete, array-type, arrays-step}
 use Rattle.parse.specs.inner.Walk.{more}
 
 -- a chunk before an end
@@ -68,7 +69,8 @@ module _ (s : List ℕ) (c : ListCursor) (fits : Fits s c) where
       unit-inside = let l = whole in let h = chunk-read 4 (take (c .end) s) (c .at) a (a .start + a .len) e .fits in omega arith
 
       pub units-next : more a (arrayUnitsFrom s (record { at = a .start + a .len; end = c .end; «unit_type» = c .«unit_type» })) ≡ arrayUnitsFrom s c
-      units-next = sym (run-step (chunk 4) (take (c .end) s) (c .at) 21 some-left (chunk-advances 4 (take (c .end) s) (omega arith)) a (a .start + a .len) e)
+      units-next =
+          sym (run-step (chunk 4) (take (c .end) s) (c .at) 21 some-left (chunk-advances 4 (take (c .end) s) (omega arith)) a (a .start + a .len) e)
 
       pub unit-passed : Passed s c a (record { at = a .start + a .len; end = c .end; «unit_type» = c .«unit_type» })
       unit-passed =
@@ -105,7 +107,8 @@ module _ (s : List ℕ) (c : ListCursor) where
         arrays-type h = arrays-refused (array-type 4 s (c .end) a read two one h)
 
         pub arrays-entered : length s ≤ 2 ^ 30 → getD s (a .start + 1) 0 ≤ largestType
-            → (arraysStepped s (A.Array (getD s (a .start) 0) (record { at = a .start + 2; end = a .start + a .len; «unit_type» = getD s (a .start + 1) 0 })) ≡ arraysFrom s c)
+            → (arraysStepped s (A.Array (getD s (a .start) 0)
+            (record { at = a .start + 2; end = a .start + a .len; «unit_type» = getD s (a .start + 1) 0 })) ≡ arraysFrom s c)
             × Entered s c (getD s (a .start) 0) (record { at = a .start + 2; end = a .start + a .len; «unit_type» = getD s (a .start + 1) 0 })
         arrays-entered lent small =
             let b = chunk-read 4 s (c .end) a (a .start + a .len) read in (

@@ -20,7 +20,8 @@ wanted-typed : (w : Wanted) (t : ℕ) (us : List Span) (rest : List TypedUnit)
 unfolding typed wantedUnits
 wanted-typed w t us rest = go (wants w t) refl us
   where
-    go : (b : Bool) → wants w t ≡ b → (us : List Span) → wantedUnits w (typed t us ++ rest) ≡ (if b then us ++ wantedUnits w rest else wantedUnits w rest)
+    go : (b : Bool) → wants w t ≡ b
+        → (us : List Span) → wantedUnits w (typed t us ++ rest) ≡ (if b then us ++ wantedUnits w rest else wantedUnits w rest)
     go true h [] = refl
     go false h [] = refl
     go true h (a ∷ us) = rw h (ap (λ (l : List Span). a ∷ l) (go true h us))
@@ -38,7 +39,8 @@ wanted-type t [] = refl
 wanted-type t (a ∷ xs) = wanted-typed (OfType t) (a .unitType) (a .units) (typedUnits xs) ∙ rw (wanted-type t xs)
 
 -- the same of a list: what holds of the units of all arrays holds of those of a list
-lifted : (f : List TypedUnit → List Span) (g : List (Array Span) → List Span) → ((xs : List (Array Span)) → f (typedUnits xs) ≡ g xs) → (o : Outcome (List (Array Span)))
+lifted : (f : List TypedUnit → List Span) (g : List (Array Span) → List Span)
+    → ((xs : List (Array Span)) → f (typedUnits xs) ≡ g xs) → (o : Outcome (List (Array Span)))
     → andThen (andThen o (λ xs. accept (typedUnits xs))) (λ xs. accept (f xs)) ≡ andThen o (λ xs. accept (g xs))
 lifted f g h (accept xs) = ap accept (h xs)
 lifted f g h (refuse e) = refl

@@ -14,7 +14,9 @@ ghost use Prim.Native.Nat.{_≤_, _^_};
 ghost use lib.ListN.{length, take};
 ghost use Rattle.boxes.specs.Bytes.{chunk as chunkOf};
 ghost use Rattle.unit_list.specs.UnitList.{decode};
-ghost use Rattle.unit_list.specs.inner.Walk.{Fits, StartFits, chunkStepped, arrayUnitsFrom, unitsStepped, UnitStepFits, arraysFrom, arraysStepped, ArrayStepFits, typedList, started, arraysStarted, typedUnitsFrom, stepped, StepFits};
+ghost use Rattle.unit_list.specs.inner.Walk.{Fits, StartFits, chunkStepped, arrayUnitsFrom, unitsStepped};
+ghost use Rattle.unit_list.specs.inner.Walk.{UnitStepFits, arraysFrom, arraysStepped, ArrayStepFits, typedList};
+ghost use Rattle.unit_list.specs.inner.Walk.{started, arraysStarted, typedUnitsFrom, stepped, StepFits};
 
 // A length of `width` bytes and that many bytes, all before `end`.
 pub fn chunk(s: &[u8], at: usize, end: usize, width: usize) -> ChunkRead
@@ -37,7 +39,8 @@ pub fn chunk(s: &[u8], at: usize, end: usize, width: usize) -> ChunkRead
 
 // The cursor after the version, before the first array. Refusals: 23, 21 for no byte or another version.
 pub fn start(list: &[u8]) -> ListStart
-    ensures { λ r. ⌜ (started (now (list .entry)) r ≡ typedList (now (list .entry))) × (arraysStarted (now (list .entry)) r ≡ decode (now (list .entry))) × StartFits (now (list .entry)) r ⌝ }
+    ensures { λ r. ⌜ (started (now (list .entry)) r ≡ typedList (now (list .entry)))
+        × (arraysStarted (now (list .entry)) r ≡ decode (now (list .entry))) × StartFits (now (list .entry)) r ⌝ }
 {
     if LARGEST_INPUT < list.len() {
         return ListStart::Refused(Refusal::InputTooLong);

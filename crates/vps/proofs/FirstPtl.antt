@@ -29,14 +29,16 @@ pub vps-sections : (s : List ℕ) (p : ℕ) → vpsPtl s p ≡ bind (vpsFront s 
 unfolding vpsPtl vpsFront
 vps-sections s p =
     into-section (u 4 s p) _ _ _ (λ id p₁. into-section (u 6 s p₁) _ _ _ (λ layers p₂. into-section (u 3 s p₂) _ _ _ (λ m p₃.
-    into-section (refuseIf (not (eqb layers 0)) 15 s p₃) _ _ _ (λ _ p₄. into-section (u 6 s p₄) _ _ _ (λ layer p₅. into-section (align s p₅) _ _ _ (λ _ p₆. refl))))))
+    into-section (refuseIf (not (eqb layers 0)) 15 s p₃) _ _ _
+    (λ _ p₄. into-section (u 6 s p₄) _ _ _ (λ layer p₅. into-section (align s p₅) _ _ _ (λ _ p₆. refl))))))
 
 -- the sublayers number has three bits, and the PTL starts at a whole byte
 pub front-bounds : (s : List ℕ) (p m q : ℕ) → vpsFront s p ≡ value m q → (m ≤ 7) × (q % 8 ≡ 0)
 unfolding vpsFront
 front-bounds s p m q e =
     first-read (u 4 s p) _ e (λ id p₁ h₁ e₁. first-read (u 6 s p₁) _ e₁ (λ layers p₂ h₂ e₂. first-read (u 3 s p₂) _ e₂ (λ k p₃ h₃ e₃.
-    first-read (refuseIf (not (eqb layers 0)) 15 s p₃) _ e₃ (λ _ p₄ h₄ e₄. first-read (u 6 s p₄) _ e₄ (λ layer p₅ h₅ e₅. first-read (align s p₅) _ e₅ (λ _ p₆ h₆ e₆.
+    first-read (refuseIf (not (eqb layers 0)) 15 s p₃) _ e₃ (λ _ p₄ h₄ e₄. first-read (u 6 s p₄) _ e₄ (λ layer p₅ h₅ e₅.
+    first-read (align s p₅) _ e₅ (λ _ p₆ h₆ e₆.
     let x : k ≡ m = cc in
     let y : p₆ ≡ q = cc in
     let r = u-read 3 s p₂ k p₃ h₃ in
@@ -57,8 +59,10 @@ bits-zero : (x : Parsed VvcPtlRecord) → (outcome (orZeros zeroPtl x .0), orZer
 bits-zero (value p q) = refl
 bits-zero (refused e) = refl
 
-pub ptl-answered : (s : List ℕ) (f : BitsRead) (m : ℕ) (r : PtlBits) (a : ParamsAnswer) → parsed f ≡ vpsFront s 0 → m ≡ numberIn f → a ≡ paramsAnswerOf (r .answer)
-    → bits.ptlBitsOf r ≡ orZeros zeroPtl (bind (parsed f) (λ _ q. profileTierLevel m s q)) → (paramsReadOf a (r .ptl), r .ptl) ≡ readOr zeroPtl (vpsPtl s 0)
+pub ptl-answered : (s : List ℕ) (f : BitsRead) (m : ℕ) (r : PtlBits) (a : ParamsAnswer) → parsed f ≡ vpsFront s 0 → m ≡ numberIn f
+    → a ≡ paramsAnswerOf (r .answer)
+    → bits.ptlBitsOf r ≡ orZeros zeroPtl (bind (parsed f) (λ _ q. profileTierLevel m s q))
+    → (paramsReadOf a (r .ptl), r .ptl) ≡ readOr zeroPtl (vpsPtl s 0)
 ptl-answered s f m r a k n e h =
     rw (e, bits-answer (r .answer) (r .ptl), vps-sections s 0, bind-number f (λ m q. profileTierLevel m s q) k, ← n)
     (ap (λ (w : Parsed VvcPtlRecord × VvcPtlRecord). (outcome (w .0), w .1)) h ∙ bits-zero (bind (parsed f) (λ _ q. profileTierLevel m s q)))

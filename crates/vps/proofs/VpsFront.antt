@@ -25,7 +25,8 @@ use Rattle.bit_reader.proofs.ReaderCalls.{AtStart}
 use Rattle.vps.specs.inner.Front.{vpsFront, frontOf}
 
 -- ---- the answers where the three reads before the layer test returned values
-module _ (x₁ x₂ x₃ x₄ : BitsRead) (start i : ℕ) (p₁ : BitPosition) (h₁ : x₁ ≡ Value i p₁) (n : ℕ) (p₂ : BitPosition) (h₂ : x₂ ≡ Value n p₂) (m : ℕ) (p₃ : BitPosition) (h₃ : x₃ ≡ Value m p₃) where
+module _ (x₁ x₂ x₃ x₄ : BitsRead) (start i : ℕ) (p₁ : BitPosition) (h₁ : x₁ ≡ Value i p₁) (n : ℕ) (p₂ : BitPosition) (h₂ : x₂ ≡ Value n p₂) (m : ℕ)
+    (p₃ : BitPosition) (h₃ : x₃ ≡ Value m p₃) where
   abbrev said : Parsed ℕ
   said = frontOf (parsed x₁) (parsed x₂) (parsed x₃) (parsed x₄) start
 
@@ -41,7 +42,8 @@ module _ (x₁ x₂ x₃ x₄ : BitsRead) (start i : ℕ) (p₁ : BitPosition) (
 -- ---- the definition as four reads and the alignment, each from where the one before it left the reader
 module _ (s : List ℕ) where
   -- vps_layer_id[ 0 ]
-  layer-read : (m : ℕ) (x : Parsed ℕ) (p q : ℕ) → align s (readerPlaceAfter x p) ≡ value tt q → bind x (λ _ t. bind (align s t) (λ _ r. value m r)) ≡ bind x (λ _ _. value m q)
+  layer-read : (m : ℕ) (x : Parsed ℕ) (p q : ℕ) → align s (readerPlaceAfter x p) ≡ value tt q
+      → bind x (λ _ t. bind (align s t) (λ _ r. value m r)) ≡ bind x (λ _ _. value m q)
   layer-read m (value v t) p q h = ap (λ y. bind y (λ _ r. value m r)) h
   layer-read m (refused e) p q h = refl
 
@@ -50,13 +52,15 @@ module _ (s : List ℕ) where
 
   -- the layer test b, and what follows it
   tested : (b : Bool) (m t q : ℕ) → align s (afterLayer t) ≡ value tt q
-      → bind (refuseIf (not b) 15 s t) (λ _ r. bind (u 6 s r) (λ _ r. bind (align s r) (λ _ r. value m r))) ≡ (if b then bind (skipping 6 s t) (λ _ _. value m q) else refused 15)
+      → bind (refuseIf (not b) 15 s t) (λ _ r. bind (u 6 s r) (λ _ r. bind (align s r) (λ _ r. value m r)))
+      ≡ (if b then bind (skipping 6 s t) (λ _ _. value m q) else refused 15)
   tested true m t q h = passed-for-read 6 s t (λ r. bind (align s r) (λ _ r. value m r)) ∙ layer-read m (skipping 6 s t) t q h
   tested false m t q h = refl
 
   -- what follows vps_max_layers_minus1, and vps_max_sublayers_minus1
   abbrev afterLayers : ℕ → ℕ → Parsed ℕ
-  afterLayers n t = bind (u 3 s t) (λ m t. bind (refuseIf (not (eqb n 0)) 15 s t) (λ _ t. bind (u 6 s t) (λ _ t. bind (align s t) (λ _ r. value m r))))
+  afterLayers n t =
+      bind (u 3 s t) (λ m t. bind (refuseIf (not (eqb n 0)) 15 s t) (λ _ t. bind (u 6 s t) (λ _ t. bind (align s t) (λ _ r. value m r))))
 
   sublayers-read : (n : ℕ) (x : Parsed ℕ) (p q : ℕ) → align s (afterLayer (readerPlaceAfter x p)) ≡ value tt q
       → bind x (λ m t. bind (refuseIf (not (eqb n 0)) 15 s t) (λ _ t. bind (u 6 s t) (λ _ t. bind (align s t) (λ _ r. value m r))))
@@ -68,7 +72,8 @@ module _ (s : List ℕ) where
   afterSublayers p = readerPlaceAfter (u 3 s p) p
 
   layers-read : (x : Parsed ℕ) (p q : ℕ) → align s (afterLayer (afterSublayers (readerPlaceAfter x p))) ≡ value tt q
-      → bind x afterLayers ≡ bind x (λ n _. bind (u 3 s (readerPlaceAfter x p)) (λ m _. if eqb n 0 then bind (skipping 6 s (afterSublayers (readerPlaceAfter x p))) (λ _ _. value m q) else refused 15))
+      → bind x afterLayers ≡ bind x (λ n _. bind (u 3 s (readerPlaceAfter x p))
+      (λ m _. if eqb n 0 then bind (skipping 6 s (afterSublayers (readerPlaceAfter x p))) (λ _ _. value m q) else refused 15))
   layers-read (value n t) p q h = sublayers-read n (u 3 s t) t q h
   layers-read (refused e) p q h = refl
 
@@ -77,12 +82,14 @@ module _ (s : List ℕ) where
 
   id-read : (x : Parsed ℕ) (p q : ℕ) → align s (afterLayer (afterSublayers (afterBoth (readerPlaceAfter x p)))) ≡ value tt q
       → bind x (λ _ t. bind (u 6 s t) afterLayers)
-      ≡ frontOf x (u 6 s (readerPlaceAfter x p)) (u 3 s (afterBoth (readerPlaceAfter x p))) (skipping 6 s (afterSublayers (afterBoth (readerPlaceAfter x p)))) q
+      ≡ frontOf x (u 6 s (readerPlaceAfter x p)) (u 3 s (afterBoth (readerPlaceAfter x p)))
+      (skipping 6 s (afterSublayers (afterBoth (readerPlaceAfter x p)))) q
   id-read (value i t) p q h = layers-read (u 6 s t) t q h
   id-read (refused e) p q h = refl
 
   -- over the places that the steps leave
-  pub front-read : (p p₁ p₂ p₃ p₄ q : ℕ) → p₁ ≡ readerPlaceAfter (skipping 4 s p) p → p₂ ≡ readerPlaceAfter (u 6 s p₁) p₁ → p₃ ≡ readerPlaceAfter (u 3 s p₂) p₂ → p₄ ≡ readerPlaceAfter (skipping 6 s p₃) p₃
+  pub front-read : (p p₁ p₂ p₃ p₄ q : ℕ) → p₁ ≡ readerPlaceAfter (skipping 4 s p) p → p₂ ≡ readerPlaceAfter (u 6 s p₁) p₁
+      → p₃ ≡ readerPlaceAfter (u 3 s p₂) p₂ → p₄ ≡ readerPlaceAfter (skipping 6 s p₃) p₃
       → align s p₄ ≡ value tt q → vpsFront s p ≡ frontOf (skipping 4 s p) (u 6 s p₁) (u 3 s p₂) (skipping 6 s p₃) q
   unfolding vpsFront
   front-read p p₁ p₂ p₃ p₄ q e₁ e₂ e₃ e₄ h =
@@ -118,7 +125,8 @@ over P s d t e h = record {
 }
 
 -- the four steps, from the first bit on
-module _ (s : RefT (List ℕ)) (d : BitReader) (t₁ t₂ t₃ t₄ : ReaderStep) (from : AtStart s d) (h₁ : Stepped (skipping 4) d t₁) (h₂ : Stepped (u 6) (t₁ .reader) t₂) (h₃ : Stepped (u 3) (t₂ .reader) t₃) (h₄ : Stepped (skipping 6) (t₃ .reader) t₄) where
+module _ (s : RefT (List ℕ)) (d : BitReader) (t₁ t₂ t₃ t₄ : ReaderStep) (from : AtStart s d) (h₁ : Stepped (skipping 4) d t₁)
+    (h₂ : Stepped (u 6) (t₁ .reader) t₂) (h₃ : Stepped (u 3) (t₂ .reader) t₃) (h₄ : Stepped (skipping 6) (t₃ .reader) t₄) where
   o₁ : Over (skipping 4) s (d .pos .0) t₁
   o₁ = over (skipping 4) s d t₁ (from .0) h₁
 
@@ -144,5 +152,6 @@ module _ (s : RefT (List ℕ)) (d : BitReader) (t₁ t₂ t₃ t₄ : ReaderStep
       → frontOf (parsed (t₁ .answer)) (parsed (t₂ .answer)) (parsed (t₃ .answer)) (parsed (t₄ .answer)) (r .pos .0) ≡ vpsFront (now s) 0
   front-through r a =
       rw (o₁ .answer, o₂ .answer, o₃ .answer, o₄ .answer)
-      (sym (front-read (now s) (d .pos .0) _ _ _ (t₄ .reader .pos .0) (r .pos .0) (o₁ .place) (o₂ .place) (o₃ .place) (o₄ .place) (ap (λ x. align (now x) (t₄ .reader .pos .0)) (sym (o₄ .bytes)) ∙ a .place))
+      (sym (front-read (now s) (d .pos .0) _ _ _ (t₄ .reader .pos .0) (r .pos .0) (o₁ .place) (o₂ .place) (o₃ .place) (o₄ .place)
+      (ap (λ x. align (now x) (t₄ .reader .pos .0)) (sym (o₄ .bytes)) ∙ a .place))
       ∙ ap (vpsFront (now s)) (from .1))

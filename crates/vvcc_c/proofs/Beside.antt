@@ -33,18 +33,21 @@ use Rattle.parse.proofs.Output.{OutputAccepted, output-accepted}
 abbrev onward : {A B : Type 0} → Outcome (A × List ℕ) → List ℕ → (A × List ℕ → Outcome B) → Outcome B
 onward o scratch f = andThen o (λ r. if leb (length (r .1)) (length scratch) then f r else refuse 20)
 
-onward-bytes : {A B : Type 0} (b : A) (bytes scratch : List ℕ) (f : A × List ℕ → Outcome B) (n : ℕ) → _≡_ {A = Outcome A} (refuse n) (lentOutput (accept (b, bytes)) scratch .0)
+onward-bytes : {A B : Type 0} (b : A) (bytes scratch : List ℕ) (f : A × List ℕ → Outcome B) (n : ℕ)
+    → _≡_ {A = Outcome A} (refuse n) (lentOutput (accept (b, bytes)) scratch .0)
     → onward (accept (b, bytes)) scratch f ≡ refuse n
 onward-bytes {A} {B} b bytes scratch f n e =
     elim (decLe (length bytes) (length scratch)) [
-      | yes k ↦ absurd (let x : _≡_ {A = Outcome A} (refuse n) (accept b) = e ∙ rw (le-leb (length bytes) (length scratch) k) in let z : _≡_ {A = ℕ} 0 1 = cc in omega arith)
+      | yes k ↦ absurd (let x : _≡_ {A = Outcome A} (refuse n) (accept b) = e ∙ rw (le-leb (length bytes) (length scratch) k) in
+          let z : _≡_ {A = ℕ} 0 1 = cc in omega arith)
       | no k ↦ short (e ∙ rw (lt-leb (length bytes) (length scratch) (omega arith))) (omega arith)
     ]
   where
     short : _≡_ {A = Outcome A} (refuse n) (refuse 20) → length scratch < length bytes → onward (accept (b, bytes)) scratch f ≡ refuse n
     short x k = let s : n ≡ 20 = cc in rw (lt-leb (length bytes) (length scratch) k, s)
 
-onward-refused : {A B : Type 0} (o : Outcome (A × List ℕ)) (scratch : List ℕ) (f : A × List ℕ → Outcome B) (n : ℕ) → _≡_ {A = Outcome A} (refuse n) (lentOutput o scratch .0)
+onward-refused : {A B : Type 0} (o : Outcome (A × List ℕ)) (scratch : List ℕ) (f : A × List ℕ → Outcome B) (n : ℕ)
+    → _≡_ {A = Outcome A} (refuse n) (lentOutput o scratch .0)
     → onward o scratch f ≡ refuse n
 onward-refused (accept (b, bytes)) scratch f n e = onward-bytes b bytes scratch f n e
 onward-refused (refuse m) scratch f n e = let s : n ≡ m = cc in rw s
@@ -64,7 +67,8 @@ pub record ReadAs (s : List ℕ) (r : FullParsed) (list : List ℕ) : Type 0 whe
   pub same : list ≡ encode (heldArrays s (what .1))
   pub long : r .listLength ≡ length list
 
-parsed-as : (s : List ℕ) (x : Parsed (VvcConfig × List (Array Span))) → vvcRecord s 0 ≡ x → (r : FullParsed) (list : List ℕ) → fullParsed s x ≡ accept (r, list) → ReadAs s r list
+parsed-as : (s : List ℕ) (x : Parsed (VvcConfig × List (Array Span))) → vvcRecord s 0 ≡ x → (r : FullParsed) (list : List ℕ)
+    → fullParsed s x ≡ accept (r, list) → ReadAs s r list
 parsed-as s (refused e) w r list h = let z : _≡_ {A = ℕ} 0 1 = cc in absurd (omega arith)
 parsed-as s (value (head, arrays) p) w r list h =
     let parsed : FullParsed = record { head = head; consumed = p; listLength = length (encode (heldArrays s arrays)) } in
@@ -114,7 +118,8 @@ module _ (rec item scratch : List ℕ) (tols : Option ℕ) where
     read-here = lent-within item (parseFull rec) lent
 
     answered : fullAnswerOf (r .answer) (r .head) ≡ lentOutput (parseFull rec) scratch .0
-    answered = ap (λ (y : (Outcome FullParsed × VvcConfig) × List ℕ). y .0 .0) gave ∙ hands-first (λ f. f .head) zeroHead (lentOutput (parseFull rec) scratch .0)
+    answered = ap (λ (y : (Outcome FullParsed × VvcConfig) × List ℕ). y .0 .0) gave
+        ∙ hands-first (λ f. f .head) zeroHead (lentOutput (parseFull rec) scratch .0)
 
     left : exit ≡ lentOutput (parseFull rec) scratch .1
     left = ap (λ (y : (Outcome FullParsed × VvcConfig) × List ℕ). y .1) gave
@@ -157,6 +162,8 @@ module _ (rec item scratch : List ℕ) (tols : Option ℕ) where
     read-into = record { filled = scratch-filled; refused = stream-refused; fits = list-fits; made = stream-made }
 
 -- what assembly of the head and the list returned, and what it left in the output
-pub given-assembled : (o : Outcome (List ℕ)) (head : VvcConfig) (list item : List ℕ) (t tols : Option ℕ) (out exit : List ℕ) (w : Outcome ℕ) (r : VvccWritten)
-    → r ≡ writtenAnswer w → (w, exit) ≡ lentOutput (counted (assemble head list item t)) out → t ≡ tols → o ≡ assemble head list item tols → (r, exit) ≡ writtenGiven o out
+pub given-assembled : (o : Outcome (List ℕ)) (head : VvcConfig) (list item : List ℕ) (t tols : Option ℕ) (out exit : List ℕ)
+    (w : Outcome ℕ) (r : VvccWritten)
+    → r ≡ writtenAnswer w → (w, exit) ≡ lentOutput (counted (assemble head list item t)) out → t ≡ tols → o ≡ assemble head list item tols
+    → (r, exit) ≡ writtenGiven o out
 given-assembled o head list item t tols out exit w r f g h e = rw e (given-target (assemble head list item) t tols out exit w r f g h)

@@ -22,11 +22,13 @@ pub some-target : (h t : ℕ) → (h ≡ 0 → ⊥) → some t ≡ targetFrom h 
 some-target h t e = rw (ne-eqb h 0 e)
 
 -- a refusal leaves the output as it is
-pub given-refused : (o : Outcome (List ℕ)) (out : List ℕ) (n : ℕ) (r : VvccWritten) → r ≡ writtenAnswer (refuse n) → o ≡ refuse n → (r, out) ≡ writtenGiven o out
+pub given-refused : (o : Outcome (List ℕ)) (out : List ℕ) (n : ℕ) (r : VvccWritten) → r ≡ writtenAnswer (refuse n) → o ≡ refuse n
+    → (r, out) ≡ writtenGiven o out
 given-refused o out n r f e = rw (e, f)
 
 -- what the called function returned, and what it left in the output
-pub given-by : (o : Outcome (List ℕ)) (out exit : List ℕ) (w : Outcome ℕ) (r : VvccWritten) → r ≡ writtenAnswer w → (w, exit) ≡ lentOutput (counted o) out → (r, exit) ≡ writtenGiven o out
+pub given-by : (o : Outcome (List ℕ)) (out exit : List ℕ) (w : Outcome ℕ) (r : VvccWritten) → r ≡ writtenAnswer w
+    → (w, exit) ≡ lentOutput (counted o) out → (r, exit) ≡ writtenGiven o out
 given-by o out exit w r f e =
     ap (λ (x : VvccWritten). (x, exit)) f ∙ ap (λ (y : Outcome ℕ × List ℕ). (writtenAnswer (y .0), y .1)) e
 

@@ -39,7 +39,8 @@ pub extern "C" fn vvcc_still_record(
     height: u32,
     out: &mut [u8],
 ) -> VvccWritten
-    ensures { λ r. ⌜ (r, now (out .exit)) ≡ writtenGiven (stillRecord (now («record» .entry)) (record { «chroma_format_idc» = «chroma_format_idc»; «bit_depth» = «bit_depth»; width = width; height = height })) (now (out .entry)) ⌝ }
+    ensures { λ r. ⌜ (r, now (out .exit)) ≡ writtenGiven (stillRecord (now («record» .entry))
+        (record { «chroma_format_idc» = «chroma_format_idc»; «bit_depth» = «bit_depth»; width = width; height = height })) (now (out .entry)) ⌝ }
 {
     let picture = Picture {
         chroma_format_idc,
@@ -60,7 +61,8 @@ pub extern "C" fn vvcc_still_stream(
     target: u16,
     out: &mut [u8],
 ) -> VvccWritten
-    ensures { λ r. ⌜ (r, now (out .exit)) ≡ writtenGiven (stillStream (now («record» .entry)) (now (stored .entry)) (targetFrom «has_target» target)) (now (out .entry)) ⌝ }
+    ensures { λ r. ⌜ (r, now (out .exit))
+        ≡ writtenGiven (stillStream (now («record» .entry)) (now (stored .entry)) (targetFrom «has_target» target)) (now (out .entry)) ⌝ }
 {
     let tols = answers::target_from(has_target, target);
     let written = still_stream::still_stream(record, stored, tols, out);
@@ -78,7 +80,8 @@ pub extern "C" fn vvcc_access_unit(
     scratch: &mut [u8],
     out: &mut [u8],
 ) -> VvccWritten
-    ensures { λ r. ⌜ (r, now (out .exit)) ≡ writtenGiven (streamBeside (now («record» .entry)) (now (item .entry)) (targetFrom «has_target» target) (now (scratch .entry))) (now (out .entry)) ⌝ }
+    ensures { λ r. ⌜ (r, now (out .exit)) ≡ writtenGiven
+        (streamBeside (now («record» .entry)) (now (item .entry)) (targetFrom «has_target» target) (now (scratch .entry))) (now (out .entry)) ⌝ }
     ensures { λ _. ⌜ now (scratch .exit) ≡ scratchFilled (now («record» .entry)) (now (item .entry)) (now (scratch .entry)) ⌝ }
 {
     if LARGEST_INPUT < item.len() {

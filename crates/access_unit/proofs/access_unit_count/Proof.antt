@@ -19,14 +19,17 @@ measure-requires c κs = search needs
 
 -- what was measured
 known-at : (d : tie.After-measure) (v : Sizes) → d .measure .result ≡ Sized v
-    → Known (d .before .before .before .before .args .head .«length_size») (tolsOf (d .before .target-of .result)) (d .before .before .before .before .args .list .now) (d .before .before .before .before .args .item .now) v
+    → Known (d .before .before .before .before .args .head .«length_size») (tolsOf (d .before .target-of .result))
+    (d .before .before .before .before .args .list .now) (d .before .before .before .before .args .item .now) v
 known-at d v e = known _ _ _ _ v (ap sizesAnswerOf (sym e) ∙ d .measure .ensures)
 
 enum-known-measured : tie.Need-enum-known-measured
 enum-known-measured c = search needs
 
 add-count : tie.Need-add-count
-add-count c = let s = known-small _ _ _ _ _ (known-at (c .before .before .before .before) _ (c .before .before .measured .given .1)) in omega (arith, s .units)
+add-count c =
+    let s = known-small _ _ _ _ _ (known-at (c .before .before .before .before) _ (c .before .before .measured .given .1)) in
+    omega (arith, s .units)
 
 enum-known-measured-2 : tie.Need-enum-known-measured-2
 enum-known-measured-2 c = search needs
@@ -35,7 +38,8 @@ returns : tie.Need-returns
 returns c =
     let m = c .before .before .before .before in
     let a = m .before .before .before .before .args in
-    count-known (a .head) (a .list .now) (a .item .now) (tolsOf (a .tols)) _ (m .before .target-of .ensures) _ (known-at m _ (c .before .before .measured .given .1))
+    count-known (a .head) (a .list .now) (a .item .now) (tolsOf (a .tols)) _ (m .before .target-of .ensures) _
+    (known-at m _ (c .before .before .measured .given .1))
 
 returns-2 : tie.Need-returns-2
 returns-2 c =

@@ -41,17 +41,22 @@ enum-known-measured : tie.Need-enum-known-measured
 enum-known-measured c = search needs
 
 add-count : tie.Need-add-count
-add-count c = let s = known-small _ _ _ _ _ (known-at (c .before .before .before .before) _ (c .before .before .measured .given .1)) in omega (arith, s .units)
+add-count c =
+    let s = known-small _ _ _ _ _ (known-at (c .before .before .before .before) _ (c .before .before .measured .given .1)) in
+    omega (arith, s .units)
 
 stream-len-requires : tie.Need-stream-len-requires
-stream-len-requires c κs = let s = known-small _ _ _ _ _ (known-at (c .before .before .before .before) _ (c .before .before .measured .given .1)) in (omega (arith, s .units), omega (arith, s .bytes))
+stream-len-requires c κs =
+    let s = known-small _ _ _ _ _ (known-at (c .before .before .before .before) _ (c .before .before .measured .given .1)) in
+    (omega (arith, s .units), omega (arith, s .bytes))
 
 returns : tie.Need-returns
 returns c =
     let me = after-measure (c .before) in
     let a = start me .args in
     let m = made-at me _ (c .before .before .before .before .measured .given .1) in
-    written-short (assemble (a .head) (a .list .now) (a .item .now) (tolsOf (a .tols))) (a .out .now) (m .bytes) (m .given) (omega (arith, c .before .stream-len .ensures, m .long))
+    written-short (assemble (a .head) (a .list .now) (a .item .now) (tolsOf (a .tols))) (a .out .now) (m .bytes) (m .given)
+    (omega (arith, c .before .stream-len .ensures, m .long))
 
 put-stream-requires : tie.Need-put-stream-requires
 put-stream-requires c κs =
@@ -73,7 +78,8 @@ returns-2 c =
     let a = start me .args in
     let m = made-at me _ (sl .before .before .before .measured .given .1) in
     written-fits (assemble (a .head) (a .list .now) (a .item .now) (tolsOf (a .tols))) (a .out .now) (m .bytes) (m .given)
-    _ _ (sl .stream-len .ensures ∙ m .long) (c .before .before .before .before .if1 .left) (c .before .before .put-stream .ensures ∙ ap (sets (a .out .now) 0) (m .found))
+    _ _ (sl .stream-len .ensures ∙ m .long) (c .before .before .before .before .if1 .left)
+    (c .before .before .put-stream .ensures ∙ ap (sets (a .out .now) 0) (m .found))
 
 returns-3 : tie.Need-returns-3
 returns-3 c =

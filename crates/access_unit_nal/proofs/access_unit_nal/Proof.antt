@@ -24,7 +24,8 @@ returns : tie.Need-returns
 returns c =
     let a = c .before .before .before .before .before .args in
     let u = c .before .before .access-unit-nal-at in
-    part-listed (c .part-at .result) (a .list) (a .item) (u .result) (accessUnit (a .head) (a .list .now) (a .item .now) (tolsOf (a .tols))) (a .k) (u .ensures .0) (c .before .match .keys2) (c .part-at .ensures)
+    part-listed (c .part-at .result) (a .list) (a .item) (u .result) (accessUnit (a .head) (a .list .now) (a .item .now) (tolsOf (a .tols))) (a .k)
+    (u .ensures .0) (c .before .match .keys2) (c .part-at .ensures)
 
 part-requires : tie.Need-part-requires
 part-requires c κs =
@@ -35,7 +36,8 @@ returns-2 : tie.Need-returns-2
 returns-2 c =
     let a = c .before .before .before .before .before .before .before .args in
     let u = c .before .before .before .before .access-unit-nal-at in
-    part-kept (c .part .result) (a .list) (a .item) (u .result) (accessUnit (a .head) (a .list .now) (a .item .now) (tolsOf (a .tols))) (a .k) (u .ensures .0) _ (c .before .before .unit .given .1) (c .part .ensures)
+    part-kept (c .part .result) (a .list) (a .item) (u .result) (accessUnit (a .head) (a .list .now) (a .item .now) (tolsOf (a .tols))) (a .k)
+    (u .ensures .0) _ (c .before .before .unit .given .1) (c .part .ensures)
 
 pub access-unit-nal-spec : {M : Type 1} → statement M
 access-unit-nal-spec =

@@ -28,7 +28,8 @@ room-at : (c : tie.After-count) → RoomRead (start c .args .«record» .now) (c
 room-at c = subst (RoomSays (start c .args .«record» .now)) (c .count .given .1) (c .before .before .record-room .ensures)
 
 measured-at : (c : tie.After-count)
-    → let a = start c .args in UnitsMeasured (a .«record» .now) (recordUnits (a .«record» .now) (c .count .given .0 .0)) (c .count .given .0 .1 .0) (room-at c .after)
+    → let a = start c .args in
+    UnitsMeasured (a .«record» .now) (recordUnits (a .«record» .now) (c .count .given .0 .0)) (c .count .given .0 .1 .0) (room-at c .after)
 measured-at c = let r = room-at c in record { units = r .units; read = r .read; long = r .long }
 
 record-room-requires : tie.Need-record-room-requires
@@ -47,7 +48,8 @@ returns c =
     let r = room-at (c .before .before) in
     let l = list-long (map (held s) (r .units)) in
     output-short (parseCompact s) (a .out .now) _ (oneArray (map (held s) (r .units)))
-    (parse-read s (r .lent) (r .some) _ (r .counted) (r .units) _ (r .read) (r .end) _ (7 + c .before .before .count .given .0 .1 .0) refl (omega (arith, r .long)))
+    (parse-read s (r .lent) (r .some) _ (r .counted) (r .units) _ (r .read) (r .end) _ (7 + c .before .before .count .given .0 .1 .0) refl
+    (omega (arith, r .long)))
     (omega (arith, l, r .long, c .if1 .taken))
 
 byte-requires : tie.Need-byte-requires
@@ -79,13 +81,16 @@ returns-2 c =
     let m = measured-at co in
     let l = list-long (map (held s) (m .units)) in
     output-fits (parseCompact s) (a .out .now) _ (oneArray (map (held s) (m .units)))
-    (parse-read s (r .lent) (r .some) _ (r .counted) (m .units) _ (m .read) (r .end) (c .config-of .result) (7 + co .count .given .0 .1 .0) (c .config-of .ensures ∙ ap configOf (by .byte .ensures)) (omega (arith, m .long)))
-    _ (omega (arith, l, m .long, by .before .if1 .left)) (c .before .before .before .put-list .ensures ∙ ap (sets (a .out .now) 0) (measured-list _ _ _ _ m))
+    (parse-read s (r .lent) (r .some) _ (r .counted) (m .units) _ (m .read) (r .end) (c .config-of .result) (7 + co .count .given .0 .1 .0)
+    (c .config-of .ensures ∙ ap configOf (by .byte .ensures)) (omega (arith, m .long)))
+    _ (omega (arith, l, m .long, by .before .if1 .left))
+    (c .before .before .before .put-list .ensures ∙ ap (sets (a .out .now) 0) (measured-list _ _ _ _ m))
 
 returns-3 : tie.Need-returns-3
 returns-3 c =
     let a = c .before .before .before .before .before .before .args in
-    output-refused (parseCompact (a .«record» .now)) (a .out .now) _ (subst (RoomSays (a .«record» .now)) (c .before .e .given .1) (c .before .before .before .record-room .ensures))
+    output-refused (parseCompact (a .«record» .now)) (a .out .now) _
+    (subst (RoomSays (a .«record» .now)) (c .before .e .given .1) (c .before .before .before .record-room .ensures))
 
 pub parse-spec : {M : Type 1} → statement M
 parse-spec =

@@ -17,7 +17,10 @@ enum-known-c : tie.Need-enum-known-c
 enum-known-c c = search needs
 
 put-compact-requires : tie.Need-put-compact-requires
-put-compact-requires c κs = let g = c .before .before .c .given in subst (StartFits (c .before .before .before .before .before .before .before .args .list .now)) (g .1) (c .before .before .before .before .start .ensures .2)
+put-compact-requires c κs =
+    let g = c .before .before .c .given in
+    subst (StartFits (c .before .before .before .before .before .before .before .args .list .now)) (g .1)
+    (c .before .before .before .before .start .ensures .2)
 
 enum-known-e : tie.Need-enum-known-e
 enum-known-e c = search needs
@@ -32,7 +35,8 @@ returns c =
     let s = p .before .before .start in
     let g = p .c .given in
     c .before .before .put-compact .ensures
-    ∙ ap (λ (o : Outcome (List ℕ)). lentOutput (counted o) (a .out .now)) (serialize-start (a .config) (a .list .now) (s .result) (s .ensures) (g .0 .0) (g .1))
+    ∙ ap (λ (o : Outcome (List ℕ)). lentOutput (counted o) (a .out .now))
+    (serialize-start (a .config) (a .list .now) (s .result) (s .ensures) (g .0 .0) (g .1))
 
 returns-2 : tie.Need-returns-2
 returns-2 c =

@@ -24,7 +24,8 @@ returns-2 : tie.Need-returns-2
 returns-2 c =
     let s = c .before in
     let k = s .before .before .before in
-    size-inside _ _ _ _ _ (not-false _ (k .if1 .left)) (s .before .before .sub-width .ensures) (s .before .sub-height .ensures) (s .cropped-side .ensures) (c .cropped-side2 .ensures)
+    size-inside _ _ _ _ _ (not-false _ (k .if1 .left)) (s .before .before .sub-width .ensures) (s .before .sub-height .ensures)
+    (s .cropped-side .ensures) (c .cropped-side2 .ensures)
 
 pub cropped-size-spec : {M : Type 1} → statement M
 cropped-size-spec =

@@ -50,7 +50,9 @@ stands c =
     ) (c .match .came)
 
 cast-result : tie.Need-cast-result
-cast-result c = let h : c .match .result < 2 ^ 63 = omega (arith, stands c .1) in rw (toZ-pos w64 h) (tt, record { fits = omega (arith, stands c .1) })
+cast-result c =
+    let h : c .match .result < 2 ^ 63 = omega (arith, stands c .1) in
+    rw (toZ-pos w64 h) (tt, record { fits = omega (arith, stands c .1) })
 
 returns : tie.Need-returns
 returns c = let h : c .match .result < 2 ^ 63 = omega (arith, stands c .1) in rw (toZ-pos w64 h) (stands c .0)

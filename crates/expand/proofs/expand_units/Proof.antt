@@ -42,7 +42,8 @@ returns c =
     let a = eh .before .before .before .before .before .before .before .args in
     let us = unitsAt (a .list .now) (a .c) in
     let y = eh .before .before .before .before .sets-ptl in
-    let p = read-value zeroPtl (y .result .answer) (y .result .ptl) (setsPtl (a .config .«multi_layer_flag») us) (y .ensures) (eh .before .enum-told .given .1) in
+    let p = read-value zeroPtl (y .result .answer) (y .result .ptl) (setsPtl (a .config .«multi_layer_flag») us) (y .ensures)
+    (eh .before .enum-told .given .1) in
     c .before .before .put-expanded .ensures
     ∙ ap (λ (o : Outcome (FullHead × List ℕ)). expandedGiven o (a .out .now))
     (ap (λ (h : VvcConfig). withUnits h us) (eh .expanded-head .ensures) ∙ sym (sets-read (a .config) (a .picture) us (y .result .ptl) p))
@@ -53,7 +54,8 @@ returns-2 c =
     let a = an .before .before .before .before .before .before .args in
     let us = unitsAt (a .list .now) (a .c) in
     let y = an .before .before .before .sets-ptl in
-    let n = read-refusal zeroPtl (y .result .answer) (y .result .ptl) (setsPtl (a .config .«multi_layer_flag») us) (y .ensures) _ (an .answer .given .1) in
+    let n = read-refusal zeroPtl (y .result .answer) (y .result .ptl) (setsPtl (a .config .«multi_layer_flag») us) (y .ensures) _
+    (an .answer .given .1) in
     ap (λ (p : Outcome FullHead × VvcConfig). (p, a .out .now)) (c .refused .ensures)
     ∙ expanded-refused _ (a .out .now) _ (sets-refused (a .config) (a .picture) us _ n)
 

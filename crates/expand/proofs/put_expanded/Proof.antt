@@ -25,11 +25,13 @@ unfolding encode
 returns c =
     let a = c .before .before .before .before .before .args in
     ap (λ (p : Outcome FullHead × VvcConfig). (p, a .out .now)) (c .refused .ensures)
-    ∙ expanded-short (a .full-head) (unitsAt (a .list .now) (a .c)) (a .out .now) (omega (arith, c .before .if1 .taken, c .before .before .groups-len .ensures .0))
+    ∙ expanded-short (a .full-head) (unitsAt (a .list .now) (a .c)) (a .out .now)
+    (omega (arith, c .before .if1 .taken, c .before .before .groups-len .ensures .0))
 
 put-list-requires : tie.Need-put-list-requires
 unfolding encode
-put-list-requires c κs = (c .before .before .before .before .before .pre, omega (arith, c .before .if1 .left, c .before .before .groups-len .ensures .0))
+put-list-requires c κs =
+    (c .before .before .before .before .before .pre, omega (arith, c .before .if1 .left, c .before .before .groups-len .ensures .0))
 
 same-length : tie.Need-same-length
 same-length c = search needs
@@ -39,7 +41,8 @@ unfolding encode
 returns-2 c =
     let e = c .before .before .before .before in
     let a = e .before .before .before .before .args in
-    expanded-fits (a .full-head) (unitsAt (a .list .now) (a .c)) (a .out .now) _ _ (omega (arith, e .before .groups-len .ensures .0)) (omega (arith, e .if1 .left)) (c .before .before .put-list .ensures)
+    expanded-fits (a .full-head) (unitsAt (a .list .now) (a .c)) (a .out .now) _ _ (omega (arith, e .before .groups-len .ensures .0))
+    (omega (arith, e .if1 .left)) (c .before .before .put-list .ensures)
 
 pub put-expanded-spec : {M : Type 1} → statement M
 put-expanded-spec =

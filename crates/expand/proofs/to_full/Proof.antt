@@ -19,7 +19,8 @@ enum-known-c : tie.Need-enum-known-c
 enum-known-c c = search needs
 
 expand-units-requires : tie.Need-expand-units-requires
-expand-units-requires c κs = subst (StartReads (c .before .before .before .before .before .before .before .args .list .now)) (c .before .before .c .given .1) (c .before .before .before .before .start .ensures .1)
+expand-units-requires c κs = subst (StartReads (c .before .before .before .before .before .before .before .args .list .now))
+    (c .before .before .c .given .1) (c .before .before .before .before .start .ensures .1)
 
 enum-known-e : tie.Need-enum-known-e
 enum-known-e c = search needs
@@ -37,7 +38,8 @@ returns c =
     let s = a .list .now in
     let y = q .before .before .start in
     let e = sym (ap (startedUnits s) (q .c .given .1)) ∙ y .ensures .0 in
-    c .before .before .expand-units .ensures ∙ ap (λ (o : Outcome (FullHead × List ℕ)). expandedGiven o (a .out .now)) (sym (list-expanded (a .config) (a .picture) s _ e))
+    c .before .before .expand-units .ensures
+    ∙ ap (λ (o : Outcome (FullHead × List ℕ)). expandedGiven o (a .out .now)) (sym (list-expanded (a .config) (a .picture) s _ e))
 
 returns-2 : tie.Need-returns-2
 returns-2 c =
@@ -45,7 +47,8 @@ returns-2 c =
     let s = a .list .now in
     let y = c .before .before .before .before .start in
     let e = sym (ap (startedUnits s) (c .before .before .e .given .1)) ∙ y .ensures .0 in
-    ap (λ (p : Outcome FullHead × VvcConfig). (p, a .out .now)) (c .refused .ensures) ∙ expanded-refused _ (a .out .now) _ (list-refused (a .config) (a .picture) s _ e)
+    ap (λ (p : Outcome FullHead × VvcConfig). (p, a .out .now)) (c .refused .ensures)
+    ∙ expanded-refused _ (a .out .now) _ (list-refused (a .config) (a .picture) s _ e)
 
 pub to-full-spec : {M : Type 1} → statement M
 to-full-spec =

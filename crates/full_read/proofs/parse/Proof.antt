@@ -47,7 +47,8 @@ returns-2 c =
     let a = start rh .args in
     let r = rh .read-head in
     let w = head-read (r .result) (vvcHead (a .«record» .now) 0) (r .ensures) _ (an .answer .given .1) in
-    given-arrays (a .«record» .now) (a .out .now) (rh .before .if1 .left) _ _ w _ _ (c .before .before .before .read-list .ensures) _ (c .with-head .ensures)
+    given-arrays (a .«record» .now) (a .out .now) (rh .before .if1 .left) _ _ w _ _ (c .before .before .before .read-list .ensures) _
+    (c .with-head .ensures)
 
 returns-3 : tie.Need-returns-3
 returns-3 c =

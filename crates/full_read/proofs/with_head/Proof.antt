@@ -20,7 +20,8 @@ returns : tie.Need-returns
 returns c = ap (λ (l : ListRead). besideHead (c .before .before .before .args .head) (listOf l)) (sym (c .before .list .given .1))
 
 returns-2 : tie.Need-returns-2
-returns-2 c = c .refused .ensures ∙ ap (λ (l : ListRead). besideHead (c .before .before .before .before .args .head) (listOf l)) (sym (c .before .before .list2 .given .1))
+returns-2 c = c .refused .ensures
+    ∙ ap (λ (l : ListRead). besideHead (c .before .before .before .before .args .head) (listOf l)) (sym (c .before .before .list2 .given .1))
 
 pub with-head-spec : {M : Type 1} → statement M
 with-head-spec =

@@ -19,14 +19,18 @@ returns : tie.Need-returns
 returns c =
     let b = c .before .before .before in
     let a = b .args in
-    written-short (serializeFull (a .head) (a .list .now)) (a .out .now) (fullBytes (a .head) (heldArrays (a .list .now) (b .pre .arrays))) (b .pre .bytes) (omega (arith, c .if1 .taken, b .pre .long))
+    written-short (serializeFull (a .head) (a .list .now)) (a .out .now) (fullBytes (a .head) (heldArrays (a .list .now) (b .pre .arrays)))
+    (b .pre .bytes) (omega (arith, c .if1 .taken, b .pre .long))
 
 -- the output has room for the head
 put-head-requires : tie.Need-put-head-requires
 put-head-requires c κs =
     let b = c .before .before .before .before in
-    let a = b .args in
-    (b .pre .head, head-room (a .head) (a .list .now) (serializeFull (a .head) (a .list .now)) (a .c) (a .count) (a .len) (b .pre) (a .out .now) (c .before .if1 .left))
+    let a = b .args in (
+      b .pre .head,
+      head-room (a .head) (a .list .now) (serializeFull (a .head) (a .list .now)) (a .c) (a .count) (a .len) (b .pre) (a .out .now)
+          (c .before .if1 .left),
+    )
 
 cast-put : tie.Need-cast-put
 cast-put c = omega (arith, start (c .before .before .before) .pre .few)
@@ -43,8 +47,11 @@ put-arrays-requires c κs =
     let ph = after-put-head pu in
     let b = start ph in
     let a = b .args in
-    let p = ph .put-head .ensures in
-    (b .pre .fits, arrays-put (a .head) (a .list .now) (serializeFull (a .head) (a .list .now)) (a .c) (a .count) (a .len) (b .pre) (a .out .now) (ph .before .before .if1 .left) _ _ (p .0, p .1) _ (pu .put .ensures))
+    let p = ph .put-head .ensures in (
+      b .pre .fits,
+      arrays-put (a .head) (a .list .now) (serializeFull (a .head) (a .list .now)) (a .c) (a .count) (a .len) (b .pre) (a .out .now)
+          (ph .before .before .if1 .left) _ _ (p .0, p .1) _ (pu .put .ensures),
+    )
 
 same-length : tie.Need-same-length
 same-length c = search needs
@@ -56,8 +63,10 @@ returns-2 c =
     let b = start ph in
     let a = b .args in
     let p = ph .put-head .ensures in
-    written-fits (serializeFull (a .head) (a .list .now)) (a .out .now) (fullBytes (a .head) (heldArrays (a .list .now) (b .pre .arrays))) (b .pre .bytes) _ _ (b .pre .long) (ph .before .before .if1 .left)
-    (record-stored (a .head) (a .list .now) (serializeFull (a .head) (a .list .now)) (a .c) (a .count) (a .len) (b .pre) (a .out .now) (ph .before .before .if1 .left) _ _ (p .0, p .1) _ (pu .put .ensures) _ (c .before .before .put-arrays .ensures))
+    written-fits (serializeFull (a .head) (a .list .now)) (a .out .now) (fullBytes (a .head) (heldArrays (a .list .now) (b .pre .arrays)))
+    (b .pre .bytes) _ _ (b .pre .long) (ph .before .before .if1 .left)
+    (record-stored (a .head) (a .list .now) (serializeFull (a .head) (a .list .now)) (a .c) (a .count) (a .len) (b .pre) (a .out .now)
+    (ph .before .before .if1 .left) _ _ (p .0, p .1) _ (pu .put .ensures) _ (c .before .before .put-arrays .ensures))
 
 pub put-full-spec : {M : Type 1} → statement M
 put-full-spec =

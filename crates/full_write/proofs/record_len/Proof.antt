@@ -20,13 +20,15 @@ returns : tie.Need-returns
 returns c =
     let a = c .before .before .before .before .before .args in
     let g = c .before .len .given in
-    size-counted (a .head) (a .list .now) (serializeFull (a .head) (a .list .now)) (c .before .before .before .record-size .result) (c .before .before .before .record-size .ensures) (g .0 .0) (g .0 .1 .0) (g .0 .1 .1 .0) (g .1)
+    size-counted (a .head) (a .list .now) (serializeFull (a .head) (a .list .now)) (c .before .before .before .record-size .result)
+    (c .before .before .before .record-size .ensures) (g .0 .0) (g .0 .1 .0) (g .0 .1 .1 .0) (g .1)
 
 returns-2 : tie.Need-returns-2
 returns-2 c =
     let a = c .before .before .before .before .before .args in
     let g = c .before .e .given in
-    ap countFound (sym (size-refused (a .head) (a .list .now) (serializeFull (a .head) (a .list .now)) (c .before .before .before .record-size .result) (c .before .before .before .record-size .ensures) (g .0 .0) (g .1)))
+    ap countFound (sym (size-refused (a .head) (a .list .now) (serializeFull (a .head) (a .list .now))
+    (c .before .before .before .record-size .result) (c .before .before .before .record-size .ensures) (g .0 .0) (g .1)))
 
 pub record-len-spec : {M : Type 1} → statement M
 record-len-spec =

@@ -18,7 +18,8 @@ enum-known-c : tie.Need-enum-known-c
 enum-known-c c = search needs
 
 size-from-requires : tie.Need-size-from-requires
-size-from-requires c κs = subst (StartFits (c .before .before .before .before .before .args .list .now)) (c .before .c .given .1) (c .before .before .before .start .ensures .2)
+size-from-requires c κs = subst (StartFits (c .before .before .before .before .before .args .list .now)) (c .before .c .given .1)
+    (c .before .before .before .start .ensures .2)
 
 enum-known-e : tie.Need-enum-known-e
 enum-known-e c = search needs
@@ -28,14 +29,16 @@ returns c =
     let a = c .before .before .before .before .before .before .args in
     let g = c .before .before .c .given in
     subst (λ (o : Outcome (List ℕ)). SizeOf (a .head) (a .list .now) o (c .size-from .result))
-    (serialize-arrays (a .head) (a .list .now) (arraysFrom (a .list .now) (g .0 .0)) (sym (ap (arraysStarted (a .list .now)) (g .1)) ∙ c .before .before .before .before .start .ensures .1))
+    (serialize-arrays (a .head) (a .list .now) (arraysFrom (a .list .now) (g .0 .0))
+    (sym (ap (arraysStarted (a .list .now)) (g .1)) ∙ c .before .before .before .before .start .ensures .1))
     (c .size-from .ensures)
 
 returns-2 : tie.Need-returns-2
 returns-2 c =
     let a = c .before .before .before .before .before .args in
     let g = c .before .e .given in
-    sym (serialize-arrays (a .head) (a .list .now) (refuse (numberOf (g .0 .0))) (sym (ap (arraysStarted (a .list .now)) (g .1)) ∙ c .before .before .before .start .ensures .1))
+    sym (serialize-arrays (a .head) (a .list .now) (refuse (numberOf (g .0 .0)))
+    (sym (ap (arraysStarted (a .list .now)) (g .1)) ∙ c .before .before .before .start .ensures .1))
 
 pub record-size-spec : {M : Type 1} → statement M
 record-size-spec =

@@ -16,7 +16,8 @@ put-full-requires : tie.Need-put-full-requires
 put-full-requires c κs =
     let a = c .before .before .before .before .before .before .before .args in
     let g = c .before .before .c .given in
-    size-is (a .head) (a .list .now) (serializeFull (a .head) (a .list .now)) (c .before .before .before .before .record-size .result) (c .before .before .before .before .record-size .ensures) (g .0 .0) (g .0 .1 .0) (g .0 .1 .1 .0) (g .1)
+    size-is (a .head) (a .list .now) (serializeFull (a .head) (a .list .now)) (c .before .before .before .before .record-size .result)
+    (c .before .before .before .before .record-size .ensures) (g .0 .0) (g .0 .1 .0) (g .0 .1 .1 .0) (g .1)
 
 enum-known-e : tie.Need-enum-known-e
 enum-known-e c = search needs
@@ -32,7 +33,8 @@ returns-2 c =
     let a = c .before .before .before .before .before .before .args in
     let g = c .before .e .given in
     written-refused (serializeFull (a .head) (a .list .now)) (a .out .now) _
-    (size-refused (a .head) (a .list .now) (serializeFull (a .head) (a .list .now)) (c .before .before .before .record-size .result) (c .before .before .before .record-size .ensures) (g .0 .0) (g .1))
+    (size-refused (a .head) (a .list .now) (serializeFull (a .head) (a .list .now)) (c .before .before .before .record-size .result)
+    (c .before .before .before .record-size .ensures) (g .0 .0) (g .1))
 
 pub serialize-spec : {M : Type 1} → statement M
 serialize-spec =

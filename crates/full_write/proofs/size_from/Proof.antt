@@ -53,7 +53,8 @@ returns-3 c =
     (sym (c .before .record-fits .ensures) ∙ not-true (c .before .record-fits .result) (c .if2 .taken))
 
 -- every value fits its field
-all-fit : (c : tie.Else2) → let a = after-arrays c in headFits (start a .args .head) && (leb (a .arrays .given .0 .0 .count) 255 && a .arrays .given .0 .0 .fits) ≡ true
+all-fit : (c : tie.Else2) → let a = after-arrays c in
+    headFits (start a .args .head) && (leb (a .arrays .given .0 .0 .count) 255 && a .arrays .given .0 .0 .fits) ≡ true
 all-fit c = sym (c .before .record-fits .ensures) ∙ not-false (c .before .record-fits .result) (c .if2 .left)
 
 head-len-requires : tie.Need-head-len-requires
@@ -80,7 +81,8 @@ returns-4 c =
     let b = start a in
     let m = a .before .before .measure-arrays in
     let g = a .arrays .given in
-    record-sized (b .args .head) (b .args .list .now) (b .args .c) (b .pre) (m .result) (m .ensures) (g .0 .0) (g .1) (e .before .before .if1 .left) (all-fit e) _ (c .before .head-len .ensures .0)
+    record-sized (b .args .head) (b .args .list .now) (b .args .c) (b .pre) (m .result) (m .ensures) (g .0 .0) (g .1) (e .before .before .if1 .left)
+    (all-fit e) _ (c .before .head-len .ensures .0)
 
 pub size-from-spec : {M : Type 1} → statement M
 size-from-spec =

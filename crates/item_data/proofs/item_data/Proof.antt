@@ -31,7 +31,9 @@ returns c =
     written-short _ (start (c .before .before) .args .out .now) (t .bytes) (t .given) (omega (arith, t .long, c .if1 .taken))
 
 store-item-requires : tie.Need-store-item-requires
-store-item-requires c κs = let t = told-at (c .before .before .before) in record { item = t .bytes; found = t .given; room = omega (arith, t .long, c .before .if1 .left) }
+store-item-requires c κs =
+    let t = told-at (c .before .before .before) in
+    record { item = t .bytes; found = t .given; room = omega (arith, t .long, c .before .if1 .left) }
 
 enum-known-e : tie.Need-enum-known-e
 enum-known-e c = search needs

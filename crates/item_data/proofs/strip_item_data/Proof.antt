@@ -35,7 +35,8 @@ returns-2 c =
     let t = c .before .before .before .before in
     let a = start (t .before) .args in
     c .before .before .put-all .ensures
-    ∙ ap (λ (o : Outcome (List ℕ)). lentOutput (counted o) (a .out .now)) (sym (strip-copy (a .config) (a .item .now) (t .before .if1 .left) (t .if2 .taken)))
+    ∙ ap (λ (o : Outcome (List ℕ)). lentOutput (counted o) (a .out .now))
+    (sym (strip-copy (a .config) (a .item .now) (t .before .if1 .left) (t .if2 .taken)))
 
 find-still-requires : tie.Need-find-still-requires
 find-still-requires c κs = search needs
@@ -52,7 +53,8 @@ returns-3 c =
     let a = start (e .before) .args in
     let f = c .before .before .find-still in
     written-refused _ (a .out .now) 24
-    (strip-unit (a .config) (a .item .now) (e .before .if1 .left) (e .if2 .left) ∙ sym (f .ensures .0) ∙ ap (payloadOf (a .item .now)) (c .enum-told .given .1))
+    (strip-unit (a .config) (a .item .now) (e .before .if1 .left) (e .if2 .left) ∙ sym (f .ensures .0)
+    ∙ ap (payloadOf (a .item .now)) (c .enum-told .given .1))
 
 part-requires : tie.Need-part-requires
 part-requires c κs =

@@ -91,7 +91,8 @@ placeAfter (value a p) = p
 placeAfter (refused e) = 0
 
 -- the bytes were stored from place `start` of the output on; r has the places where reading and storing continue
-pub record StoredAt {A : Type 0} (f : List ℕ → A → List ℕ) (s : List ℕ) (x : Parsed A) (out : List ℕ) (start : ℕ) (exit : List ℕ) (r : Stored) : Type 0 where
+pub record StoredAt {A : Type 0} (f : List ℕ → A → List ℕ) (s : List ℕ) (x : Parsed A) (out : List ℕ) (start : ℕ) (exit : List ℕ)
+    (r : Stored) : Type 0 where
   pub written : exit ≡ sets out start (storedBytes f s x)
   pub from : r .from ≡ placeAfter x
   pub to : r .to ≡ start + length (storedBytes f s x)

@@ -6,7 +6,8 @@ use Rattle.replay.proofs.replay.Statement.{statement}
 use Rattle.replay.proofs.replay.Tie as tie
 
 abbrev Inv-loop : tie.InvT-loop
-Inv-loop space₀ input₀ out₀ turns₀ space input out turns = (length space ≡ length space₀) × (length input ≡ length input₀) × (length out ≡ length out₀)
+Inv-loop space₀ input₀ out₀ turns₀ space input out turns =
+    (length space ≡ length space₀) × (length input ≡ length input₀) × (length out ≡ length out₀)
 
 abbrev μ-loop : tie.MeasureT-loop
 μ-loop space₀ input₀ out₀ turns₀ space input out turns = turns

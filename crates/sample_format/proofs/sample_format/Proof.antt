@@ -26,7 +26,8 @@ returns-2 : tie.Need-returns-2
 returns-2 c =
     let a = c .before .before .before .before .before .args in
     let p = c .before .before .before .sps-at in
-    c .head-format .ensures ∙ list-head (a .head) (now (a .list)) (p .result) (p .ensures .0) (c .before .before .match .keys2) (c .before .if1 .taken)
+    c .head-format .ensures
+    ∙ list-head (a .head) (now (a .list)) (p .result) (p .ensures .0) (c .before .before .match .keys2) (c .before .if1 .taken)
 
 enum-known-sps-2 : tie.Need-enum-known-sps-2
 enum-known-sps-2 c = search needs
@@ -40,7 +41,8 @@ returns-3 c =
 part-requires : tie.Need-part-requires
 part-requires c κs =
     let p = c .before .before .before .before .before .sps-at in
-    first-inside (now (c .before .before .before .before .before .before .before .args .list)) (p .result) (p .ensures .1) (c .before .sps2 .given .0 .0) (c .before .sps2 .given .1)
+    first-inside (now (c .before .before .before .before .before .before .before .args .list)) (p .result) (p .ensures .1)
+    (c .before .sps2 .given .0 .0) (c .before .sps2 .given .1)
 
 sps-format-requires : tie.Need-sps-format-requires
 sps-format-requires c κs = search needs

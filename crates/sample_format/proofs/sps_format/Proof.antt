@@ -15,10 +15,12 @@ enum-known-answer : tie.Need-enum-known-answer
 enum-known-answer c = search needs
 
 returns : tie.Need-returns
-returns c = sps-read (now (c .before .before .before .before .before .args .sps)) (c .before .before .before .parse-nal .result) (c .before .before .before .parse-nal .ensures) (c .enum-told .given .1)
+returns c = sps-read (now (c .before .before .before .before .before .args .sps)) (c .before .before .before .parse-nal .result)
+    (c .before .before .before .parse-nal .ensures) (c .enum-told .given .1)
 
 returns-2 : tie.Need-returns-2
-returns-2 c = sps-refused (now (c .before .before .before .before .before .before .args .sps)) (c .before .before .before .before .parse-nal .result) (c .before .before .before .before .parse-nal .ensures) (c .before .answer .given .0 .0) (c .before .answer .given .1)
+returns-2 c = sps-refused (now (c .before .before .before .before .before .before .args .sps)) (c .before .before .before .before .parse-nal .result)
+    (c .before .before .before .before .parse-nal .ensures) (c .before .answer .given .0 .0) (c .before .answer .given .1)
 
 pub sps-format-spec : {M : Type 1} → statement M
 sps-format-spec =

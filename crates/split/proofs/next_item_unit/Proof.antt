@@ -25,7 +25,8 @@ returns-2 c =
 returns-3 : tie.Need-returns-3
 returns-3 c =
     let a = c .before .before .before .before .before .args in
-    sym (next-step (a .length-size) (a .item .now) (a .from) (omega arith) (sym (c .before .before .outside .ensures) ∙ c .before .if2 .left) ∙ step-end (a .length-size) (a .item .now) (a .from) (c .if3 .taken))
+    sym (next-step (a .length-size) (a .item .now) (a .from) (omega arith) (sym (c .before .before .outside .ensures) ∙ c .before .if2 .left)
+    ∙ step-end (a .length-size) (a .item .now) (a .from) (c .if3 .taken))
 
 wide-requires : tie.Need-wide-requires
 wide-requires c κs = search needs
@@ -40,7 +41,8 @@ returns-4 c =
     let a = c .before .before .before .before .before .before .before .args in
     let w : c .before .wide .result ≡ a .length-size = c .before .wide .ensures .0 in
     c .item-step .ensures ∙ ap (λ (n : ℕ). itemStep n (a .item .now) (a .from)) w
-    ∙ sym (next-step (a .length-size) (a .item .now) (a .from) (omega arith) (sym (c .before .before .before .before .outside .ensures) ∙ c .before .before .before .if2 .left))
+    ∙ sym (next-step (a .length-size) (a .item .now) (a .from) (omega arith)
+    (sym (c .before .before .before .before .outside .ensures) ∙ c .before .before .before .if2 .left))
 
 pub next-item-unit-spec : {M : Type 1} → statement M
 next-item-unit-spec =

@@ -57,7 +57,8 @@ returns-3 c =
     let k = c .before .before .before .before in
     let a = k .before .before .before .before .before .args in
     let s : List ℕ = a .stream .now in
-    let u = step-unit s (k .walk .code) (k .walk .inv .1) (omega arith) (c .before .before .start-code2 .result) (c .before .trimmed .result) (c .before .before .start-code2 .ensures .0) (c .before .trimmed .ensures .0) (c .if3 .taken) in
+    let u = step-unit s (k .walk .code) (k .walk .inv .1) (omega arith) (c .before .before .start-code2 .result) (c .before .trimmed .result)
+    (c .before .before .start-code2 .ensures .0) (c .before .trimmed .ensures .0) (c .if3 .taken) in
     sym (given-lent s (a .from) _ (omega arith) (sym (k .walk .inv .2) ∙ u))
 
 walk-less : tie.Need-walk-less Inv-walk μ-walk

@@ -17,7 +17,8 @@ returns : tie.Need-returns
 returns c =
     let u = c .before .split-annex-b-at in
     let a = c .before .before .before .args in
-    subst (PartOf (c .part-at .result) (a .stream)) (place-found (u .result) (splitStream (a .stream .now)) (a .k) (u .ensures .0)) (c .part-at .ensures)
+    subst (PartOf (c .part-at .result) (a .stream)) (place-found (u .result) (splitStream (a .stream .now)) (a .k) (u .ensures .0))
+    (c .part-at .ensures)
 
 pub split-annex-b-spec : {M : Type 1} → statement M
 split-annex-b-spec = tie.close (tie.spec split-annex-b-at-requires part-at-requires returns)

@@ -13,7 +13,8 @@ use Rattle.split.proofs.split_annex_b_at.Statement.{statement}
 use Rattle.split.proofs.split_annex_b_at.Tie as tie
 
 abbrev Inv-walk : tie.InvT-walk
-Inv-walk stream k at₀ left₀ at left = (at ≤ length stream) × (placeFound inFirst (streamLeft stream at) left ≡ placeFound inFirst (splitStream stream) k)
+Inv-walk stream k at₀ left₀ at left =
+    (at ≤ length stream) × (placeFound inFirst (streamLeft stream at) left ≡ placeFound inFirst (splitStream stream) k)
 
 abbrev μ-walk : tie.MeasureT-walk
 μ-walk stream k at₀ left₀ at left = length stream - at
@@ -31,7 +32,8 @@ enum-known-next c = search needs
 passed : (c : tie.After-known-told Inv-walk μ-walk)
     → Passed (c .before .before .before .before .before .before .args .stream .now) (c .before .before .before .before .walk .at)
     (c .before .next .given .0 .0) (c .before .next .given .0 .1 .0)
-passed c = next-passed _ _ (c .before .before .before .next-unit .result) (c .before .before .before .next-unit .ensures) _ _ (c .before .next .given .1)
+passed c =
+    next-passed _ _ (c .before .before .before .next-unit .result) (c .before .before .before .next-unit .ensures) _ _ (c .before .next .given .1)
 
 sub-left : tie.Need-sub-left Inv-walk μ-walk
 sub-left c = search needs
@@ -68,7 +70,8 @@ returns-3 : tie.Need-returns-3 Inv-walk μ-walk
 returns-3 c =
     let l = c .before .before .before .before in
     let s = l .before .before .args .stream .now in
-    let e = next-refused s (l .walk .at) (c .before .before .before .next-unit .result) (c .before .before .before .next-unit .ensures) _ (c .before .next2 .given .1) in
+    let e = next-refused s (l .walk .at) (c .before .before .before .next-unit .result) (c .before .before .before .next-unit .ensures) _
+    (c .before .next2 .given .1) in
     (place-refused inFirst (streamLeft s (l .walk .at)) (l .walk .left) _ (ap countFound e) ∙ l .walk .inv .1, tt)
 
 pub split-annex-b-at-spec : {M : Type 1} → statement M

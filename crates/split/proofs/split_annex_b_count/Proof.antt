@@ -31,7 +31,8 @@ enum-known-next c = search needs
 passed : (c : tie.After-known-told Inv-walk μ-walk)
     → Passed (c .before .before .before .before .before .before .args .stream .now) (c .before .before .before .before .walk .at)
     (c .before .next .given .0 .0) (c .before .next .given .0 .1 .0)
-passed c = next-passed _ _ (c .before .before .before .next-unit .result) (c .before .before .before .next-unit .ensures) _ _ (c .before .next .given .1)
+passed c =
+    next-passed _ _ (c .before .before .before .next-unit .result) (c .before .before .before .next-unit .ensures) _ _ (c .before .next .given .1)
 
 add-n : tie.Need-add-n Inv-walk μ-walk
 add-n c = let t = passed c in omega arith
@@ -43,8 +44,11 @@ walk-again : tie.Need-walk-again Inv-walk μ-walk
 walk-again c =
     let k = c .before .before .before .before in
     let s = k .before .before .args .stream .now in
-    let t = passed c in
-    (omega arith, omega arith, count-on _ _ (streamLeft s (k .walk .at)) (k .walk .inv .2) _ (streamLeft s (c .before .next .given .0 .1 .0)) (passed-more s _ _ _ t))
+    let t = passed c in (
+      omega arith,
+      omega arith,
+      count-on _ _ (streamLeft s (k .walk .at)) (k .walk .inv .2) _ (streamLeft s (c .before .next .given .0 .1 .0)) (passed-more s _ _ _ t),
+    )
 
 enum-told : tie.Need-enum-told Inv-walk μ-walk
 enum-told c = search needs
@@ -57,7 +61,8 @@ returns c =
     let k = c .before .before .before .before in
     let s = k .before .before .args .stream .now in
     count-refused _ _ (streamLeft s (k .walk .at)) (k .walk .inv .2) _
-    (next-refused s (k .walk .at) (c .before .before .before .next-unit .result) (c .before .before .before .next-unit .ensures) _ (c .before .next2 .given .1))
+    (next-refused s (k .walk .at) (c .before .before .before .next-unit .result) (c .before .before .before .next-unit .ensures) _
+    (c .before .next2 .given .1))
 
 returns-2 : tie.Need-returns-2 Inv-walk μ-walk
 returns-2 c =

@@ -17,7 +17,8 @@ returns : tie.Need-returns
 returns c =
     let u = c .before .split-length-prefixed-at in
     let a = c .before .before .before .args in
-    subst (PartOf (c .part-at .result) (a .item)) (place-found (u .result) (splitItem (a .length-size) (a .item .now)) (a .k) (u .ensures .0)) (c .part-at .ensures)
+    subst (PartOf (c .part-at .result) (a .item)) (place-found (u .result) (splitItem (a .length-size) (a .item .now)) (a .k) (u .ensures .0))
+    (c .part-at .ensures)
 
 pub split-length-prefixed-spec : {M : Type 1} → statement M
 split-length-prefixed-spec = tie.close (tie.spec split-length-prefixed-at-requires part-at-requires returns)

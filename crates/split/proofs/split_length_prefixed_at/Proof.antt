@@ -20,17 +20,22 @@ enum-known-counted c = search needs
 returns : tie.Need-returns
 returns c =
     let f = c .before .before .before .before in
-    let a = f .before .before .args in
-    (place-past inFirst (splitItem (a .length-size) (a .item .now)) (a .k) _ (sym (f .split-length-prefixed-count .ensures) ∙ ap countOf (c .before .before .counted .given .1)) (c .if1 .taken), tt)
+    let a = f .before .before .args in (
+      place-past inFirst (splitItem (a .length-size) (a .item .now)) (a .k) _
+          (sym (f .split-length-prefixed-count .ensures) ∙ ap countOf (c .before .before .counted .given .1)) (c .if1 .taken),
+      tt,
+    )
 
 wide-requires : tie.Need-wide-requires
 wide-requires c κs = search needs
 
 -- the item was counted
 sound : (c : tie.Else1)
-    → Sound (c .before .before .before .before .before .before .args .length-size) (c .before .before .before .before .before .before .args .item .now)
+    → Sound (c .before .before .before .before .before .before .args .length-size)
+    (c .before .before .before .before .before .before .args .item .now)
     (c .before .before .counted .given .0 .0)
-sound c = split-sound _ _ _ (sym (c .before .before .before .before .split-length-prefixed-count .ensures) ∙ ap countOf (c .before .before .counted .given .1))
+sound c = split-sound _ _ _
+    (sym (c .before .before .before .before .split-length-prefixed-count .ensures) ∙ ap countOf (c .before .before .counted .given .1))
 
 item-unit-requires : tie.Need-item-unit-requires
 item-unit-requires c κs =
@@ -46,14 +51,20 @@ returns-2 c =
     let e = c .before .before in
     let a = e .before .before .before .before .before .before .args in
     let s = sound e in
-    let w : c .before .wide .result ≡ a .length-size = c .before .wide .ensures .0 in
-    (place-there (splitItem (a .length-size) (a .item .now)) (a .k) _ (ap countFound (s .whole) ∙ s .counted) (omega arith) (c .item-unit .result) (rw (s .whole, ← w) (c .item-unit .ensures .0)), c .item-unit .ensures .1)
+    let w : c .before .wide .result ≡ a .length-size = c .before .wide .ensures .0 in (
+      place-there (splitItem (a .length-size) (a .item .now)) (a .k) _ (ap countFound (s .whole) ∙ s .counted) (omega arith) (c .item-unit .result)
+          (rw (s .whole, ← w) (c .item-unit .ensures .0)),
+      c .item-unit .ensures .1,
+    )
 
 returns-3 : tie.Need-returns-3
 returns-3 c =
     let f = c .before .before .before in
-    let a = f .before .before .args in
-    (place-refused inFirst (splitItem (a .length-size) (a .item .now)) (a .k) _ (sym (f .split-length-prefixed-count .ensures) ∙ ap countOf (c .before .counted2 .given .1)), tt)
+    let a = f .before .before .args in (
+      place-refused inFirst (splitItem (a .length-size) (a .item .now)) (a .k) _
+          (sym (f .split-length-prefixed-count .ensures) ∙ ap countOf (c .before .counted2 .given .1)),
+      tt,
+    )
 
 pub split-length-prefixed-at-spec : {M : Type 1} → statement M
 split-length-prefixed-at-spec =

@@ -20,7 +20,8 @@ outside-requires c κs = search needs
 returns-2 : tie.Need-returns-2
 returns-2 c =
     let a = c .before .before .before .before .args in
-    ap countFound (sym (split-lent (a .length-size) (a .item .now) (omega arith) ∙ items-outside (a .length-size) (a .item .now) (sym (c .before .outside .ensures) ∙ c .if2 .taken)))
+    ap countFound (sym (split-lent (a .length-size) (a .item .now) (omega arith)
+    ∙ items-outside (a .length-size) (a .item .now) (sym (c .before .outside .ensures) ∙ c .if2 .taken)))
 
 wide-requires : tie.Need-wide-requires
 wide-requires c κs = search needs
@@ -37,7 +38,8 @@ returns-3 c =
     let a = c .before .before .before .before .before .before .args in
     let z = inside (c .before .before) in
     let w : c .before .wide .result ≡ a .length-size = c .before .wide .ensures .0 in
-    rw (split-lent (a .length-size) (a .item .now) (omega arith), items-left (a .length-size) (a .item .now) (z .0) (z .1), ← w) (c .item-count .ensures)
+    rw (split-lent (a .length-size) (a .item .now) (omega arith), items-left (a .length-size) (a .item .now) (z .0) (z .1), ← w)
+    (c .item-count .ensures)
 
 pub split-length-prefixed-count-spec : {M : Type 1} → statement M
 split-length-prefixed-count-spec =

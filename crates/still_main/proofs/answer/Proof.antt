@@ -16,11 +16,13 @@ enum-known-written : tie.Need-enum-known-written
 enum-known-written c = search needs
 
 -- the stream that was written lies in the output
-within-at : (c : tie.After-known-told) → c .before .written .given .0 .0 ≤ length (c .before .before .before .before .before .input-stream .last .1 .0)
+within-at : (c : tie.After-known-told)
+    → c .before .written .given .0 .0 ≤ length (c .before .before .before .before .before .input-stream .last .1 .0)
 within-at c =
     let s = c .before .before .before .before .before in
     let a = s .before .before .before .before .args in
-    answer-within (inputStream (a .input .now)) (a .out .now) _ _ _ (c .before .written .given .1) (c .before .before .before .before .before .input-stream .ensures)
+    answer-within (inputStream (a .input .now)) (a .out .now) _ _ _ (c .before .written .given .1)
+    (c .before .before .before .before .before .input-stream .ensures)
 
 slice-aggregate-write-open : tie.Need-slice-aggregate-write-open
 slice-aggregate-write-open c = search needs

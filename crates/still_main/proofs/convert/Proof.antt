@@ -17,7 +17,8 @@ enum-known-written : tie.Need-enum-known-written
 enum-known-written c = search needs
 
 -- the stream that was written lies in the output
-within-at : (c : tie.After-known-told) → c .before .written .given .0 .0 ≤ length (c .before .before .before .before .before .still-stream .last .1 .1 .1 .0)
+within-at : (c : tie.After-known-told)
+    → c .before .written .given .0 .0 ≤ length (c .before .before .before .before .before .still-stream .last .1 .1 .1 .0)
 within-at c =
     let s = c .before .before .before .before .before in
     let a = s .before .before .before .before .before .args in

@@ -30,7 +30,8 @@ returns-2 : tie.Need-returns-2
 returns-2 c =
     let a = c .before .before .before .before .before .before .args in
     written-refused (inputStream (a .input .now)) (a .out .now) 1
-    (input-cut (a .input .now) (c .before .before .before .if1 .left) (sym (ap chunkStepped (c .enum-told .given .1)) ∙ c .before .before .chunk .ensures))
+    (input-cut (a .input .now) (c .before .before .before .if1 .left)
+    (sym (ap chunkStepped (c .enum-told .given .1)) ∙ c .before .before .chunk .ensures))
 
 -- Earlier places of the function, each seen from a later one.
 abbrev start : (c : tie.After-chunk) → tie.Start
@@ -74,7 +75,8 @@ returns-3 c =
     let g = d .before .before .read .given in
     let k = after-chunk d in
     given-as _ _ _ _
-    (input-given _ (k .before .if1 .left) (g .0 .0) _ (c .before .before .before .before .before .part .ensures .holds) (sym (ap chunkStepped (g .1)) ∙ k .chunk .ensures))
+    (input-given _ (k .before .if1 .left) (g .0 .0) _ (c .before .before .before .before .before .part .ensures .holds)
+    (sym (ap chunkStepped (g .1)) ∙ k .chunk .ensures))
     (c .before .before .still-stream .ensures)
 
 pub input-stream-spec : {M : Type 1} → statement M

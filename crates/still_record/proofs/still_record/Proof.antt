@@ -38,7 +38,8 @@ read-at : (c : tie.After-known-told)
 read-at c =
     let p = after-parse c in
     let y = p .parse in
-    was-read _ (bytes-at (p .before)) _ _ _ _ _ (ap (λ (x : CompactRead). (compactOf x, y .last .1 .0)) (sym (c .before .read .given .1)) ∙ y .ensures) (omega arith)
+    was-read _ (bytes-at (p .before)) _ _ _ _ _
+    (ap (λ (x : CompactRead). (compactOf x, y .last .1 .0)) (sym (c .before .read .given .1)) ∙ y .ensures) (omega arith)
 
 array-share-prefix-list : tie.Need-array-share-prefix-list
 array-share-prefix-list c = read-at c .within
@@ -56,7 +57,8 @@ same-length : tie.Need-same-length
 same-length c = search needs
 
 returns : tie.Need-returns
-returns c = given-as _ _ _ _ (record-read _ _ _ _ (read-at (c .before .before .before .before .before) .given)) (c .before .before .put-still .ensures)
+returns c =
+    given-as _ _ _ _ (record-read _ _ _ _ (read-at (c .before .before .before .before .before) .given)) (c .before .before .put-still .ensures)
 
 returns-2 : tie.Need-returns-2
 returns-2 c =

@@ -31,15 +31,20 @@ returns : tie.Need-returns
 returns c =
     let il = c .before .before .before .before .before .before in
     let b = start il in
-    given-as _ _ _ _ (stream-layers _ _ _ _ _ (ready _ _ _ (b .pre .0)) _ (sym (ap countOf (il .item-len .given .1)) ∙ il .before .before .restored-len .ensures) (b .pre .1) (c .before .before .before .before .if1 .taken))
+    given-as _ _ _ _ (stream-layers _ _ _ _ _ (ready _ _ _ (b .pre .0)) _ (sym (ap countOf (il .item-len .given .1))
+    ∙ il .before .before .restored-len .ensures) (b .pre .1) (c .before .before .before .before .if1 .taken))
     (c .before .before .access-unit-annex-b .ensures)
 
 put-plain-requires : tie.Need-put-plain-requires
 put-plain-requires c κs =
     let il = c .before .before .before in
     let b = start il in
-    let r = ready _ _ _ (b .pre .0) in
-    (r .plain, b .pre .1, plain-item _ _ _ _ (tolsOf (b .args .tols)) r _ (sym (ap countOf (il .item-len .given .1)) ∙ il .before .before .restored-len .ensures) (b .pre .1) (c .before .if1 .left))
+    let r = ready _ _ _ (b .pre .0) in (
+      r .plain,
+      b .pre .1,
+      plain-item _ _ _ _ (tolsOf (b .args .tols)) r _ (sym (ap countOf (il .item-len .given .1)) ∙ il .before .before .restored-len .ensures)
+          (b .pre .1) (c .before .if1 .left),
+    )
 
 enum-known-e : tie.Need-enum-known-e
 enum-known-e c = search needs
@@ -51,7 +56,8 @@ returns-2 : tie.Need-returns-2
 returns-2 c =
     let il = c .before .before .before .before .before .before in
     let b = start il in
-    given-as _ _ _ _ (stream-plain _ _ _ _ _ (ready _ _ _ (b .pre .0)) _ (sym (ap countOf (il .item-len .given .1)) ∙ il .before .before .restored-len .ensures) (b .pre .1) (c .before .before .before .before .if1 .left))
+    given-as _ _ _ _ (stream-plain _ _ _ _ _ (ready _ _ _ (b .pre .0)) _ (sym (ap countOf (il .item-len .given .1))
+    ∙ il .before .before .restored-len .ensures) (b .pre .1) (c .before .before .before .before .if1 .left))
     (c .before .before .put-plain .ensures)
 
 returns-3 : tie.Need-returns-3
@@ -59,7 +65,8 @@ returns-3 c =
     let b = c .before .before .before .before .before .before .before in
     let a = b .args in
     written-refused (streamExpanded (a .config) (a .head) (a .list .now) (a .stored .now) (tolsOf (a .tols))) (a .out .now) _
-    (stream-refused _ _ _ _ _ (ready _ _ _ (b .pre .0)) _ (sym (ap countOf (c .before .e .given .1)) ∙ c .before .before .before .restored-len .ensures))
+    (stream-refused _ _ _ _ _ (ready _ _ _ (b .pre .0)) _
+    (sym (ap countOf (c .before .e .given .1)) ∙ c .before .before .before .restored-len .ensures))
 
 pub put-expanded-spec : {M : Type 1} → statement M
 put-expanded-spec =

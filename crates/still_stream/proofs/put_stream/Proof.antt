@@ -36,7 +36,8 @@ expanded-at c =
     let tf = after-to-full c in
     let y = tf .to-full in
     was-expanded _ anyPicture _ (start tf .pre .0) _ (y .result .head) _ _
-    (ap (λ (x : ExpandAnswer). ((expandAnswerOf x (y .result .head), y .result .head), y .last .1 .1 .1 .0)) (sym (c .before .answer .given .1)) ∙ y .ensures) (omega arith)
+    (ap (λ (x : ExpandAnswer). ((expandAnswerOf x (y .result .head), y .result .head), y .last .1 .1 .1 .0)) (sym (c .before .answer .given .1))
+    ∙ y .ensures) (omega arith)
 
 array-share-prefix-grouped : tie.Need-array-share-prefix-grouped
 array-share-prefix-grouped c = expanded-at c .within
@@ -54,7 +55,8 @@ same-length : tie.Need-same-length
 same-length c = search needs
 
 returns : tie.Need-returns
-returns c = given-as _ _ _ _ (stream-expanded _ _ _ _ _ _ (expanded-at (c .before .before .before .before .before) .given)) (c .before .before .put-expanded .ensures)
+returns c = given-as _ _ _ _ (stream-expanded _ _ _ _ _ _ (expanded-at (c .before .before .before .before .before) .given))
+    (c .before .before .put-expanded .ensures)
 
 returns-2 : tie.Need-returns-2
 returns-2 c =
@@ -62,7 +64,8 @@ returns-2 c =
     let s = start tf in
     let a = s .args in
     let y = tf .to-full in
-    let e = ap (λ (x : ExpandAnswer). ((expandAnswerOf x (y .result .head), y .result .head), y .last .1 .1 .1 .0)) (sym (c .before .answer2 .given .1)) ∙ y .ensures in
+    let e = ap (λ (x : ExpandAnswer). ((expandAnswerOf x (y .result .head), y .result .head), y .last .1 .1 .1 .0))
+    (sym (c .before .answer2 .given .1)) ∙ y .ensures in
     written-refused (streamFrom (a .config) (a .list .now) (a .stored .now) (tolsOf (a .tols))) (a .out .now) _
     (stream-unexpanded (a .config) (a .list .now) (a .stored .now) (tolsOf (a .tols)) _
     (not-expanded (a .config) anyPicture (a .list .now) (s .pre .0) _ _ _ _ e (omega arith)))

@@ -42,10 +42,12 @@ bytes-at c i = omega (arith, c .before .before .before .before .shared-slice-kno
 -- the result of compact read is at the front of the array
 read-at : (c : tie.After-known-told)
     → Read (start (after-list c) .args .«record» .now)
-    (c .before .read .given .0 .0) (c .before .read .given .0 .1 .0) (c .before .read .given .0 .1 .1 .0) (c .before .before .before .before .parse .last .1 .0)
+    (c .before .read .given .0 .0) (c .before .read .given .0 .1 .0) (c .before .read .given .0 .1 .1 .0)
+    (c .before .before .before .before .parse .last .1 .0)
 read-at c =
     let y = c .before .before .before .before .parse in
-    was-read _ (bytes-at (after-list c)) _ _ _ _ _ (ap (λ (x : CompactRead). (compactOf x, y .last .1 .0)) (sym (c .before .read .given .1)) ∙ y .ensures) (omega arith)
+    was-read _ (bytes-at (after-list c)) _ _ _ _ _
+    (ap (λ (x : CompactRead). (compactOf x, y .last .1 .0)) (sym (c .before .read .given .1)) ∙ y .ensures) (omega arith)
 
 array-share-prefix-list : tie.Need-array-share-prefix-list
 array-share-prefix-list c = read-at c .within

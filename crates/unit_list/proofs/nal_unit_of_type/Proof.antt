@@ -17,7 +17,8 @@ returns : tie.Need-returns
 returns c =
     let u = c .before .nal-unit-of-type-at in
     let a = c .before .before .before .args in
-    subst (PartOf (c .part-at .result) (a .list)) (place-found (u .result) (listUnitsOfType (a .t) (a .list .now)) (a .k) (u .ensures .0)) (c .part-at .ensures)
+    subst (PartOf (c .part-at .result) (a .list)) (place-found (u .result) (listUnitsOfType (a .t) (a .list .now)) (a .k) (u .ensures .0))
+    (c .part-at .ensures)
 
 pub nal-unit-of-type-spec : {M : Type 1} → statement M
 nal-unit-of-type-spec = tie.close (tie.spec nal-unit-of-type-at-requires part-at-requires returns)

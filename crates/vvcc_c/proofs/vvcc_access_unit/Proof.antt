@@ -15,7 +15,8 @@ refused-requires c κs = search needs
 returns : tie.Need-returns
 returns c =
     let a = c .before .before .before .before .before .before .args in
-    too-long (a .«record» .now) (a .item .now) (a .scratch .now) (targetFrom (a .has-target) (a .target)) (a .out .now) _ (c .before .if1 .taken) (c .refused .ensures)
+    too-long (a .«record» .now) (a .item .now) (a .scratch .now) (targetFrom (a .has-target) (a .target)) (a .out .now) _ (c .before .if1 .taken)
+    (c .refused .ensures)
 
 parse-requires : tie.Need-parse-requires
 parse-requires c κs = search needs
@@ -37,7 +38,8 @@ part-access-unit-annex-b-end c =
     let an = c .before .before .before in
     let d = an .before .before .before .before .before in
     let a = d .before .before .before .before .before .before .before .args in
-    read-into (a .«record» .now) (a .item .now) (a .scratch .now) (targetFrom (a .has-target) (a .target)) (d .before .before .if1 .left) _ (d .parse .result) (d .parse .ensures) .fits _ _ (an .answer .given .1)
+    read-into (a .«record» .now) (a .item .now) (a .scratch .now) (targetFrom (a .has-target) (a .target)) (d .before .before .if1 .left) _
+    (d .parse .result) (d .parse .ensures) .fits _ _ (an .answer .given .1)
 
 access-unit-annex-b-requires : tie.Need-access-unit-annex-b-requires
 access-unit-annex-b-requires c κs = search needs
@@ -63,8 +65,12 @@ returns-2 c =
     let an = tf .before .before in
     let d = an .before .before .before .before .before in
     let a = d .before .before .before .before .before .before .before .args in
-    let k = read-into (a .«record» .now) (a .item .now) (a .scratch .now) (targetFrom (a .has-target) (a .target)) (d .before .before .if1 .left) _ (d .parse .result) (d .parse .ensures) in
-    (given-assembled _ (d .parse .result .head) _ (a .item .now) _ _ (a .out .now) _ _ _ (c .written .ensures) (c .before .before .before .access-unit-annex-b .ensures) (tf .target-from .ensures) (k .made _ _ (an .answer .given .1)), k .filled)
+    let k = read-into (a .«record» .now) (a .item .now) (a .scratch .now) (targetFrom (a .has-target) (a .target)) (d .before .before .if1 .left) _
+    (d .parse .result) (d .parse .ensures) in (
+      given-assembled _ (d .parse .result .head) _ (a .item .now) _ _ (a .out .now) _ _ _ (c .written .ensures)
+          (c .before .before .before .access-unit-annex-b .ensures) (tf .target-from .ensures) (k .made _ _ (an .answer .given .1)),
+      k .filled,
+    )
 
 same-length-3 : tie.Need-same-length-3
 same-length-3 c = search needs
@@ -73,8 +79,12 @@ returns-3 : tie.Need-returns-3
 returns-3 c =
     let d = c .before .before .before .before .before .before .before in
     let a = d .before .before .before .before .before .before .before .args in
-    let k = read-into (a .«record» .now) (a .item .now) (a .scratch .now) (targetFrom (a .has-target) (a .target)) (d .before .before .if1 .left) _ (d .parse .result) (d .parse .ensures) in
-    (given-refused _ (a .out .now) _ _ (c .refused2 .ensures) (k .refused _ (ap (λ (x : FullAnswer). fullAnswerOf x (d .parse .result .head)) (c .before .before .answer2 .given .1))), k .filled)
+    let k = read-into (a .«record» .now) (a .item .now) (a .scratch .now) (targetFrom (a .has-target) (a .target)) (d .before .before .if1 .left) _
+    (d .parse .result) (d .parse .ensures) in (
+      given-refused _ (a .out .now) _ _ (c .refused2 .ensures)
+          (k .refused _ (ap (λ (x : FullAnswer). fullAnswerOf x (d .parse .result .head)) (c .before .before .answer2 .given .1))),
+      k .filled,
+    )
 
 pub vvcc-access-unit-spec : {M : Type 1} → statement M
 vvcc-access-unit-spec =

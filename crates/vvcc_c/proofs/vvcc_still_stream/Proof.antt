@@ -21,7 +21,8 @@ returns : tie.Need-returns
 returns c =
     let tf = c .before .before .before .before .before in
     let a = tf .before .before .before .before .args in
-    given-target (stillStream (a .«record» .now) (a .stored .now)) _ _ (a .out .now) _ _ _ (c .written .ensures) (c .before .before .before .still-stream .ensures) (tf .target-from .ensures)
+    given-target (stillStream (a .«record» .now) (a .stored .now)) _ _ (a .out .now) _ _ _ (c .written .ensures)
+    (c .before .before .before .still-stream .ensures) (tf .target-from .ensures)
 
 pub vvcc-still-stream-spec : {M : Type 1} → statement M
 vvcc-still-stream-spec = tie.close (tie.spec target-from-requires still-stream-requires written-requires same-length returns)

@@ -21,8 +21,10 @@ is-opi-requires c κs = search needs
 opi-kept-requires : tie.Need-opi-kept-requires
 opi-kept-requires c κs =
     let k = c .before .before in
-    let b = k .before .before .before in
-    (ap (isRecordOf 12) (sym (k .kind-of .ensures)) ∙ sym (c .before .is-opi .ensures) ∙ c .if1 .taken, unit-within _ _ (b .args .a) (k .before .part .ensures .holds) (b .pre .0) (b .pre .1))
+    let b = k .before .before .before in (
+      ap (isRecordOf 12) (sym (k .kind-of .ensures)) ∙ sym (c .before .is-opi .ensures) ∙ c .if1 .taken,
+      unit-within _ _ (b .args .a) (k .before .part .ensures .holds) (b .pre .0) (b .pre .1),
+    )
 
 returns : tie.Need-returns
 returns c =
@@ -33,7 +35,8 @@ returns-2 : tie.Need-returns-2
 returns-2 c =
     let k = c .before .before in
     let a = k .before .before .before .args in
-    sym (keeps-other (tolsOf (a .target)) (held (a .item .now) (a .a)) (k .kind-of .result) (k .kind-of .ensures ∙ ap kindOf (k .before .part .ensures .holds)) (sym (c .before .is-opi .ensures) ∙ c .if1 .left))
+    sym (keeps-other (tolsOf (a .target)) (held (a .item .now) (a .a)) (k .kind-of .result)
+    (k .kind-of .ensures ∙ ap kindOf (k .before .part .ensures .holds)) (sym (c .before .is-opi .ensures) ∙ c .if1 .left))
 
 pub kept-at-spec : {M : Type 1} → statement M
 kept-at-spec = tie.close (tie.spec part-requires kind-of-requires is-opi-requires opi-kept-requires returns returns-2)

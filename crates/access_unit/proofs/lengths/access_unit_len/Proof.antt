@@ -19,17 +19,22 @@ measure-requires c κs = search needs
 
 -- what was measured
 known-at : (d : tie.After-measure) (v : Sizes) → d .measure .result ≡ Sized v
-    → Known (d .before .before .before .before .args .head .«length_size») (tolsOf (d .before .target-of .result)) (d .before .before .before .before .args .list .now) (d .before .before .before .before .args .item .now) v
+    → Known (d .before .before .before .before .args .head .«length_size») (tolsOf (d .before .target-of .result))
+    (d .before .before .before .before .args .list .now) (d .before .before .before .before .args .item .now) v
 known-at d v e = known _ _ _ _ v (ap sizesAnswerOf (sym e) ∙ d .measure .ensures)
 
 enum-known-measured : tie.Need-enum-known-measured
 enum-known-measured c = search needs
 
 add-count : tie.Need-add-count
-add-count c = let s = known-small _ _ _ _ _ (known-at (c .before .before .before .before) _ (c .before .before .measured .given .1)) in omega (arith, s .units)
+add-count c =
+    let s = known-small _ _ _ _ _ (known-at (c .before .before .before .before) _ (c .before .before .measured .given .1)) in
+    omega (arith, s .units)
 
 stream-len-requires : tie.Need-stream-len-requires
-stream-len-requires c κs = let s = known-small _ _ _ _ _ (known-at (c .before .before .before .before) _ (c .before .before .measured .given .1)) in (omega (arith, s .units), omega (arith, s .bytes))
+stream-len-requires c κs =
+    let s = known-small _ _ _ _ _ (known-at (c .before .before .before .before) _ (c .before .before .measured .given .1)) in
+    (omega (arith, s .units), omega (arith, s .bytes))
 
 enum-known-measured-2 : tie.Need-enum-known-measured-2
 enum-known-measured-2 c = search needs
@@ -38,7 +43,8 @@ returns : tie.Need-returns
 returns c =
     let m = c .before .before .before .before .before in
     let a = m .before .before .before .before .args in
-    length-known (a .head) (a .list .now) (a .item .now) (tolsOf (a .tols)) _ (m .before .target-of .ensures) _ (known-at m _ (c .before .before .before .measured .given .1)) _ (c .stream-len .ensures)
+    length-known (a .head) (a .list .now) (a .item .now) (tolsOf (a .tols)) _ (m .before .target-of .ensures) _
+    (known-at m _ (c .before .before .before .measured .given .1)) _ (c .stream-len .ensures)
 
 returns-2 : tie.Need-returns-2
 returns-2 c =

@@ -16,7 +16,8 @@ kind-of-requires : tie.Need-kind-of-requires
 kind-of-requires c κs = search needs
 
 -- the kind is that of the unit at the span
-kind-at : (c : tie.After-kind-of) → c .kind-of .result ≡ kindOf (held (c .before .before .before .args .item .now) (c .before .before .before .args .a))
+kind-at : (c : tie.After-kind-of)
+    → c .kind-of .result ≡ kindOf (held (c .before .before .before .args .item .now) (c .before .before .before .args .a))
 kind-at c = c .kind-of .ensures ∙ ap kindOf (c .before .part .ensures .holds)
 
 is-opi-requires : tie.Need-is-opi-requires
@@ -25,11 +26,14 @@ is-opi-requires c κs = search needs
 opi-kept-requires : tie.Need-opi-kept-requires
 opi-kept-requires c κs =
     let k = c .before .before in
-    let b = k .before .before .before in
-    (ap (isRecordOf 12) (sym (k .kind-of .ensures)) ∙ sym (c .before .is-opi .ensures) ∙ c .if1 .taken, unit-within _ _ (b .args .a) (k .before .part .ensures .holds) (b .pre .0) (b .pre .1))
+    let b = k .before .before .before in (
+      ap (isRecordOf 12) (sym (k .kind-of .ensures)) ∙ sym (c .before .is-opi .ensures) ∙ c .if1 .taken,
+      unit-within _ _ (b .args .a) (k .before .part .ensures .holds) (b .pre .0) (b .pre .1),
+    )
 
 -- whether the OPI unit at the span is kept
-kept-is : (c : tie.After-opi-kept) → let a = c .before .before .before .before .before .before .args in keeps (tolsOf (a .target)) (held (a .item .now) (a .a)) ≡ c .opi-kept .result
+kept-is : (c : tie.After-opi-kept) → let a = c .before .before .before .before .before .before .args in
+    keeps (tolsOf (a .target)) (held (a .item .now) (a .a)) ≡ c .opi-kept .result
 kept-is c =
     let k = c .before .before .before in
     ap (keeps (tolsOf (k .before .before .before .args .target))) (sym (k .before .part .ensures .holds)) ∙ sym (c .opi-kept .ensures)
@@ -42,7 +46,8 @@ returns c =
     let o = c .before .before in
     let k = o .before .before .before in
     let a = k .before .before .before .args in
-    let m = leads-opi (held (a .item .now) (a .a)) (k .kind-of .result) (kind-at k) (sym (o .before .before .is-opi .ensures) ∙ o .before .if1 .taken) in
+    let m = leads-opi (held (a .item .now) (a .a)) (k .kind-of .result) (kind-at k)
+    (sym (o .before .before .is-opi .ensures) ∙ o .before .if1 .taken) in
     c .add .ensures ∙ rw (kept-is o ∙ c .before .if2 .taken, m)
 
 returns-2 : tie.Need-returns-2
@@ -58,9 +63,11 @@ returns-3 : tie.Need-returns-3
 returns-3 c =
     let k = c .before .before .before .before in
     let a = k .before .before .before .args in
-    let h = keeps-other (tolsOf (a .target)) (held (a .item .now) (a .a)) (k .kind-of .result) (kind-at k) (sym (c .before .before .before .is-opi .ensures) ∙ c .before .before .if1 .left) in
+    let h = keeps-other (tolsOf (a .target)) (held (a .item .now) (a .a)) (k .kind-of .result) (kind-at k)
+    (sym (c .before .before .before .is-opi .ensures) ∙ c .before .before .if1 .left) in
     let m = leads (held (a .item .now) (a .a)) (k .kind-of .result) (kind-at k) ∙ sym (c .before .may-lead .ensures) in
     c .add2 .ensures ∙ rw (h, m)
 
 pub add-kept-spec : {M : Type 1} → statement M
-add-kept-spec = tie.close (tie.spec part-requires kind-of-requires is-opi-requires opi-kept-requires add-requires returns returns-2 may-lead-requires add-requires-2 returns-3)
+add-kept-spec = tie.close (tie.spec part-requires kind-of-requires is-opi-requires opi-kept-requires add-requires returns returns-2 may-lead-requires
+    add-requires-2 returns-3)

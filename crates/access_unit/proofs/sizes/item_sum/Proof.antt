@@ -5,14 +5,16 @@ use Rattle.split.proofs.Items.{Turn, found-unit, found-end, found-refusal}
 use Rattle.access_unit.specs.Answers.{tolsOf}
 use Rattle.access_unit.specs.inner.Gathered.{keptLeft, itemSum}
 use Rattle.access_unit.proofs.KeptUnits.{over-end, over-refused}
-use Rattle.access_unit.proofs.Sums.{Summing, summing-start, summing-small, summing-kept, summing-end, summing-refused, item-sum-none, leading-le}
+use Rattle.access_unit.proofs.Sums.{Summing, summing-start, summing-small, summing-kept}
+use Rattle.access_unit.proofs.Sums.{summing-end, summing-refused, item-sum-none, leading-le}
 use borrow.Author.Needs.{needs}
 use native.Mathlib.Omega.{arith}
 use Rattle.access_unit.proofs.sizes.item_sum.Statement.{statement}
 use Rattle.access_unit.proofs.sizes.item_sum.Tie as tie
 
 abbrev Inv-loop : tie.InvT-loop
-Inv-loop item size target at₀ sum₀ at sum = (at ≤ length item) × Summing (itemSum item) (keptLeft size (tolsOf target) item 0) (keptLeft size (tolsOf target) item at) sum at
+Inv-loop item size target at₀ sum₀ at sum =
+    (at ≤ length item) × Summing (itemSum item) (keptLeft size (tolsOf target) item 0) (keptLeft size (tolsOf target) item at) sum at
 
 abbrev μ-loop : tie.MeasureT-loop
 μ-loop item size target at₀ sum₀ at sum = length item - at
@@ -37,7 +39,8 @@ add-kept-requires c κs =
     let t = turn-at c in
     let l = c .before .before .before .before .loop in
     let b = c .before .before .before .before .before .before in
-    let s = summing-small _ _ _ _ _ (l .inv .1) (leading-le (b .args .item .now)) (c .before .a .given .0 .0 .len) (omega (arith, t .here, b .pre .lent)) in
+    let s = summing-small _ _ _ _ _ (l .inv .1) (leading-le (b .args .item .now)) (c .before .a .given .0 .0 .len)
+    (omega (arith, t .here, b .pre .lent)) in
     (omega (arith, t .here), b .pre .lent, s .0, s .1)
 
 loop-less : tie.Need-loop-less Inv-loop μ-loop
@@ -57,7 +60,8 @@ returns : tie.Need-returns Inv-loop μ-loop
 returns c =
     let l = c .before .before .before .loop in
     let a = c .before .before .before .before .before .args in
-    summing-end _ _ _ _ _ (l .inv .1) (over-end (a .size) (tolsOf (a .target)) (a .item .now) _ (found-end _ _ _ _ (c .before .before .item-step .ensures) (c .enum-told .given .1)))
+    summing-end _ _ _ _ _ (l .inv .1)
+    (over-end (a .size) (tolsOf (a .target)) (a .item .now) _ (found-end _ _ _ _ (c .before .before .item-step .ensures) (c .enum-told .given .1)))
 
 enum-known-e : tie.Need-enum-known-e Inv-loop μ-loop
 enum-known-e c = search needs
@@ -66,7 +70,8 @@ returns-2 : tie.Need-returns-2 Inv-loop μ-loop
 returns-2 c =
     let l = c .before .before .before .before .loop in
     let a = c .before .before .before .before .before .before .args in
-    summing-refused _ _ _ _ _ (l .inv .1) _ (over-refused (a .size) (tolsOf (a .target)) (a .item .now) _ _ (found-refusal _ _ _ _ (c .before .before .before .item-step .ensures) _ (c .before .e .given .1)))
+    summing-refused _ _ _ _ _ (l .inv .1) _ (over-refused (a .size) (tolsOf (a .target)) (a .item .now) _ _
+    (found-refusal _ _ _ _ (c .before .before .before .item-step .ensures) _ (c .before .e .given .1)))
 
 pub item-sum-spec : {M : Type 1} → statement M
 item-sum-spec =

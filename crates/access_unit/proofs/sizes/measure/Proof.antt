@@ -27,7 +27,8 @@ lent : (d : tie.After-list-sum) → length (d .before .before .before .before .a
 lent d = omega arith
 
 listed : (d : tie.After-list-sum) (v : UnitSum) → d .list-sum .result ≡ Sum v
-    → Listed (d .before .before .before .before .args .length-size) (tolsOf (d .before .before .before .before .args .target)) (d .before .before .before .before .args .list .now) (d .before .before .before .before .args .item .now) (lent d) v
+    → Listed (d .before .before .before .before .args .length-size) (tolsOf (d .before .before .before .before .args .target))
+    (d .before .before .before .before .args .list .now) (d .before .before .before .before .args .item .now) (lent d) v
 listed d v e = gather-listed _ _ _ _ (lent d) v (ap summedOf (sym e) ∙ d .list-sum .ensures)
 
 enum-known-summed : tie.Need-enum-known-summed
@@ -47,7 +48,8 @@ returns-3 c =
     let d = c .before .before .before in
     let a = d .before .before .before .before .args in
     ap (λ (o : Outcome Gathered). andThen o (λ g. accept (sizesOf (a .list .now) (a .item .now) g)))
-    (sym (gather-list (a .length-size) (tolsOf (a .target)) (a .list .now) (a .item .now) (lent d) _ (ap summedOf (sym (c .before .summed2 .given .1)) ∙ d .list-sum .ensures)))
+    (sym (gather-list (a .length-size) (tolsOf (a .target)) (a .list .now) (a .item .now) (lent d) _
+    (ap summedOf (sym (c .before .summed2 .given .1)) ∙ d .list-sum .ensures)))
 
 pub measure-spec : {M : Type 1} → statement M
 measure-spec =

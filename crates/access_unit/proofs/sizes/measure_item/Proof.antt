@@ -31,7 +31,8 @@ outside-requires c κs = search needs
 returns : tie.Need-returns
 returns c =
     let a = c .before .before .before .args in
-    sizes-outside (a .length-size) (tolsOf (a .target)) (a .item .now) (a .listed) (c .before .before .before .pre .0) (sym (c .before .outside .ensures) ∙ c .if1 .taken)
+    sizes-outside (a .length-size) (tolsOf (a .target)) (a .item .now) (a .listed) (c .before .before .before .pre .0)
+    (sym (c .before .outside .ensures) ∙ c .if1 .taken)
 
 wide-requires : tie.Need-wide-requires
 wide-requires c κs = search needs
@@ -43,7 +44,8 @@ item-sum-requires c κs =
 
 -- what the sum over the item says
 sums : (d : tie.After-item-sum)
-    → let a = start d .args in summedOf (d .item-sum .result) ≡ andThen (keptLeft (a .length-size) (tolsOf (a .target)) (a .item .now) 0) (λ ks. accept (itemSum (a .item .now) ks))
+    → let a = start d .args in summedOf (d .item-sum .result)
+    ≡ andThen (keptLeft (a .length-size) (tolsOf (a .target)) (a .item .now) 0) (λ ks. accept (itemSum (a .item .now) ks))
 sums d = rw (d .before .wide .ensures .0) at (d .item-sum .ensures)
 
 said : (d : tie.After-item-sum)

@@ -6,7 +6,8 @@ use Rattle.unit_list.specs.inner.Walk.{Fits}
 use Rattle.unit_list.specs.inner.Find.{unitsLeft}
 use Rattle.access_unit.specs.inner.Gathered.{listSum}
 use Rattle.unit_list.proofs.Turns.{ListTurn, list-found, list-end, list-malformed}
-use Rattle.access_unit.proofs.Sums.{Summing, summing-start, summing-small, summing-more, summing-end, summing-refused, list-sum-none, list-sum-more}
+use Rattle.access_unit.proofs.Sums.{Summing, summing-start, summing-small, summing-more}
+use Rattle.access_unit.proofs.Sums.{summing-end, summing-refused, list-sum-none, list-sum-more}
 use borrow.Author.Needs.{needs}
 use native.Mathlib.Omega.{arith}
 use Rattle.access_unit.proofs.sizes.units_sum.Statement.{statement}
@@ -29,7 +30,8 @@ enum-known-a c = search needs
 
 -- the unit that the step found
 turn-at : (c : tie.After-known-told Inv-loop μ-loop)
-    → ListTurn (c .before .before .before .before .before .before .args .list .now) (c .before .before .before .before .loop .here) (c .before .a .given .0 .0) (c .before .a .given .0 .1 .0)
+    → ListTurn (c .before .before .before .before .before .before .args .list .now) (c .before .before .before .before .loop .here)
+    (c .before .a .given .0 .0) (c .before .a .given .0 .1 .0)
 turn-at c = list-found _ _ _ (c .before .before .before .step .ensures) _ _ (c .before .a .given .1)
 
 add-requires : tie.Need-add-requires Inv-loop μ-loop
@@ -47,20 +49,27 @@ loop-again c =
     let t = turn-at u in
     let l = u .before .before .before .before .loop in
     let list = u .before .before .before .before .before .before .args .list .now in
-    let a = u .before .a .given .0 .0 in
-    (t .passed .fits, rw (c .add .ensures) (summing-more _ _ _ _ _ (l .inv .1) false a (λ done. list-sum-more list done a (t .inside)) _ (t .rest) _ (omega (arith, t .passed .start, t .passed .next))))
+    let a = u .before .a .given .0 .0 in (
+      t .passed .fits,
+      rw (c .add .ensures) (summing-more _ _ _ _ _ (l .inv .1) false a (λ done. list-sum-more list done a (t .inside)) _ (t .rest) _
+          (omega (arith, t .passed .start, t .passed .next))),
+    )
 
 enum-told : tie.Need-enum-told Inv-loop μ-loop
 enum-told c = search needs
 
 returns : tie.Need-returns Inv-loop μ-loop
-returns c = let l = c .before .before .before .loop in summing-end _ _ _ _ _ (l .inv .1) (list-end _ _ _ (c .before .before .step .ensures) (c .enum-told .given .1))
+returns c =
+    let l = c .before .before .before .loop in
+    summing-end _ _ _ _ _ (l .inv .1) (list-end _ _ _ (c .before .before .step .ensures) (c .enum-told .given .1))
 
 enum-told-2 : tie.Need-enum-told-2 Inv-loop μ-loop
 enum-told-2 c = search needs
 
 returns-2 : tie.Need-returns-2 Inv-loop μ-loop
-returns-2 c = let l = c .before .before .before .loop in summing-refused _ _ _ _ _ (l .inv .1) 21 (list-malformed _ _ _ (c .before .before .step .ensures) (c .enum-told2 .given .1))
+returns-2 c =
+    let l = c .before .before .before .loop in
+    summing-refused _ _ _ _ _ (l .inv .1) 21 (list-malformed _ _ _ (c .before .before .step .ensures) (c .enum-told2 .given .1))
 
 pub units-sum-spec : {M : Type 1} → statement M
 units-sum-spec =

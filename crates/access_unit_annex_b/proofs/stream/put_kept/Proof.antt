@@ -68,8 +68,12 @@ put-unit-requires c κs =
     let t = turn-at u in
     let l = u .before .before .before .before .before .loop in
     let a = start (u .before) .args in
-    let k = over-kept (a .size) (tolsOf (a .target)) (a .item .now) _ _ _ (t .rest) (sym (c .before .before .kept-at .ensures) ∙ c .before .if1 .taken) in
-    (inside-at u, first-room _ _ _ _ _ _ _ (keptLeft (a .size) (tolsOf (a .target)) (a .item .now) (u .before .step .given .0 .1 .0)) k (inside-at u) _ _ _ (l .inv .1) (u .before .before .before .before .loop-test .taken))
+    let k = over-kept (a .size) (tolsOf (a .target)) (a .item .now) _ _ _ (t .rest)
+    (sym (c .before .before .kept-at .ensures) ∙ c .before .if1 .taken) in (
+      inside-at u,
+      first-room _ _ _ _ _ _ _ (keptLeft (a .size) (tolsOf (a .target)) (a .item .now) (u .before .step .given .0 .1 .0)) k (inside-at u) _ _ _
+          (l .inv .1) (u .before .before .before .before .loop-test .taken),
+    )
 
 sub-left : tie.Need-sub-left Inv-loop μ-loop
 sub-left c = search needs
@@ -84,8 +88,12 @@ loop-again c =
     let l = u .before .before .before .before .before .loop in
     let a = start (u .before) .args in
     let p = c .before .before .put-unit .ensures in
-    let k = over-kept (a .size) (tolsOf (a .target)) (a .item .now) _ _ _ (t .rest) (sym (c .before .before .before .before .before .kept-at .ensures) ∙ c .before .before .before .before .if1 .taken) in
-    (omega (arith, t .here), first-more _ _ _ _ _ _ _ (keptLeft (a .size) (tolsOf (a .target)) (a .item .now) (u .before .step .given .0 .1 .0)) k (inside-at u) _ _ _ (l .inv .1) (u .before .before .before .before .loop-test .taken) _ _ (p .0) (p .1))
+    let k = over-kept (a .size) (tolsOf (a .target)) (a .item .now) _ _ _ (t .rest)
+    (sym (c .before .before .before .before .before .kept-at .ensures) ∙ c .before .before .before .before .if1 .taken) in (
+      omega (arith, t .here),
+      first-more _ _ _ _ _ _ _ (keptLeft (a .size) (tolsOf (a .target)) (a .item .now) (u .before .step .given .0 .1 .0)) k (inside-at u) _ _ _
+          (l .inv .1) (u .before .before .before .before .loop-test .taken) _ _ (p .0) (p .1),
+    )
 
 loop-less-2 : tie.Need-loop-less-2 Inv-loop μ-loop
 loop-less-2 c = let t = turn-at (c .before .before) in omega (arith, t .here)

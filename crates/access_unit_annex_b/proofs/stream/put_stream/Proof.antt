@@ -29,7 +29,8 @@ enum-told c = search needs
 returns : tie.Need-returns
 returns c =
     let s = c .before .before .before .before .before .before in
-    absurd (puts-listable (s .args .length-size) (tolsOf (s .args .target)) (s .args .list .now) (s .args .item .now) (s .args .sizes) (s .args .out .now) (s .pre) _ (start-refused _ _ (c .before .before .start .ensures) _ (c .enum-told .given .1)))
+    absurd (puts-listable (s .args .length-size) (tolsOf (s .args .target)) (s .args .list .now) (s .args .item .now) (s .args .sizes)
+    (s .args .out .now) (s .pre) _ (start-refused _ _ (c .before .before .start .ensures) _ (c .enum-told .given .1)))
 
 wide-requires : tie.Need-wide-requires
 wide-requires c κs = search needs
@@ -37,7 +38,8 @@ wide-requires c κs = search needs
 put-kept-requires : tie.Need-put-kept-requires
 put-kept-requires c κs =
     let s = start (c .before .before .before) in
-    puts-leading (s .args .length-size) (tolsOf (s .args .target)) (s .args .list .now) (s .args .item .now) (s .args .sizes) (s .args .out .now) (s .pre) _ (c .before .wide .ensures .0)
+    puts-leading (s .args .length-size) (tolsOf (s .args .target)) (s .args .list .now) (s .args .item .now) (s .args .sizes) (s .args .out .now)
+    (s .pre) _ (c .before .wide .ensures .0)
 
 put-units-requires : tie.Need-put-units-requires
 put-units-requires c κs =
@@ -45,14 +47,19 @@ put-units-requires c κs =
     let p = after-c pk in
     let s = start p in
     let t = p .before .before .start .ensures in
-    let g = p .c .given in
-    (start-fits _ _ t _ (g .1), puts-listed (s .args .length-size) (tolsOf (s .args .target)) (s .args .list .now) (s .args .item .now) (s .args .sizes) (s .args .out .now) (s .pre) _ (pk .before .before .wide .ensures .0) _ _ (pk .put-kept .ensures) _ (start-units _ _ t _ (g .1)))
+    let g = p .c .given in (
+      start-fits _ _ t _ (g .1),
+      puts-listed (s .args .length-size) (tolsOf (s .args .target)) (s .args .list .now) (s .args .item .now) (s .args .sizes) (s .args .out .now)
+          (s .pre) _ (pk .before .before .wide .ensures .0) _ _ (pk .put-kept .ensures) _ (start-units _ _ t _ (g .1)),
+    )
 
 sub-rest : tie.Need-sub-rest
 sub-rest c =
     let pk = after-put-kept (c .before .before .before) in
     let s = start (after-c pk) in
-    let l = lead-le (s .args .length-size) (tolsOf (s .args .target)) (s .args .list .now) (s .args .item .now) (s .args .sizes) (s .args .out .now) (s .pre) _ (pk .before .before .wide .ensures .0) in omega arith
+    let l = lead-le (s .args .length-size) (tolsOf (s .args .target)) (s .args .list .now) (s .args .item .now) (s .args .sizes) (s .args .out .now)
+    (s .pre) _ (pk .before .before .wide .ensures .0) in
+    omega arith
 
 put-kept-requires-2 : tie.Need-put-kept-requires-2
 put-kept-requires-2 c κs =
@@ -60,7 +67,8 @@ put-kept-requires-2 c κs =
     let pk = after-put-kept pu in
     let p = after-c pk in
     let s = start p in
-    puts-following (s .args .length-size) (tolsOf (s .args .target)) (s .args .list .now) (s .args .item .now) (s .args .sizes) (s .args .out .now) (s .pre) _ (pk .before .before .wide .ensures .0) _ _ (pk .put-kept .ensures) _
+    puts-following (s .args .length-size) (tolsOf (s .args .target)) (s .args .list .now) (s .args .item .now) (s .args .sizes) (s .args .out .now)
+    (s .pre) _ (pk .before .before .wide .ensures .0) _ _ (pk .put-kept .ensures) _
     (start-units _ _ (p .before .before .start .ensures) _ (p .c .given .1)) _ _ (pu .put-units .ensures)
 
 same-length : tie.Need-same-length
@@ -72,7 +80,8 @@ returns-2 c =
     let pk = after-put-kept pu in
     let p = after-c pk in
     let s = start p in
-    put-whole (s .args .length-size) (tolsOf (s .args .target)) (s .args .list .now) (s .args .item .now) (s .args .sizes) (s .args .out .now) (s .pre) _ (pk .before .before .wide .ensures .0) _ _ (pk .put-kept .ensures) _
+    put-whole (s .args .length-size) (tolsOf (s .args .target)) (s .args .list .now) (s .args .item .now) (s .args .sizes) (s .args .out .now)
+    (s .pre) _ (pk .before .before .wide .ensures .0) _ _ (pk .put-kept .ensures) _
     (start-units _ _ (p .before .before .start .ensures) _ (p .c .given .1)) _ _ (pu .put-units .ensures) _ _ (c .before .before .put-kept2 .ensures)
 
 pub put-stream-spec : {M : Type 1} → statement M

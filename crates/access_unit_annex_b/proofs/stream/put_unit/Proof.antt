@@ -37,8 +37,11 @@ returns c =
     let b = c .before .before .before in
     let n = b .before .before .before .before in
     let u = n .before .before in
-    let a = u .before .before .before .args in
-    (search needs, unit-stored (a .out .now) (n .put-number .last .0) _ (held (a .src .now) (a .a)) (a .at) (n .put-number .ensures) (rw (u .part .ensures .holds) at (b .copy .ensures)))
+    let a = u .before .before .before .args in (
+      search needs,
+      unit-stored (a .out .now) (n .put-number .last .0) _ (held (a .src .now) (a .a)) (a .at) (n .put-number .ensures)
+          (rw (u .part .ensures .holds) at (b .copy .ensures)),
+    )
 
 pub put-unit-spec : {M : Type 1} → statement M
 put-unit-spec =

@@ -39,7 +39,8 @@ returns c =
 
 -- the unit that the step found
 turn-at : (c : tie.After-known-told Inv-loop μ-loop)
-    → ListTurn (c .before .before .before .before .before .before .before .args .list .now) (c .before .before .before .before .loop .here) (c .before .a .given .0 .0) (c .before .a .given .0 .1 .0)
+    → ListTurn (c .before .before .before .before .before .before .before .args .list .now) (c .before .before .before .before .loop .here)
+    (c .before .a .given .0 .0) (c .before .a .given .0 .1 .0)
 turn-at c = list-found _ _ _ (c .before .before .before .step .ensures) _ _ (c .before .a .given .1)
 
 put-unit-requires : tie.Need-put-unit-requires Inv-loop μ-loop

@@ -35,8 +35,10 @@ enum-known-step c = search needs
 
 -- the kept unit that the step found
 turn-at : (c : tie.After-known-told Inv-walk μ-walk)
-    → KeptTurn (c .before .before .before .before .before .before .args .size) (tolsOf (c .before .before .before .before .before .before .args .target))
-    (c .before .before .before .before .before .before .args .item .now) (c .before .before .before .before .walk .at) (c .before .step .given .0 .0) (c .before .step .given .0 .1 .0)
+    → KeptTurn (c .before .before .before .before .before .before .args .size)
+    (tolsOf (c .before .before .before .before .before .before .args .target))
+    (c .before .before .before .before .before .before .args .item .now) (c .before .before .before .before .walk .at) (c .before .step .given .0 .0)
+    (c .before .step .given .0 .1 .0)
 turn-at c = kept-found _ _ _ _ _ (c .before .before .before .next-kept .ensures) _ _ (c .before .step .given .1)
 
 sub-skip : tie.Need-sub-skip Inv-walk μ-walk
@@ -51,14 +53,16 @@ walk-again c =
     let b = c .before .before .before .before .before in
     let a = b .before .before .args in
     let l = b .walk in
-    let w = find-on (l .skip) _ _ (l .inv .1) (l .inv .2) (c .before .before .step .given .0 .0) (keptLeft (a .size) (tolsOf (a .target)) (a .item .now) (c .before .before .step .given .0 .1 .0)) (t .rest) (c .if1 .left) in
+    let w = find-on (l .skip) _ _ (l .inv .1) (l .inv .2) (c .before .before .step .given .0 .0)
+    (keptLeft (a .size) (tolsOf (a .target)) (a .item .now) (c .before .before .step .given .0 .1 .0)) (t .rest) (c .if1 .left) in
     (omega arith, w .0, w .1)
 
 returns : tie.Need-returns Inv-walk μ-walk
 returns c =
     let b = c .before .before in
     let a = b .before .before .args in
-    let z = kept-none (a .size) (tolsOf (a .target)) (a .item .now) (b .walk .at) (c .before .next-kept .result) (c .before .next-kept .ensures .0) (c .match .keys2) in
+    let z = kept-none (a .size) (tolsOf (a .target)) (a .item .now) (b .walk .at) (c .before .next-kept .result) (c .before .next-kept .ensures .0)
+    (c .match .keys2) in
     absurd (omega (arith, z, b .walk .inv .1))
 
 returns-2 : tie.Need-returns-2 Inv-walk μ-walk
@@ -66,8 +70,11 @@ returns-2 c =
     let t = turn-at (c .before) in
     let b = c .before .before .before .before .before in
     let a = b .before .before .args in
-    let l = b .walk in
-    (find-here (l .skip) _ _ (l .inv .1) (l .inv .2) (c .before .before .step .given .0 .0) (keptLeft (a .size) (tolsOf (a .target)) (a .item .now) (c .before .before .step .given .0 .1 .0)) (t .rest) (c .if1 .taken), omega arith)
+    let l = b .walk in (
+      find-here (l .skip) _ _ (l .inv .1) (l .inv .2) (c .before .before .step .given .0 .0)
+          (keptLeft (a .size) (tolsOf (a .target)) (a .item .now) (c .before .before .step .given .0 .1 .0)) (t .rest) (c .if1 .taken),
+      omega arith,
+    )
 
 pub kept-unit-spec : {M : Type 1} → statement M
 kept-unit-spec =

@@ -14,7 +14,8 @@ use Rattle.access_unit_nal.proofs.source.next_kept.Statement.{statement
 use Rattle.access_unit_nal.proofs.source.next_kept.Tie as tie
 
 abbrev Inv-loop : tie.InvT-loop
-Inv-loop item size target from at₀ at = (from ≤ at) × (at ≤ length item) × (keptLeft size (tolsOf target) item at ≡ keptLeft size (tolsOf target) item from)
+Inv-loop item size target from at₀ at =
+    (from ≤ at) × (at ≤ length item) × (keptLeft size (tolsOf target) item at ≡ keptLeft size (tolsOf target) item from)
 
 abbrev μ-loop : tie.MeasureT-loop
 μ-loop item size target from at₀ at = length item - at
@@ -32,8 +33,11 @@ returns : tie.Need-returns Inv-loop μ-loop
 returns c =
     let t = c .before in
     let l = t .before .loop in
-    let a = t .before .before .before .args in
-    (over-none (a .size) (tolsOf (a .target)) (a .item .now) (l .at) (t .item-step .result) (c .match .keys2) (t .item-step .ensures) ∙ l .inv .2, onward-earlier (a .item .now) (a .from) (l .at) (l .inv .0) (t .item-step .result) (found-onward (a .size) (a .item .now) (l .at) (t .item-step .result) (t .item-step .ensures)))
+    let a = t .before .before .before .args in (
+      over-none (a .size) (tolsOf (a .target)) (a .item .now) (l .at) (t .item-step .result) (c .match .keys2) (t .item-step .ensures) ∙ l .inv .2,
+      onward-earlier (a .item .now) (a .from) (l .at) (l .inv .0) (t .item-step .result)
+          (found-onward (a .size) (a .item .now) (l .at) (t .item-step .result) (t .item-step .ensures)),
+    )
 
 -- the unit that the step found
 unit-at : (c : tie.After-known-told Inv-loop μ-loop)
@@ -61,8 +65,11 @@ loop-again : tie.Need-loop-again Inv-loop μ-loop
 loop-again c =
     let u = c .before .before in
     let f = unit-at u in
-    let l = u .before .before .before .before .loop in
-    (omega (arith, f .here, l .inv .0), omega (arith, f .here), sym (over-dropped _ _ _ _ _ _ (f .rest) (sym (c .before .kept-at .ensures) ∙ c .if1 .left)) ∙ l .inv .2)
+    let l = u .before .before .before .before .loop in (
+      omega (arith, f .here, l .inv .0),
+      omega (arith, f .here),
+      sym (over-dropped _ _ _ _ _ _ (f .rest) (sym (c .before .kept-at .ensures) ∙ c .if1 .left)) ∙ l .inv .2,
+    )
 
 pub next-kept-spec : {M : Type 1} → statement M
 next-kept-spec =

@@ -27,8 +27,10 @@ known-at c = known _ _ _ _ _ (ap sizesAnswerOf (sym (c .before .measured .given 
 
 -- the kept unit that is unit k
 kept-at : (c : tie.After-wide)
-    → let kt = after-known-told c in let a = start kt .args in KeptAt (a .length-size) (tolsOf (a .target)) (a .list .now) (a .item .now) (a .k) (kt .before .measured .given .0 .0) (known-at kt) (c .wide .result) (c .wide .ensures .0) (c .before .before .n .given .0 .0)
-kept-at c = kept-number _ _ _ _ _ _ (known-at (c .before .before .before .before .before)) _ (c .wide .ensures .0) _ (subst (Numbered _ _) (c .before .before .n .given .1) (c .before .before .before .before .number-of .ensures))
+    → let kt = after-known-told c in let a = start kt .args in KeptAt (a .length-size) (tolsOf (a .target)) (a .list .now) (a .item .now) (a .k)
+    (kt .before .measured .given .0 .0) (known-at kt) (c .wide .result) (c .wide .ensures .0) (c .before .before .n .given .0 .0)
+kept-at c = kept-number _ _ _ _ _ _ (known-at (c .before .before .before .before .before)) _ (c .wide .ensures .0) _
+    (subst (Numbered _ _) (c .before .before .n .given .1) (c .before .before .before .before .number-of .ensures))
 
 measure-requires : tie.Need-measure-requires
 measure-requires c κs = search needs
@@ -69,21 +71,30 @@ returns-2 : tie.Need-returns-2
 returns-2 c =
     let kt = c .before .before .before .before .before in
     let a = start kt .args in
-    let h = subst (Numbered (kt .before .measured .given .0 .0) (a .k)) (c .before .before .n2 .given .1) (c .before .before .before .before .number-of .ensures) in
-    let u = c .nal-unit-at in
-    (u .ensures .0 ∙ ap (λ (j : ℕ). placeFound inFirst (listUnits (a .list .now)) j) (h .1) ∙ at-listed (a .length-size) (tolsOf (a .target)) (a .list .now) (a .item .now) (a .k) _ (known-at kt) (a .length-size) refl (h .0) (rw (h .1) at (h .2)), fits-more (a .list .now) (a .item .now) (u .result) (u .ensures .1))
+    let h = subst (Numbered (kt .before .measured .given .0 .0) (a .k)) (c .before .before .n2 .given .1)
+    (c .before .before .before .before .number-of .ensures) in
+    let u = c .nal-unit-at in (
+      u .ensures .0 ∙ ap (λ (j : ℕ). placeFound inFirst (listUnits (a .list .now)) j) (h .1) ∙ at-listed (a .length-size) (tolsOf (a .target))
+          (a .list .now) (a .item .now) (a .k) _ (known-at kt) (a .length-size) refl (h .0) (rw (h .1) at (h .2)),
+      fits-more (a .list .now) (a .item .now) (u .result) (u .ensures .1),
+    )
 
 returns-3 : tie.Need-returns-3
 returns-3 c =
     let kt = c .before .before .before in
     let a = start kt .args in
-    let h = subst (Numbered (kt .before .measured .given .0 .0) (a .k)) (c .enum-told .given .1) (c .before .before .number-of .ensures) in
-    (at-past (a .length-size) (tolsOf (a .target)) (a .list .now) (a .item .now) (a .k) _ (known-at kt) (a .length-size) refl (h .0) (h .1) (h .2), tt)
+    let h = subst (Numbered (kt .before .measured .given .0 .0) (a .k)) (c .enum-told .given .1) (c .before .before .number-of .ensures) in (
+      at-past (a .length-size) (tolsOf (a .target)) (a .list .now) (a .item .now) (a .k) _ (known-at kt) (a .length-size) refl (h .0) (h .1) (h .2),
+      tt,
+    )
 
 returns-4 : tie.Need-returns-4
 returns-4 c =
-    let a = c .before .before .before .before .before .before .args in
-    (source-unknown (a .length-size) (tolsOf (a .target)) (a .list .now) (a .item .now) (a .k) _ (unknown _ _ _ _ _ (ap sizesAnswerOf (sym (c .before .measured2 .given .1)) ∙ c .before .before .before .measure .ensures)), tt)
+    let a = c .before .before .before .before .before .before .args in (
+      source-unknown (a .length-size) (tolsOf (a .target)) (a .list .now) (a .item .now) (a .k) _
+          (unknown _ _ _ _ _ (ap sizesAnswerOf (sym (c .before .measured2 .given .1)) ∙ c .before .before .before .measure .ensures)),
+      tt,
+    )
 
 pub source-at-spec : {M : Type 1} → statement M
 source-at-spec =

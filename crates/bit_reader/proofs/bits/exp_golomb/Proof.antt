@@ -45,7 +45,8 @@ enum-told-2 c = search needs
 returns-2 : tie.Need-returns-2
 returns-2 c =
     let k = c .before .before .read-bits .ensures in
-    k ∙ answer-refused k (c .enum-told2 .given .1) ∙ sym (ue-low _ _ _ _ _ (led (c .before .before .before)) (answer-refused k (c .enum-told2 .given .1)))
+    k ∙ answer-refused k (c .enum-told2 .given .1)
+    ∙ sym (ue-low _ _ _ _ _ (led (c .before .before .before)) (answer-refused k (c .enum-told2 .given .1)))
 
 -- the bits after the 1
 rest : (c : tie.After-known-told2) → let z = c .before .before .before .before .before in
@@ -66,7 +67,8 @@ add-t12 : tie.Need-add-t12
 add-t12 c = omega (arith, both c)
 
 returns-3 : tie.Need-returns-3
-returns-3 c = ap (λ (n : ℕ). value n (c .before .low .given .0 .1 .0 .0)) (omega (arith, both c)) ∙ sym (ue-there _ _ _ _ _ _ (led (c .before .before .before .before)) (rest c))
+returns-3 c = ap (λ (n : ℕ). value n (c .before .low .given .0 .1 .0 .0)) (omega (arith, both c))
+    ∙ sym (ue-there _ _ _ _ _ _ (led (c .before .before .before .before)) (rest c))
 
 pub exp-golomb-spec : {M : Type 1} → statement M
 exp-golomb-spec =

@@ -16,7 +16,9 @@ returns : tie.Need-returns
 returns c = let a = c .before .args in sym (lt-leb (a .at .0 + a .n) (8 * length (a .s .now)) (omega arith))
 
 returns-2 : tie.Need-returns-2
-returns-2 c = let a = c .before .args in leb-same (a .n) (length (a .s .now) * 8 - a .at .0) (a .at .0 + a .n) (8 * length (a .s .now)) (λ e. omega arith) (λ e. omega arith)
+returns-2 c =
+    let a = c .before .args in
+    leb-same (a .n) (length (a .s .now) * 8 - a .at .0) (a .at .0 + a .n) (8 * length (a .s .now)) (λ e. omega arith) (λ e. omega arith)
 
 pub has-bits-spec : {M : Type 1} → statement M
 has-bits-spec = tie.close (tie.spec mul-total returns returns-2)

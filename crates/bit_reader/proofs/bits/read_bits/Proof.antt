@@ -26,7 +26,8 @@ returns : tie.Need-returns Inv-loop μ-loop
 returns c = sym (u-short _ _ _ (sym (c .before .has-bits .ensures) ∙ not-true _ (c .if1 .taken)))
 
 -- there are as many bits
-room : (c : tie.Else1 Inv-loop μ-loop) → leb (c .before .before .before .args .at .0 + c .before .before .before .args .n) (8 * length (c .before .before .before .args .s .now)) ≡ true
+room : (c : tie.Else1 Inv-loop μ-loop)
+    → leb (c .before .before .before .args .at .0 + c .before .before .before .args .n) (8 * length (c .before .before .before .args .s .now)) ≡ true
 room c = sym (c .before .has-bits .ensures) ∙ not-false _ (c .if1 .left)
 
 loop-holds : tie.Need-loop-holds Inv-loop μ-loop
@@ -43,7 +44,9 @@ bit-requires : tie.Need-bit-requires Inv-loop μ-loop
 bit-requires c κs = omega (arith, leb-true, room (c .before .before .before))
 
 add-v : tie.Need-add-v Inv-loop μ-loop
-add-v c = let a = c .before .before .before .before .before .before .before .args in omega (arith, bits-fit (a .s .now) (a .at .0) (c .before .before .before .loop .k) (omega arith))
+add-v c =
+    let a = c .before .before .before .before .before .before .before .args in
+    omega (arith, bits-fit (a .s .now) (a .at .0) (c .before .before .before .loop .k) (omega arith))
 
 add-k : tie.Need-add-k Inv-loop μ-loop
 add-k c = search needs
@@ -59,7 +62,8 @@ on-requires-2 : tie.Need-on-requires-2 Inv-loop μ-loop
 on-requires-2 c κs = omega (arith, leb-true, room (c .before .before))
 
 returns-2 : tie.Need-returns-2 Inv-loop μ-loop
-returns-2 c = rw (c .on2 .ensures) (sym (u-there _ _ _ _ (c .before .before .loop .k) (room (c .before .before .before)) (c .before .before .loop .inv .1) (omega arith)))
+returns-2 c = rw (c .on2 .ensures)
+    (sym (u-there _ _ _ _ (c .before .before .loop .k) (room (c .before .before .before)) (c .before .before .loop .inv .1) (omega arith)))
 
 pub read-bits-spec : {M : Type 1} → statement M
 read-bits-spec =

@@ -19,7 +19,8 @@ unfolding skip
 returns c = rw (sym (c .before .has-bits .ensures) ∙ not-true _ (c .if1 .taken))
 
 -- there are as many bits
-room : (c : tie.Else1) → leb (c .before .before .before .args .at .0 + c .before .before .before .args .n) (8 * length (c .before .before .before .args .s .now)) ≡ true
+room : (c : tie.Else1)
+    → leb (c .before .before .before .args .at .0 + c .before .before .before .args .n) (8 * length (c .before .before .before .args .s .now)) ≡ true
 room c = sym (c .before .has-bits .ensures) ∙ not-false _ (c .if1 .left)
 
 on-requires : tie.Need-on-requires

@@ -30,7 +30,8 @@ returns c =
     sym (l .inv .1 ∙ zeros-out _ (l .z) _ (32 - (l .z + 1)) _ (omega arith) (sym (c .before .has-bits .ensures) ∙ not-true _ (c .if1 .taken)))
 
 -- there is a bit
-room : (c : tie.Else1 Inv-loop μ-loop) → leb (c .before .before .before .loop .here .0 + 1) (8 * length (c .before .before .before .before .before .args .s .now)) ≡ true
+room : (c : tie.Else1 Inv-loop μ-loop)
+    → leb (c .before .before .before .loop .here .0 + 1) (8 * length (c .before .before .before .before .before .args .s .now)) ≡ true
 room c = sym (c .before .has-bits .ensures) ∙ not-false _ (c .if1 .left)
 
 on-requires : tie.Need-on-requires Inv-loop μ-loop
@@ -42,7 +43,8 @@ bit-requires c κs = omega (arith, leb-true, room (c .before))
 returns-2 : tie.Need-returns-2 Inv-loop μ-loop
 returns-2 c =
     let l = c .before .before .before .before .before .before .loop in
-    rw (c .before .before .on .ensures) (sym (l .inv .1 ∙ zeros-one _ (l .z) _ (32 - (l .z + 1)) _ (omega arith) (room (c .before .before .before)) (sym (c .before .bit .ensures) ∙ c .if2 .taken)))
+    rw (c .before .before .on .ensures) (sym (l .inv .1
+    ∙ zeros-one _ (l .z) _ (32 - (l .z + 1)) _ (omega arith) (room (c .before .before .before)) (sym (c .before .bit .ensures) ∙ c .if2 .taken)))
 
 add-z : tie.Need-add-z Inv-loop μ-loop
 add-z c = search needs
@@ -52,8 +54,11 @@ loop-less c = search needs
 
 loop-again : tie.Need-loop-again Inv-loop μ-loop
 loop-again c =
-    let l = c .before .before .before .before .before .before .loop in
-    (search needs, rw (c .before .before .on .ensures) (l .inv .1 ∙ zeros-more _ (l .z) _ (32 - (l .z + 1)) _ (omega arith) (room (c .before .before .before)) (λ e. c .if2 .left (c .before .bit .ensures ∙ e))))
+    let l = c .before .before .before .before .before .before .loop in (
+      search needs,
+      rw (c .before .before .on .ensures) (l .inv .1 ∙ zeros-more _ (l .z) _ (32 - (l .z + 1)) _ (omega arith) (room (c .before .before .before))
+          (λ e. c .if2 .left (c .before .bit .ensures ∙ e))),
+    )
 
 returns-3 : tie.Need-returns-3 Inv-loop μ-loop
 returns-3 c = let l = c .before .loop in sym (l .inv .1 ∙ zeros-none _ (l .z) (32 - l .z) _ (omega arith))

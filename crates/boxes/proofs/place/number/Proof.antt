@@ -50,8 +50,11 @@ loop-less c = search needs
 loop-again : tie.Need-loop-again Inv-loop μ-loop
 loop-again c =
     let l = c .before .before .before .loop in
-    let st = c .before .before .before .before .before .before in
-    (omega arith, omega (arith, be-more (st .args .s .now) (st .args .at) (l .k)), below-more (l .n) (l .k) (c .wide .result) (l .inv .2) (c .wide .ensures .1))
+    let st = c .before .before .before .before .before .before in (
+      omega arith,
+      omega (arith, be-more (st .args .s .now) (st .args .at) (l .k)),
+      below-more (l .n) (l .k) (c .wide .result) (l .inv .2) (c .wide .ensures .1),
+    )
 
 returns-2 : tie.Need-returns-2 Inv-loop μ-loop
 returns-2 c =

@@ -21,12 +21,15 @@ returns c =
     subst (PartOf (c .part .result) (a .s)) (not-first (a .unit) (c .before .match .keys2)) (c .part .ensures)
 
 part-requires-2 : tie.Need-part-requires-2
-part-requires-2 c κs = let a = c .before .before .before .before .args in subst (PlaceFits (a .s .now) _) (c .before .unit .given .1) (c .before .before .before .before .pre)
+part-requires-2 c κs =
+    let a = c .before .before .before .before .args in
+    subst (PlaceFits (a .s .now) _) (c .before .unit .given .1) (c .before .before .before .before .pre)
 
 returns-2 : tie.Need-returns-2
 returns-2 c =
     let a = c .before .before .before .before .before .args in
-    subst (PartOf (c .part2 .result) (a .s)) (ap (λ (r : UnitPlace). spanInFirst (lying (placeOf r))) (sym (c .before .before .unit .given .1))) (c .part2 .ensures)
+    subst (PartOf (c .part2 .result) (a .s))
+    (ap (λ (r : UnitPlace). spanInFirst (lying (placeOf r))) (sym (c .before .before .unit .given .1))) (c .part2 .ensures)
 
 pub part-at-spec : {M : Type 1} → statement M
 part-at-spec = tie.close (tie.spec enum-known-unit part-requires returns part-requires-2 returns-2)

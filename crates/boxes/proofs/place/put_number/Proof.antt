@@ -44,8 +44,11 @@ loop-less c = search needs
 loop-again : tie.Need-loop-again Inv-loop μ-loop
 loop-again c =
     let l = c .before .loop in
-    let a = c .before .before .args in
-    (omega arith, length-set (l .out) (a .at + a .width - (l .k + 1)) (l .n % 256) ∙ l .inv .1, sets-toBe (l .out) (a .at) (a .width) (l .k) (l .n) (omega arith) ∙ l .inv .2)
+    let a = c .before .before .args in (
+      omega arith,
+      length-set (l .out) (a .at + a .width - (l .k + 1)) (l .n % 256) ∙ l .inv .1,
+      sets-toBe (l .out) (a .at) (a .width) (l .k) (l .n) (omega arith) ∙ l .inv .2,
+    )
 
 same-length : tie.Need-same-length Inv-loop μ-loop
 same-length c = search needs

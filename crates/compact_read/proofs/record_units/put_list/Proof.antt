@@ -53,7 +53,8 @@ returns c =
     let p = after-put pah in
     let b = start p in
     let a = b .args in
-    list-stored (a .«record» .now) (outcome (recordUnits (a .«record» .now) (a .count))) (a .out .now) (p .put .last .0) (pah .put-array-head .last .0) _ (a .room) 7
+    list-stored (a .«record» .now) (outcome (recordUnits (a .«record» .now) (a .count))) (a .out .now) (p .put .last .0)
+    (pah .put-array-head .last .0) _ (a .room) 7
     (b .pre .2) (b .pre .3) (p .put .ensures) (pah .put-array-head .ensures) (c .before .before .put-units .ensures)
 
 pub put-list-spec : {M : Type 1} → statement M

@@ -49,7 +49,8 @@ returns c =
     let l = c .before .before .before .before in
     let k = c .before .before .chunk in
     absurd (copying-never _ _ _ _ _ _ _ _ (l .loop .inv .1) 1
-    (ap outcome (turn-short (l .before .before .before .args .«record» .now) (l .loop .left) (l .loop .at) (c .before .before .before .loop-test .taken) (k .result) (k .ensures) (c .enum-told .given .1))))
+    (ap outcome (turn-short (l .before .before .before .args .«record» .now) (l .loop .left) (l .loop .at)
+    (c .before .before .before .loop-test .taken) (k .result) (k .ensures) (c .enum-told .given .1))))
 
 -- the unit that the turn found
 unit-at : (c : tie.After-known-told Inv-loop μ-loop)
@@ -65,7 +66,8 @@ left-at c =
     let a = c .before .a .given .0 .0 in
     outcome (times (lo .loop .left - 1) (chunk 1) (lo .before .before .before .args .«record» .now) (a .start + a .len))
 
-room-at : (c : tie.After-known-told Inv-loop μ-loop) → let lo = at-loop c in lo .loop .next + 4 + c .before .a .given .0 .0 .len ≤ length (lo .loop .out)
+room-at : (c : tie.After-known-told Inv-loop μ-loop) → let lo = at-loop c in
+    lo .loop .next + 4 + c .before .a .given .0 .0 .len ≤ length (lo .loop .out)
 room-at c = let t = unit-at c in copying-room _ _ _ _ _ _ _ _ (at-loop c .loop .inv .1) _ (t .inside) (left-at c) (t .left)
 
 put-unit-requires : tie.Need-put-unit-requires Inv-loop μ-loop
@@ -89,8 +91,11 @@ loop-less c = search needs
 loop-again : tie.Need-loop-again Inv-loop μ-loop
 loop-again c =
     let kt = c .before .before .before .before .before .before in
-    let t = unit-at kt in
-    (t .inside, copying-again _ _ _ _ _ _ _ _ (at-loop kt .loop .inv .1) _ (t .inside) (left-at kt) (t .left) _ (c .before .before .before .before .put-unit .ensures))
+    let t = unit-at kt in (
+      t .inside,
+      copying-again _ _ _ _ _ _ _ _ (at-loop kt .loop .inv .1) _ (t .inside) (left-at kt) (t .left) _
+          (c .before .before .before .before .put-unit .ensures),
+    )
 
 same-length-2 : tie.Need-same-length-2 Inv-loop μ-loop
 same-length-2 c = c .before .loop .inv .1 .same
@@ -98,7 +103,8 @@ same-length-2 c = c .before .loop .inv .1 .same
 returns-2 : tie.Need-returns-2 Inv-loop μ-loop
 returns-2 c =
     let l = c .before in
-    copying-end _ _ _ _ _ _ _ _ (l .loop .inv .1) (ap outcome (times-done (l .before .before .before .args .«record» .now) (l .loop .left) (l .loop .at) (omega arith)))
+    copying-end _ _ _ _ _ _ _ _ (l .loop .inv .1)
+    (ap outcome (times-done (l .before .before .before .args .«record» .now) (l .loop .left) (l .loop .at) (omega arith)))
 
 pub put-units-spec : {M : Type 1} → statement M
 put-units-spec =

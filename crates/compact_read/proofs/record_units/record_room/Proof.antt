@@ -24,7 +24,8 @@ count-at c = ap (λ (b : ℕ). b % 32 + 2) (c .wide .ensures .0 ∙ c .before .b
 
 -- what the measurement says
 measured-at : (c : tie.After-known-told)
-    → let w = after-wide c in let a = start w .args in UnitsMeasured (a .«record» .now) (recordUnits (a .«record» .now) (w .wide .result % 32 + 2)) (c .before .room .given .0 .0) (c .before .room .given .0 .1 .0)
+    → let w = after-wide c in let a = start w .args in UnitsMeasured (a .«record» .now) (recordUnits (a .«record» .now) (w .wide .result % 32 + 2))
+    (c .before .room .given .0 .0) (c .before .room .given .0 .1 .0)
 measured-at c = measured-units _ _ _ _ (sym (ap unitsRoomOf (c .before .room .given .1)) ∙ c .before .before .before .units-room .ensures .0)
 
 returns : tie.Need-returns

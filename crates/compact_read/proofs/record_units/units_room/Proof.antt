@@ -36,7 +36,8 @@ returns c =
     let l = c .before .before .before .before in
     let s = l .before .before .args .«record» .now in
     let k = c .before .before .chunk in (
-      ap (measured s (l .loop .room)) (sym (turn-short s (l .loop .left) (l .loop .at) (c .before .before .before .loop-test .taken) (k .result) (k .ensures) (c .enum-told .given .1)))
+      ap (measured s (l .loop .room)) (sym (turn-short s (l .loop .left) (l .loop .at) (c .before .before .before .loop-test .taken) (k .result)
+          (k .ensures) (c .enum-told .given .1)))
           ∙ l .loop .inv .2,
       tt,
     )

@@ -38,7 +38,8 @@ returns : tie.Need-returns
 returns c =
     let a = c .before .before .before .before .before .args in
     written-refused (compactRecordOf (a .config) (a .list .now) (unitsLeft (a .list .now) (a .c))) (a .out .now) 21
-    (ap (compactRecordOf (a .config) (a .list .now)) (sum-refused (a .list .now) (unitsLeft (a .list .now) (a .c)) 21 (sym (ap sumOf (c .enum-told .given .1)) ∙ c .before .before .units-sum .ensures .0)))
+    (ap (compactRecordOf (a .config) (a .list .now)) (sum-refused (a .list .now) (unitsLeft (a .list .now) (a .c)) 21
+    (sym (ap sumOf (c .enum-told .given .1)) ∙ c .before .before .units-sum .ensures .0)))
 
 record-len-requires : tie.Need-record-len-requires
 record-len-requires c κs = subst SumFits (c .before .sum .given .1) (c .before .before .before .units-sum .ensures .1)
@@ -55,15 +56,22 @@ returns-2 c =
     let l = long-at le in
     let g = le .len .given .1 in
     written-short (compactRecordOf (a .config) (a .list .now) (unitsLeft (a .list .now) (a .c))) (a .out .now) _
-    (record-given _ _ _ _ m _ (sym (ap countOf g) ∙ le .before .before .record-len .ensures)) (omega (arith, record-room (a .config) _ _ _ m, l .long, c .if1 .taken))
+    (record-given _ _ _ _ m _ (sym (ap countOf g) ∙ le .before .before .record-len .ensures))
+    (omega (arith, record-room (a .config) _ _ _ m, l .long, c .if1 .taken))
 
 store-record-requires : tie.Need-store-record-requires
 store-record-requires c κs =
     let le = c .before .before .before in
     let kt = after-known-told le in
     let b = start kt in
-    let l = long-at le in
-    (l .one, l .four, l .two, l .most, b .pre, record-copies (b .args .config) _ _ _ (sum-at kt) (b .args .out .now) (omega (arith, l .long, c .before .if1 .left)))
+    let l = long-at le in (
+      l .one,
+      l .four,
+      l .two,
+      l .most,
+      b .pre,
+      record-copies (b .args .config) _ _ _ (sum-at kt) (b .args .out .now) (omega (arith, l .long, c .before .if1 .left)),
+    )
 
 enum-known-e : tie.Need-enum-known-e
 enum-known-e c = search needs
@@ -80,7 +88,8 @@ returns-3 c =
     let l = long-at le in
     let g = le .len .given .1 in
     written-fits (compactRecordOf (a .config) (a .list .now) (unitsLeft (a .list .now) (a .c))) (a .out .now) _
-    (record-given _ _ _ _ m _ (sym (ap countOf g) ∙ le .before .before .record-len .ensures)) _ _ (l .long ∙ sym (record-room (a .config) _ _ _ m)) (c .before .before .before .before .if1 .left) (c .before .before .store-record .ensures)
+    (record-given _ _ _ _ m _ (sym (ap countOf g) ∙ le .before .before .record-len .ensures)) _ _ (l .long ∙ sym (record-room (a .config) _ _ _ m))
+    (c .before .before .before .before .if1 .left) (c .before .before .store-record .ensures)
 
 returns-4 : tie.Need-returns-4
 returns-4 c =

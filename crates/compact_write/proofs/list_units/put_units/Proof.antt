@@ -41,13 +41,16 @@ returns c =
 
 -- the unit that the step found
 turn-at : (c : tie.After-known-told Inv-loop μ-loop)
-    → ListTurn (c .before .before .before .before .before .before .before .args .list .now) (c .before .before .before .before .loop .here) (c .before .a .given .0 .0) (c .before .a .given .0 .1 .0)
+    → ListTurn (c .before .before .before .before .before .before .before .args .list .now) (c .before .before .before .before .loop .here)
+    (c .before .a .given .0 .0) (c .before .a .given .0 .1 .0)
 turn-at c = list-found _ _ _ (c .before .before .before .step .ensures) _ _ (c .before .a .given .1)
 
-room-at : (c : tie.After-known-told Inv-loop μ-loop) → c .before .before .before .before .loop .at + 1 + c .before .a .given .0 .0 .len ≤ length (c .before .before .before .before .loop .out)
+room-at : (c : tie.After-known-told Inv-loop μ-loop)
+    → c .before .before .before .before .loop .at + 1 + c .before .a .given .0 .0 .len ≤ length (c .before .before .before .before .loop .out)
 room-at c =
     let t = turn-at c in
-    copying-room _ _ _ _ _ _ _ _ (c .before .before .before .before .loop .inv .1) _ (t .inside) (unitsLeft _ (c .before .a .given .0 .1 .0)) (t .rest)
+    copying-room _ _ _ _ _ _ _ _ (c .before .before .before .before .loop .inv .1) _ (t .inside)
+    (unitsLeft _ (c .before .a .given .0 .1 .0)) (t .rest)
 
 put-unit-requires : tie.Need-put-unit-requires Inv-loop μ-loop
 put-unit-requires c κs = (turn-at (c .before) .inside, omega arith, room-at (c .before))
@@ -66,7 +69,8 @@ loop-again c =
     let u = c .before .before .before .before .before in
     let t = turn-at u in (
       t .passed .fits,
-      copying-again _ _ _ _ _ _ _ _ (u .before .before .before .before .loop .inv .1) _ (t .inside) (unitsLeft _ (u .before .a .given .0 .1 .0)) (t .rest) _ (c .before .before .before .put-unit .ensures),
+      copying-again _ _ _ _ _ _ _ _ (u .before .before .before .before .loop .inv .1) _ (t .inside) (unitsLeft _ (u .before .a .given .0 .1 .0))
+          (t .rest) _ (c .before .before .before .put-unit .ensures),
     )
 
 pub put-units-spec : {M : Type 1} → statement M

@@ -48,7 +48,8 @@ returns-4 c =
     let e = at-else1 el in
     let a = start e .args in
     let n = counted el in
-    length-given (a .config) (a .sum) (sym (e .before .outside .ensures) ∙ e .if1 .left) (n .0) (n .1) (not-false (a .sum .fits) (c .before .if4 .left))
+    length-given (a .config) (a .sum) (sym (e .before .outside .ensures) ∙ e .if1 .left) (n .0) (n .1)
+    (not-false (a .sum .fits) (c .before .if4 .left))
 
 pub record-len-spec : {M : Type 1} → statement M
 record-len-spec =

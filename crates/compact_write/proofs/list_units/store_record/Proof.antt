@@ -32,7 +32,8 @@ returns c =
     let pu = c .before .before .before .before .before .before in
     let a = start pu .args in
     let p = pu .put in
-    record-stored (a .out .now) (p .last .0) _ (bytesOf (unitBytes 1 (a .list .now)) (unitsLeft (a .list .now) (a .c))) _ _ (pu .before .before .first-byte .ensures) (p .ensures) (c .before .before .put-units .ensures)
+    record-stored (a .out .now) (p .last .0) _ (bytesOf (unitBytes 1 (a .list .now)) (unitsLeft (a .list .now) (a .c))) _ _
+    (pu .before .before .first-byte .ensures) (p .ensures) (c .before .before .put-units .ensures)
 
 pub store-record-spec : {M : Type 1} → statement M
 store-record-spec = tie.close (tie.spec first-byte-requires put-requires put-units-requires same-length returns)

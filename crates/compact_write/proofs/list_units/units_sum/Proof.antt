@@ -28,7 +28,8 @@ add-requires c κs =
     let l = t .before in
     let a = l .before .before .args in
     let g = c .before .a .given in
-    summing-room (a .list .now) (a .c) (l .loop .here) (l .loop .sum) (l .loop .inv) (t .step .result) (t .step .ensures) (g .0 .0) (g .0 .1 .0) (g .1)
+    summing-room (a .list .now) (a .c) (l .loop .here) (l .loop .sum) (l .loop .inv) (t .step .result) (t .step .ensures)
+    (g .0 .0) (g .0 .1 .0) (g .1)
 
 loop-less : tie.Need-loop-less Inv-loop μ-loop
 loop-less c =
@@ -36,7 +37,8 @@ loop-less c =
     let l = t .before in
     let a = l .before .before .args in
     let g = c .before .before .a .given in
-    summing-less (a .list .now) (a .c) (l .loop .here) (l .loop .sum) (l .loop .inv) (t .step .result) (t .step .ensures) (g .0 .0) (g .0 .1 .0) (g .1)
+    summing-less (a .list .now) (a .c) (l .loop .here) (l .loop .sum) (l .loop .inv) (t .step .result) (t .step .ensures)
+    (g .0 .0) (g .0 .1 .0) (g .1)
 
 loop-again : tie.Need-loop-again Inv-loop μ-loop
 loop-again c =
@@ -45,7 +47,8 @@ loop-again c =
     let a = l .before .before .args in
     let g = c .before .before .a .given in
     subst (Summing (a .list .now) (a .c) (g .0 .1 .0)) (sym (c .add .ensures))
-    (summing-again (a .list .now) (a .c) (l .loop .here) (l .loop .sum) (l .loop .inv) (t .step .result) (t .step .ensures) (g .0 .0) (g .0 .1 .0) (g .1))
+    (summing-again (a .list .now) (a .c) (l .loop .here) (l .loop .sum) (l .loop .inv) (t .step .result) (t .step .ensures) (g .0 .0)
+    (g .0 .1 .0) (g .1))
 
 enum-told : tie.Need-enum-told Inv-loop μ-loop
 enum-told c = search needs
@@ -64,8 +67,11 @@ returns-2 : tie.Need-returns-2 Inv-loop μ-loop
 returns-2 c =
     let t = c .before .before in
     let l = t .before in
-    let a = l .before .before .args in
-    (summing-malformed (a .list .now) (a .c) (l .loop .here) (l .loop .sum) (l .loop .inv) (t .step .result) (t .step .ensures) (c .enum-told2 .given .1), tt)
+    let a = l .before .before .args in (
+      summing-malformed (a .list .now) (a .c) (l .loop .here) (l .loop .sum) (l .loop .inv) (t .step .result) (t .step .ensures)
+          (c .enum-told2 .given .1),
+      tt,
+    )
 
 pub units-sum-spec : {M : Type 1} → statement M
 units-sum-spec =

@@ -36,7 +36,8 @@ returns-2 c =
     let a = c .before .before .before .before .before .before .args in
     c .no-ptl .ensures
     ∙ ap (λ (o : Outcome (Unit {0})). ptlOrZeros (andThen o (λ _. firstSpsPtl (unitsAt (a .list .now) (a .c)))))
-    (sym (ap (λ (x : ParamsAnswer). paramsReadOf x tt) (c .before .before .answer .given .1)) ∙ c .before .before .before .before .multi-layer-vps .ensures)
+    (sym (ap (λ (x : ParamsAnswer). paramsReadOf x tt) (c .before .before .answer .given .1))
+    ∙ c .before .before .before .before .multi-layer-vps .ensures)
 
 pub sets-ptl-spec : {M : Type 1} → statement M
 sets-ptl-spec =

@@ -32,7 +32,8 @@ returns c =
     c .no-ptl .ensures ∙ sps-missing _ (sym (ap (foundUnit s) (c .before .enum-told .given .1)) ∙ c .before .before .before .first-having .ensures .0)
 
 part-requires : tie.Need-part-requires
-part-requires c κs = subst (FirstFits (c .before .before .before .before .before .args .list .now)) (c .before .first .given .1) (c .before .before .before .first-having .ensures .1)
+part-requires c κs = subst (FirstFits (c .before .before .before .before .before .args .list .now)) (c .before .first .given .1)
+    (c .before .before .before .first-having .ensures .1)
 
 parse-nal-requires : tie.Need-parse-nal-requires
 parse-nal-requires c κs = search needs
@@ -60,7 +61,8 @@ returns-2 c =
     let e = sym (ap (foundUnit s) (g .1)) ∙ pn .before .before .before .before .before .first-having .ensures .0 in
     let f = y .ensures ∙ ap spsGiven (pn .before .part .ensures .holds) in
     c .ptl-of-sets .ensures
-    ∙ ap ptlOrZeros (sym (sps-found (unitsAt s (a .c)) u e (y .result .head) (read-value zeroSps (y .result .answer) (y .result .head) (parseSps u) f (c .before .enum-told2 .given .1))))
+    ∙ ap ptlOrZeros (sym (sps-found (unitsAt s (a .c)) u e (y .result .head)
+    (read-value zeroSps (y .result .answer) (y .result .head) (parseSps u) f (c .before .enum-told2 .given .1))))
 
 returns-3 : tie.Need-returns-3
 returns-3 c =
@@ -73,7 +75,8 @@ returns-3 c =
     let e = sym (ap (foundUnit s) (g .1)) ∙ pn .before .before .before .before .before .first-having .ensures .0 in
     let f = y .ensures ∙ ap spsGiven (pn .before .part .ensures .holds) in
     c .no-ptl2 .ensures
-    ∙ ap ptlOrZeros (sym (sps-refused (unitsAt s (a .c)) u e _ (read-refusal zeroSps (y .result .answer) (y .result .head) (parseSps u) f _ (c .before .before .answer .given .1))))
+    ∙ ap ptlOrZeros (sym (sps-refused (unitsAt s (a .c)) u e _
+    (read-refusal zeroSps (y .result .answer) (y .result .head) (parseSps u) f _ (c .before .before .answer .given .1))))
 
 pub sps-ptl-spec : {M : Type 1} → statement M
 sps-ptl-spec =

@@ -22,10 +22,12 @@ no-ptl-requires c κs = search needs
 returns : tie.Need-returns
 returns c =
     let s = c .before .before .before .before .before .args .list .now in
-    c .no-ptl .ensures ∙ vps-missing _ _ (sym (ap (foundUnit s) (c .before .enum-told .given .1)) ∙ c .before .before .before .first-having .ensures .0)
+    c .no-ptl .ensures
+    ∙ vps-missing _ _ (sym (ap (foundUnit s) (c .before .enum-told .given .1)) ∙ c .before .before .before .first-having .ensures .0)
 
 part-requires : tie.Need-part-requires
-part-requires c κs = subst (FirstFits (c .before .before .before .before .before .args .list .now)) (c .before .first .given .1) (c .before .before .before .first-having .ensures .1)
+part-requires c κs = subst (FirstFits (c .before .before .before .before .before .args .list .now)) (c .before .first .given .1)
+    (c .before .before .before .first-having .ensures .1)
 
 vps-first-ptl-requires : tie.Need-vps-first-ptl-requires
 vps-first-ptl-requires c κs = search needs
@@ -34,7 +36,8 @@ returns-2 : tie.Need-returns-2
 returns-2 c =
     let s = c .before .before .before .before .before .before .before .args .list .now in
     c .vps-first-ptl .ensures ∙ ap ptlGiven (c .before .part .ensures .holds)
-    ∙ vps-found _ _ _ (sym (ap (foundUnit s) (c .before .before .before .first .given .1)) ∙ c .before .before .before .before .before .first-having .ensures .0)
+    ∙ vps-found _ _ _
+    (sym (ap (foundUnit s) (c .before .before .before .first .given .1)) ∙ c .before .before .before .before .before .first-having .ensures .0)
 
 pub vps-ptl-spec : {M : Type 1} → statement M
 vps-ptl-spec =

@@ -49,7 +49,13 @@ cast-t24 : tie.Need-cast-t24
 cast-t24 c = search needs
 
 returns : tie.Need-returns
-returns c = rw (c .number5 .ensures .0, c .before .number4 .ensures .0, c .before .before .number3 .ensures .0, c .before .before .before .number2 .ensures .0, c .before .before .before .before .number .ensures .0)
+returns c = rw (
+  c .number5 .ensures .0,
+  c .before .number4 .ensures .0,
+  c .before .before .number3 .ensures .0,
+  c .before .before .before .number2 .ensures .0,
+  c .before .before .before .before .number .ensures .0,
+)
 
 pub head-fields-spec : {M : Type 1} → statement M
 head-fields-spec =

@@ -34,7 +34,10 @@ add-t8 c = search needs
 returns-2 : tie.Need-returns-2
 returns-2 c =
     let a = c .before .before .before .before .args in
-    rw (reads-sizes (a .s .now) (a .size) (be (a .s .now) 1 2) (be (a .s .now) 3 1) (a .ptl) (a .at) .there (omega (arith, ltb-false)), c .head-fields .ensures)
+    rw (
+      reads-sizes (a .s .now) (a .size) (be (a .s .now) 1 2) (be (a .s .now) 3 1) (a .ptl) (a .at) .there (omega (arith, ltb-false)),
+      c .head-fields .ensures,
+    )
 
 pub read-sizes-spec : {M : Type 1} → statement M
 read-sizes-spec =

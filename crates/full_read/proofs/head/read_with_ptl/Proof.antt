@@ -50,7 +50,8 @@ returns-2 c =
     let h : 4 ≤ length (a .s .now) = omega (arith, rp .before .before .if1 .left) in
     let n = rp .before .number in
     let r = rp .read-ptl in
-    c .read-sizes .ensures ∙ ap (orZeros zeroHead) (sym (ptl-read (a .size) (a .s .now) h (n .result) (n .ensures .0) (r .result) (r .ensures) _ (c .before .before .answer .given .1)))
+    c .read-sizes .ensures ∙ ap (orZeros zeroHead)
+    (sym (ptl-read (a .size) (a .s .now) h (n .result) (n .ensures .0) (r .result) (r .ensures) _ (c .before .before .answer .given .1)))
 
 returns-3 : tie.Need-returns-3
 returns-3 c =
@@ -59,7 +60,8 @@ returns-3 c =
     let h : 4 ≤ length (a .s .now) = omega (arith, rp .before .before .if1 .left) in
     let n = rp .before .number in
     let r = rp .read-ptl in
-    c .refused2 .ensures ∙ ap (orZeros zeroHead) (sym (ptl-refused (a .size) (a .s .now) h (n .result) (n .ensures .0) (r .result) (r .ensures) _ (c .before .before .answer2 .given .1)))
+    c .refused2 .ensures ∙ ap (orZeros zeroHead)
+    (sym (ptl-refused (a .size) (a .s .now) h (n .result) (n .ensures .0) (r .result) (r .ensures) _ (c .before .before .answer2 .given .1)))
 
 pub read-with-ptl-spec : {M : Type 1} → statement M
 read-with-ptl-spec =

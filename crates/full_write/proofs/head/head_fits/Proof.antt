@@ -19,7 +19,8 @@ ptl-part-fits-requires c κs = search needs
 returns-2 : tie.Need-returns-2
 returns-2 c =
     let i = c .before .before in
-    c .ptl-part-fits .ensures ∙ sym (head-flagged (i .before .before .args .h) (sym (i .before .outside .ensures) ∙ i .if1 .left) (c .before .if2 .taken))
+    c .ptl-part-fits .ensures
+    ∙ sym (head-flagged (i .before .before .args .h) (sym (i .before .outside .ensures) ∙ i .if1 .left) (c .before .if2 .taken))
 
 returns-3 : tie.Need-returns-3
 unfolding headFits

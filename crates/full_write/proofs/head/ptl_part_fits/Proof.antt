@@ -19,7 +19,8 @@ returns-2 c = simp (le-leb _ 511 (c .before .before .if1 .left), lt-leb _ 7 (c .
 
 returns-3 : tie.Need-returns-3
 unfolding ptlPartFits
-returns-3 c = simp (le-leb _ 511 (c .before .before .before .before .if1 .left), le-leb _ 7 (c .before .before .if2 .left), lt-leb _ 3 (c .if3 .taken))
+returns-3 c =
+    simp (le-leb _ 511 (c .before .before .before .before .if1 .left), le-leb _ 7 (c .before .before .if2 .left), lt-leb _ 3 (c .if3 .taken))
 
 returns-4 : tie.Need-returns-4
 unfolding ptlPartFits
@@ -31,7 +32,13 @@ returns-5 : tie.Need-returns-5
 unfolding ptlPartFits
 returns-5 c =
     let el = c .before .before .before .before in
-    simp (le-leb _ 511 (at-else1 el .if1 .left), le-leb _ 7 (el .before .before .if2 .left), le-leb _ 3 (el .if3 .left), le-leb _ 3 (c .before .before .if4 .left), lt-leb _ 7 (c .if5 .taken))
+    simp (
+      le-leb _ 511 (at-else1 el .if1 .left),
+      le-leb _ 7 (el .before .before .if2 .left),
+      le-leb _ 3 (el .if3 .left),
+      le-leb _ 3 (c .before .before .if4 .left),
+      lt-leb _ 7 (c .if5 .taken),
+    )
 
 ptl-fits-requires : tie.Need-ptl-fits-requires
 ptl-fits-requires c κs = search needs
@@ -40,7 +47,13 @@ returns-6 : tie.Need-returns-6
 unfolding ptlPartFits
 returns-6 c =
     let el = c .before .before .before .before .before in
-    rw (le-leb _ 511 (at-else1 el .if1 .left), le-leb _ 7 (el .before .before .if2 .left), le-leb _ 3 (el .if3 .left), le-leb _ 3 (c .before .before .before .if4 .left), le-leb _ 7 (c .before .if5 .left))
+    rw (
+      le-leb _ 511 (at-else1 el .if1 .left),
+      le-leb _ 7 (el .before .before .if2 .left),
+      le-leb _ 3 (el .if3 .left),
+      le-leb _ 3 (c .before .before .before .if4 .left),
+      le-leb _ 7 (c .before .if5 .left),
+    )
     (c .ptl-fits .ensures)
 
 pub ptl-part-fits-spec : {M : Type 1} → statement M

@@ -34,8 +34,10 @@ put-ptl-part-requires c κs =
     let t = c .before in
     let pu = t .before .before .before in
     let g = start pu in
-    let h = head-part (g .args .h) (t .if1 .taken) in
-    (head-fits _ (g .pre .0) .part (t .if1 .taken), omega (arith, ap length h, g .pre .1, ap length (pu .put .ensures), length-set (g .args .out .now) 0 (first (g .args .h))))
+    let h = head-part (g .args .h) (t .if1 .taken) in (
+      head-fits _ (g .pre .0) .part (t .if1 .taken),
+      omega (arith, ap length h, g .pre .1, ap length (pu .put .ensures), length-set (g .args .out .now) 0 (first (g .args .h))),
+    )
 
 same-length : tie.Need-same-length
 same-length c = search needs

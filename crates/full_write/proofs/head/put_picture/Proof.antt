@@ -26,7 +26,8 @@ returns : tie.Need-returns
 returns c =
     let pn = c .before .before .before .before .before .before in
     let a = pn .before .before .before .before .before .before .before .args in
-    rw (c .before .before .put-number3 .ensures, pn .put-number2 .ensures, pn .before .before .before .before .put-number .ensures) (picture-stored (a .out .now) (a .at) (a .width) (a .height) (a .rate))
+    rw (c .before .before .put-number3 .ensures, pn .put-number2 .ensures, pn .before .before .before .before .put-number .ensures)
+    (picture-stored (a .out .now) (a .at) (a .width) (a .height) (a .rate))
 
 pub put-picture-spec : {M : Type 1} → statement M
 put-picture-spec =

@@ -65,7 +65,8 @@ returns c =
     let p = pp .put-ptl .ensures in
     let l = length-part (a .h) in (
       omega (arith, p .0, l),
-      rw (c .before .before .put-picture .ensures, p .1, pu .put .ensures, pn .put-number .ensures, pn .before .before .word-of .ensures) (part-stored (a .h) (a .out .now) (a .at) (pp .put-ptl .result) (p .0)),
+      rw (c .before .before .put-picture .ensures, p .1, pu .put .ensures, pn .put-number .ensures, pn .before .before .word-of .ensures)
+          (part-stored (a .h) (a .out .now) (a .at) (pp .put-ptl .result) (p .0)),
       omega (arith, p .2),
     )
 

@@ -31,12 +31,15 @@ enum-told c = search needs
 returns : tie.Need-returns Inv-loop μ-loop
 returns c =
     let i = c .before .before .before .loop .inv in
-    let f = i .0 .fits in
-    (measured-end _ _ _ _ _ (i .1) (ended _ _ _ (c .before .before .next-unit .ensures) (c .enum-told .given .1)), omega (arith, i .1 .few, f .before, f .within, f .lent))
+    let f = i .0 .fits in (
+      measured-end _ _ _ _ _ (i .1) (ended _ _ _ (c .before .before .next-unit .ensures) (c .enum-told .given .1)),
+      omega (arith, i .1 .few, f .before, f .within, f .lent),
+    )
 
 -- the unit that the step found
 step-here : (c : tie.After-known-told Inv-loop μ-loop)
-    → UnitStepped (c .before .before .before .before .before .before .args .list .now) (c .before .before .before .before .loop .here) (c .before .a .given .0 .0) (c .before .a .given .0 .1 .0) (c .before .a .given .0 .1 .1 .0)
+    → UnitStepped (c .before .before .before .before .before .before .args .list .now) (c .before .before .before .before .loop .here)
+    (c .before .a .given .0 .0) (c .before .a .given .0 .1 .0) (c .before .a .given .0 .1 .1 .0)
 step-here c = stepped-to _ _ _ (c .before .before .before .next-unit .ensures) _ _ _ (c .before .a .given .1)
 
 add-len : tie.Need-add-len Inv-loop μ-loop
@@ -58,16 +61,21 @@ loop-less c = nearer _ _ _ _ _ (step-here (c .before .before))
 
 loop-again : tie.Need-loop-again Inv-loop μ-loop
 loop-again c =
-    let u = step-here (c .before .before) in
-    (u .readable, measured-same _ _ _ _ _ (c .before .before .before .before .before .before .loop .inv .1) _ _ _ (u .turn) (sym (u .type-is) ∙ c .before .if1 .taken) _ (u .long))
+    let u = step-here (c .before .before) in (
+      u .readable,
+      measured-same _ _ _ _ _ (c .before .before .before .before .before .before .loop .inv .1) _ _ _ (u .turn)
+          (sym (u .type-is) ∙ c .before .if1 .taken) _ (u .long),
+    )
 
 loop-less-2 : tie.Need-loop-less-2 Inv-loop μ-loop
 loop-less-2 c = nearer _ _ _ _ _ (step-here (c .before))
 
 loop-again-2 : tie.Need-loop-again-2 Inv-loop μ-loop
 loop-again-2 c =
-    let u = step-here (c .before) in
-    (u .readable, measured-other _ _ _ _ _ (c .before .before .before .before .before .loop .inv .1) _ _ _ (u .turn) (λ e. c .if1 .left (u .type-is ∙ e)))
+    let u = step-here (c .before) in (
+      u .readable,
+      measured-other _ _ _ _ _ (c .before .before .before .before .before .loop .inv .1) _ _ _ (u .turn) (λ e. c .if1 .left (u .type-is ∙ e)),
+    )
 
 pub group-len-spec : {M : Type 1} → statement M
 group-len-spec =

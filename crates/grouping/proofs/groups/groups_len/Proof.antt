@@ -35,12 +35,15 @@ enum-told c = search needs
 returns : tie.Need-returns Inv-loop μ-loop
 returns c =
     let i = c .before .before .before .loop .inv in
-    let f = i .0 .fits in
-    (summed-end _ _ _ _ _ (i .1) (ended _ _ _ (c .before .before .next-unit .ensures) (c .enum-told .given .1)), omega (arith, i .1 .few, f .before, f .within, f .lent))
+    let f = i .0 .fits in (
+      summed-end _ _ _ _ _ (i .1) (ended _ _ _ (c .before .before .next-unit .ensures) (c .enum-told .given .1)),
+      omega (arith, i .1 .few, f .before, f .within, f .lent),
+    )
 
 -- the unit that the step found
 step-here : (c : tie.After-known-told Inv-loop μ-loop)
-    → UnitStepped (c .before .before .before .before .before .before .args .list .now) (c .before .before .before .before .loop .here) (c .before .t .given .0 .0) (c .before .t .given .0 .1 .0) (c .before .t .given .0 .1 .1 .0)
+    → UnitStepped (c .before .before .before .before .before .before .args .list .now) (c .before .before .before .before .loop .here)
+    (c .before .t .given .0 .0) (c .before .t .given .0 .1 .0) (c .before .t .given .0 .1 .1 .0)
 step-here c = stepped-to _ _ _ (c .before .before .before .next-unit .ensures) _ _ _ (c .before .t .given .1)
 
 wide-requires : tie.Need-wide-requires Inv-loop μ-loop
@@ -73,16 +76,22 @@ loop-less c = nearer _ _ _ _ _ (step-here (c .before .before .before))
 loop-again : tie.Need-loop-again Inv-loop μ-loop
 loop-again c =
     let u = step-here (c .before .before .before) in
-    let g = c .group-len .ensures in
-    (u .readable, summed-new _ _ _ _ _ (at-loop (c .before) .loop .inv .1) _ _ _ (u .turn) _ _ (u .type-is) (u .small) (c .before .before .wide .ensures .0) (not-true _ (c .before .if1 .taken)) _ (g .0) (g .1))
+    let g = c .group-len .ensures in (
+      u .readable,
+      summed-new _ _ _ _ _ (at-loop (c .before) .loop .inv .1) _ _ _ (u .turn) _ _ (u .type-is) (u .small) (c .before .before .wide .ensures .0)
+          (not-true _ (c .before .if1 .taken)) _ (g .0) (g .1),
+    )
 
 loop-less-2 : tie.Need-loop-less-2 Inv-loop μ-loop
 loop-less-2 c = nearer _ _ _ _ _ (step-here (c .before .before))
 
 loop-again-2 : tie.Need-loop-again-2 Inv-loop μ-loop
 loop-again-2 c =
-    let u = step-here (c .before .before) in
-    (u .readable, summed-met _ _ _ _ _ (c .before .before .before .before .before .before .loop .inv .1) _ _ _ (u .turn) _ _ (u .type-is) (u .small) (c .before .wide .ensures .0) (not-false _ (c .if1 .left)))
+    let u = step-here (c .before .before) in (
+      u .readable,
+      summed-met _ _ _ _ _ (c .before .before .before .before .before .before .loop .inv .1) _ _ _ (u .turn) _ _ (u .type-is) (u .small)
+          (c .before .wide .ensures .0) (not-false _ (c .if1 .left)),
+    )
 
 pub groups-len-spec : {M : Type 1} → statement M
 groups-len-spec =

@@ -14,11 +14,14 @@ add-from : tie.Need-add-from
 add-from c = let a = c .before .before .args in omega (arith, array-long (unitsAt (a .list .now) (a .c)) (a .t), c .before .before .pre .1)
 
 add-put-group-units : tie.Need-add-put-group-units
-add-put-group-units c = let a = c .before .before .before .args in omega (arith, array-long (unitsAt (a .list .now) (a .c)) (a .t), c .before .before .before .pre .1)
+add-put-group-units c =
+    let a = c .before .before .before .args in
+    omega (arith, array-long (unitsAt (a .list .now) (a .c)) (a .t), c .before .before .before .pre .1)
 
 put-group-units-requires : tie.Need-put-group-units-requires
 put-group-units-requires c κs =
-    let a = c .before .before .before .args in (c .before .before .before .pre .0, omega (arith, array-long (unitsAt (a .list .now) (a .c)) (a .t), c .before .before .before .pre .1))
+    let a = c .before .before .before .args in
+    (c .before .before .before .pre .0, omega (arith, array-long (unitsAt (a .list .now) (a .c)) (a .t), c .before .before .before .pre .1))
 
 sub-put-array-head : tie.Need-sub-put-array-head
 sub-put-array-head c = omega (arith, c .before .before .before .put-group-units .ensures .0)
@@ -41,7 +44,8 @@ returns c =
     let y = pgu .put-group-units in
     let h = y .ensures .0 in (
       omega (arith, array-long us (a .t)),
-      array-stored us (a .t) (a .out .now) _ _ (a .at) (y .result - (a .at + 4)) (y .ensures .1) (c .before .before .put-array-head .ensures) (omega arith),
+      array-stored us (a .t) (a .out .now) _ _ (a .at) (y .result - (a .at + 4)) (y .ensures .1)
+          (c .before .before .put-array-head .ensures) (omega arith),
     )
 
 pub put-group-spec : {M : Type 1} → statement M

@@ -42,11 +42,13 @@ same-length : tie.Need-same-length Inv-loop μ-loop
 same-length c = omega (arith, c .before .before .before .loop .inv .1 .same)
 
 returns : tie.Need-returns Inv-loop μ-loop
-returns c = stored-end _ _ _ _ _ _ _ (c .before .before .before .loop .inv .1) (ended _ _ _ (c .before .before .next-unit .ensures) (c .enum-told .given .1))
+returns c =
+    stored-end _ _ _ _ _ _ _ (c .before .before .before .loop .inv .1) (ended _ _ _ (c .before .before .next-unit .ensures) (c .enum-told .given .1))
 
 -- the unit that the step found
 step-here : (c : tie.After-known-told Inv-loop μ-loop)
-    → let l = c .before .before .before .before in UnitStepped (start l .args .list .now) (l .loop .here) (c .before .a .given .0 .0) (c .before .a .given .0 .1 .0) (c .before .a .given .0 .1 .1 .0)
+    → let l = c .before .before .before .before in UnitStepped (start l .args .list .now) (l .loop .here) (c .before .a .given .0 .0)
+    (c .before .a .given .0 .1 .0) (c .before .a .given .0 .1 .1 .0)
 step-here c = stepped-to _ _ _ (c .before .before .before .next-unit .ensures) _ _ _ (c .before .a .given .1)
 
 -- the output has room for it if it is of the type
@@ -71,16 +73,21 @@ loop-less c = nearer _ _ _ _ _ (step-here (at-then1 c .before))
 loop-again : tie.Need-loop-again Inv-loop μ-loop
 loop-again c =
     let th = at-then1 c in
-    let u = step-here (th .before) in
-    (u .readable, stored-same _ _ _ _ _ _ _ (at-loop th .loop .inv .1) _ _ _ _ (u .turn) (sym (u .type-is) ∙ th .if1 .taken) _ (u .long) _ (c .before .before .before .put-unit .ensures))
+    let u = step-here (th .before) in (
+      u .readable,
+      stored-same _ _ _ _ _ _ _ (at-loop th .loop .inv .1) _ _ _ _ (u .turn) (sym (u .type-is) ∙ th .if1 .taken) _ (u .long) _
+          (c .before .before .before .put-unit .ensures),
+    )
 
 loop-less-2 : tie.Need-loop-less-2 Inv-loop μ-loop
 loop-less-2 c = nearer _ _ _ _ _ (step-here (c .before))
 
 loop-again-2 : tie.Need-loop-again-2 Inv-loop μ-loop
 loop-again-2 c =
-    let u = step-here (c .before) in
-    (u .readable, stored-other _ _ _ _ _ _ _ (c .before .before .before .before .before .loop .inv .1) _ _ _ _ (u .turn) (λ e. c .if1 .left (u .type-is ∙ e)))
+    let u = step-here (c .before) in (
+      u .readable,
+      stored-other _ _ _ _ _ _ _ (c .before .before .before .before .before .loop .inv .1) _ _ _ _ (u .turn) (λ e. c .if1 .left (u .type-is ∙ e)),
+    )
 
 pub put-group-units-spec : {M : Type 1} → statement M
 put-group-units-spec =

@@ -39,11 +39,13 @@ same-length : tie.Need-same-length Inv-loop μ-loop
 same-length c = omega (arith, c .before .before .before .loop .inv .1 .same)
 
 returns : tie.Need-returns Inv-loop μ-loop
-returns c = laid-end _ _ _ _ _ _ _ (c .before .before .before .loop .inv .1) (ended _ _ _ (c .before .before .next-unit .ensures) (c .enum-told .given .1))
+returns c =
+    laid-end _ _ _ _ _ _ _ (c .before .before .before .loop .inv .1) (ended _ _ _ (c .before .before .next-unit .ensures) (c .enum-told .given .1))
 
 -- the unit that the step found
 step-here : (c : tie.After-known-told Inv-loop μ-loop)
-    → let l = c .before .before .before .before in UnitStepped (start l .args .list .now) (l .loop .here) (c .before .t .given .0 .0) (c .before .t .given .0 .1 .0) (c .before .t .given .0 .1 .1 .0)
+    → let l = c .before .before .before .before in UnitStepped (start l .args .list .now) (l .loop .here) (c .before .t .given .0 .0)
+    (c .before .t .given .0 .1 .0) (c .before .t .given .0 .1 .1 .0)
 step-here c = stepped-to _ _ _ (c .before .before .before .next-unit .ensures) _ _ _ (c .before .t .given .1)
 
 wide-requires : tie.Need-wide-requires Inv-loop μ-loop
@@ -62,7 +64,8 @@ put-group-requires c κs =
     let s = start l in
     let u = step-here (w .before) in (
       s .pre .0,
-      laid-room _ _ _ _ _ _ _ (l .loop .inv .1) _ _ _ _ (u .turn) _ _ (u .type-is) (u .small) (w .wide .ensures .0) (not-true _ (c .before .if1 .taken)) (s .pre .1),
+      laid-room _ _ _ _ _ _ _ (l .loop .inv .1) _ _ _ _ (u .turn) _ _ (u .type-is) (u .small) (w .wide .ensures .0)
+          (not-true _ (c .before .if1 .taken)) (s .pre .1),
     )
 
 loop-less : tie.Need-loop-less Inv-loop μ-loop
@@ -74,7 +77,8 @@ loop-again c =
     let u = step-here (w .before) in
     let p = c .before .before .put-group .ensures in (
       u .readable,
-      laid-new _ _ _ _ _ _ _ (at-loop w .loop .inv .1) _ _ _ _ (u .turn) _ _ (u .type-is) (u .small) (w .wide .ensures .0) (not-true _ (c .before .before .before .before .if1 .taken)) _ _ (p .0) (p .1),
+      laid-new _ _ _ _ _ _ _ (at-loop w .loop .inv .1) _ _ _ _ (u .turn) _ _ (u .type-is) (u .small) (w .wide .ensures .0)
+          (not-true _ (c .before .before .before .before .if1 .taken)) _ _ (p .0) (p .1),
     )
 
 loop-less-2 : tie.Need-loop-less-2 Inv-loop μ-loop
@@ -82,8 +86,11 @@ loop-less-2 c = nearer _ _ _ _ _ (step-here (c .before .before))
 
 loop-again-2 : tie.Need-loop-again-2 Inv-loop μ-loop
 loop-again-2 c =
-    let u = step-here (c .before .before) in
-    (u .readable, laid-met _ _ _ _ _ _ _ (at-loop (c .before) .loop .inv .1) _ _ _ _ (u .turn) _ _ (u .type-is) (u .small) (c .before .wide .ensures .0) (not-false _ (c .if1 .left)))
+    let u = step-here (c .before .before) in (
+      u .readable,
+      laid-met _ _ _ _ _ _ _ (at-loop (c .before) .loop .inv .1) _ _ _ _ (u .turn) _ _ (u .type-is) (u .small) (c .before .wide .ensures .0)
+          (not-false _ (c .if1 .left)),
+    )
 
 pub put-groups-spec : {M : Type 1} → statement M
 put-groups-spec =

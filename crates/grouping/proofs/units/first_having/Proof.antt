@@ -43,14 +43,16 @@ returns c =
 
 -- the unit that the step found
 step-here : (c : tie.After-known-told Inv-loop μ-loop)
-    → UnitStepped (start c .args .list .now) (c .before .before .before .before .loop .here) (c .before .a .given .0 .0) (c .before .a .given .0 .1 .0) (c .before .a .given .0 .1 .1 .0)
+    → UnitStepped (start c .args .list .now) (c .before .before .before .before .loop .here) (c .before .a .given .0 .0)
+    (c .before .a .given .0 .1 .0) (c .before .a .given .0 .1 .1 .0)
 step-here c = stepped-to _ _ _ (c .before .before .before .next-unit .ensures) _ _ _ (c .before .a .given .1)
 
 is-record-of-requires : tie.Need-is-record-of-requires Inv-loop μ-loop
 is-record-of-requires c κs = search needs
 
 -- the test of the kind is the test of the type
-tested : (c : tie.After-is-record-of Inv-loop μ-loop) → c .is-record-of .result ≡ eqb (c .before .before .a .given .0 .1 .0) (start (c .before) .args .t)
+tested : (c : tie.After-is-record-of Inv-loop μ-loop)
+    → c .is-record-of .result ≡ eqb (c .before .before .a .given .0 .1 .0) (start (c .before) .args .t)
 tested c = c .is-record-of .ensures ∙ record-of _ _ (start (c .before) .pre .1)
 
 returns-2 : tie.Need-returns-2 Inv-loop μ-loop

@@ -14,11 +14,12 @@ returns : tie.Need-returns
 returns c = none-left _ _ (c .before .step .result) (c .before .step .ensures .0) (c .match .keys2)
 
 unit-type-requires : tie.Need-unit-type-requires
-unit-type-requires c κs = found-inside _ _ _ (c .before .before .before .step .ensures) (c .before .before .before .before .before .pre) _ _ (c .before .step2 .given .1)
+unit-type-requires c κs =
+    found-inside _ _ _ (c .before .before .before .step .ensures) (c .before .before .before .before .before .pre) _ _ (c .before .step2 .given .1)
 
 returns-2 : tie.Need-returns-2
-returns-2 c =
-    found-step _ _ _ (c .before .before .before .before .step .ensures) (c .before .before .before .before .before .before .pre) _ _ (c .before .before .step2 .given .1)
+returns-2 c = found-step _ _ _ (c .before .before .before .before .step .ensures) (c .before .before .before .before .before .before .pre) _ _
+    (c .before .before .step2 .given .1)
     _ (c .unit-type .ensures .0) (c .unit-type .ensures .1)
 
 pub next-unit-spec : {M : Type 1} → statement M

@@ -14,7 +14,8 @@ enum-known-c : tie.Need-enum-known-c
 enum-known-c c = search needs
 
 start-at-requires : tie.Need-start-at-requires
-start-at-requires c κs = subst (StartFits (c .before .before .before .before .before .args .list .now)) (c .before .c .given .1) (c .before .before .before .start .ensures .2)
+start-at-requires c κs = subst (StartFits (c .before .before .before .before .before .args .list .now)) (c .before .c .given .1)
+    (c .before .before .before .start .ensures .2)
 
 enum-known-e : tie.Need-enum-known-e
 enum-known-e c = search needs
@@ -27,8 +28,11 @@ returns c =
 
 returns-2 : tie.Need-returns-2
 returns-2 c =
-    let y = c .before .before .before .start in
-    (ap (heldUnits (c .before .before .before .before .before .args .list .now)) (start-refused _ (y .result) (y .ensures) _ (c .before .e .given .1)), tt)
+    let y = c .before .before .before .start in (
+      ap (heldUnits (c .before .before .before .before .before .args .list .now))
+          (start-refused _ (y .result) (y .ensures) _ (c .before .e .given .1)),
+      tt,
+    )
 
 pub start-spec : {M : Type 1} → statement M
 start-spec =

@@ -16,7 +16,8 @@ enum-known-counted : tie.Need-enum-known-counted
 enum-known-counted c = search needs
 
 returns : tie.Need-returns
-returns c = units-counted _ _ _ (c .before .before .before .before .pre) (sym (ap countOf (c .enum-told .given .1)) ∙ c .before .before .find-from .ensures .count)
+returns c = units-counted _ _ _ (c .before .before .before .before .pre)
+    (sym (ap countOf (c .enum-told .given .1)) ∙ c .before .before .find-from .ensures .count)
 
 returns-2 : tie.Need-returns-2
 returns-2 c = (units-refused _ _ _ (sym (ap countOf (c .before .counted .given .1)) ∙ c .before .before .before .find-from .ensures .count), tt)

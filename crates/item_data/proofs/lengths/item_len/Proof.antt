@@ -10,7 +10,9 @@ returns : tie.Need-returns
 returns c = let a = c .before .before .args in ap countFound (sym (restore-too-long (a .config) (a .stored .now) (c .if1 .taken)))
 
 returns-2 : tie.Need-returns-2
-returns-2 c = let a = c .before .before .before .args in ap countFound (sym (restore-copy (a .config) (a .stored .now) (c .before .if1 .left) (c .if2 .taken)))
+returns-2 c =
+    let a = c .before .before .before .args in
+    ap countFound (sym (restore-copy (a .config) (a .stored .now) (c .before .if1 .left) (c .if2 .taken)))
 
 still-len-requires : tie.Need-still-len-requires
 still-len-requires c κs = search needs

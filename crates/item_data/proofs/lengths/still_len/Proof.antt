@@ -50,7 +50,8 @@ returns-3 c =
     let a = c .before .before .before .before .before .before .args in
     let z = sized (c .before .before .before) in
     let l = limit-at (c .before) in
-    sym (prefixed-length (a .length-size) (stillUnit (a .stored .now)) (z .0) (z .1) (omega (arith, l, c .if2 .left)) _ (omega (arith, c .before .before .wide .ensures .0)))
+    sym (prefixed-length (a .length-size) (stillUnit (a .stored .now)) (z .0) (z .1) (omega (arith, l, c .if2 .left)) _
+    (omega (arith, c .before .before .wide .ensures .0)))
 
 pub still-len-spec : {M : Type 1} → statement M
 still-len-spec =

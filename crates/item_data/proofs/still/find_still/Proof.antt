@@ -27,13 +27,16 @@ sized : (c : tie.After-wide) → (1 ≤ c .wide .result) × (c .wide .result ≤
 sized c = rw (c .wide .ensures .0) (size-inside _ (sym (c .before .before .outside .ensures) ∙ c .before .if1 .left))
 
 -- the units of the item are those from place 0 on
-left-at : (c : tie.After-wide) → itemUnitsFrom (c .wide .result) (c .before .before .before .before .args .item .now) 0 ≡ itemUnits (c .before .before .before .before .args .length-size) (c .before .before .before .before .args .item .now)
+left-at : (c : tie.After-wide) → itemUnitsFrom (c .wide .result) (c .before .before .before .before .args .item .now) 0
+    ≡ itemUnits (c .before .before .before .before .args .length-size) (c .before .before .before .before .args .item .now)
 left-at c =
     let z = sized c in
-    sym (items-left (c .wide .result) (c .before .before .before .before .args .item .now) (z .0) (z .1)) ∙ ap (λ (n : ℕ). itemUnits n (c .before .before .before .before .args .item .now)) (c .wide .ensures .0)
+    sym (items-left (c .wide .result) (c .before .before .before .before .args .item .now) (z .0) (z .1))
+    ∙ ap (λ (n : ℕ). itemUnits n (c .before .before .before .before .args .item .now)) (c .wide .ensures .0)
 
 -- the unit that the step found
-unit-at : (c : tie.After-known-told) → let w = after-wide c in Turn (w .wide .result) (start w .args .item .now) 0 (c .before .a .given .0 .0) (c .before .a .given .0 .1 .0)
+unit-at : (c : tie.After-known-told) → let w = after-wide c in
+    Turn (w .wide .result) (start w .args .item .now) 0 (c .before .a .given .0 .0) (c .before .a .given .0 .1 .0)
 unit-at c = found-unit _ _ _ _ (c .before .before .before .item-step .ensures) _ _ (c .before .a .given .1)
 
 outside-requires : tie.Need-outside-requires

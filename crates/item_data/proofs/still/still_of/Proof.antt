@@ -38,18 +38,25 @@ is-picture-data-of-requires : tie.Need-is-picture-data-of-requires
 is-picture-data-of-requires c κs = search needs
 
 -- the test of the kind is the test of the type
-tested : (c : tie.After-is-picture-data-of) → let a = start c .args in c .is-picture-data-of .result ≡ eqb (getD (a .item .now) (a .a .start + 1) 0 / 8) 8
+tested : (c : tie.After-is-picture-data-of) → let a = start c .args in
+    c .is-picture-data-of .result ≡ eqb (getD (a .item .now) (a .a .start + 1) 0 / 8) 8
 tested c = c .is-picture-data-of .ensures ∙ picture-data-of 8 _ (omega arith)
 
 returns-3 : tie.Need-returns-3
 returns-3 c =
-    let b = start (c .before) in
-    (one-type (b .args .item .now) (b .args .a) (b .pre) (omega (arith, c .before .before .before .before .before .if1 .left)) (eqb-false _ 8 (sym (tested (c .before)) ∙ not-true _ (c .if3 .taken))), tt)
+    let b = start (c .before) in (
+      one-type (b .args .item .now) (b .args .a) (b .pre) (omega (arith, c .before .before .before .before .before .if1 .left))
+          (eqb-false _ 8 (sym (tested (c .before)) ∙ not-true _ (c .if3 .taken))),
+      tt,
+    )
 
 returns-4 : tie.Need-returns-4
 returns-4 c =
-    let b = start (c .before .before) in
-    (one-temporal (b .args .item .now) (b .args .a) (b .pre) (omega (arith, c .before .before .before .before .before .before .if1 .left)) (c .if4 .taken), tt)
+    let b = start (c .before .before) in (
+      one-temporal (b .args .item .now) (b .args .a) (b .pre)
+          (omega (arith, c .before .before .before .before .before .before .if1 .left)) (c .if4 .taken),
+      tt,
+    )
 
 add-t9 : tie.Need-add-t9
 add-t9 c = search needs

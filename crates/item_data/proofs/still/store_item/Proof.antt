@@ -19,7 +19,9 @@ same-length : tie.Need-same-length
 same-length c = search needs
 
 returns : tie.Need-returns
-returns c = let b = c .before .before .before .before .before .before .before in stored-copy _ _ _ (b .pre) (c .before .before .before .before .if1 .taken) _ (c .before .before .copy .ensures)
+returns c =
+    let b = c .before .before .before .before .before .before .before in
+    stored-copy _ _ _ (b .pre) (c .before .before .before .before .if1 .taken) _ (c .before .before .copy .ensures)
 
 wide-requires : tie.Need-wide-requires
 wide-requires c κs = search needs
@@ -38,7 +40,8 @@ same-length-2 c = search needs
 returns-2 : tie.Need-returns-2
 returns-2 c =
     let w = c .before .before .before .before in
-    let b = w .before .before .before .before in stored-unit _ _ _ (b .pre) (w .before .if1 .left) _ _ (w .wide .ensures .0) (c .before .before .store-still .ensures)
+    let b = w .before .before .before .before in
+    stored-unit _ _ _ (b .pre) (w .before .if1 .left) _ _ (w .wide .ensures .0) (c .before .before .store-still .ensures)
 
 pub store-item-spec : {M : Type 1} → statement M
 store-item-spec =

@@ -39,7 +39,8 @@ returns c =
     let a = pn .before .before .before .before .before .args in
     let n = pn .put-number in
     let x = co .copy in
-    still-stored (a .stored .now) (a .out .now) (n .last .0) (x .last .1 .0) _ (a .size) (pn .before .before .nal-header .result) (pn .before .before .nal-header .ensures) (n .ensures) (x .ensures) (c .before .before .copy2 .ensures)
+    still-stored (a .stored .now) (a .out .now) (n .last .0) (x .last .1 .0) _ (a .size) (pn .before .before .nal-header .result)
+    (pn .before .before .nal-header .ensures) (n .ensures) (x .ensures) (c .before .before .copy2 .ensures)
 
 pub store-still-spec : {M : Type 1} → statement M
 store-still-spec =

@@ -32,7 +32,8 @@ parse-rbsp-requires c κs =
 returns : tie.Need-returns
 returns c =
     c .parse-rbsp .ensures
-    ∙ ap (λ x. accept (whereRead x)) (enough opiPoint 9 opi-looks _ _ _ _ (length-replicate {A = ℕ} 9 0) (c .before .before .before .fill-rbsp .ensures))
+    ∙ ap (λ x. accept (whereRead x))
+    (enough opiPoint 9 opi-looks _ _ _ _ (length-replicate {A = ℕ} 9 0) (c .before .before .before .fill-rbsp .ensures))
 
 pub parse-payload-spec : {M : Type 1} → statement M
 parse-payload-spec =

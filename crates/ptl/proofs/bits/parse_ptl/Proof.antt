@@ -10,8 +10,10 @@ read-general-requires c κs = search needs
 
 read-constraints-requires : tie.Need-read-constraints-requires
 read-constraints-requires c κs =
-    let a = c .before .before in
-    (omega (arith, a .pre .0), general-place _ (a .args .prior) (c .read-general .result .answer) (c .read-general .result .part) (a .pre .1) (c .read-general .ensures))
+    let a = c .before .before in (
+      omega (arith, a .pre .0),
+      general-place _ (a .args .prior) (c .read-general .result .answer) (c .read-general .result .part) (a .pre .1) (c .read-general .ensures),
+    )
 
 read-sublayers-requires : tie.Need-read-sublayers-requires
 read-sublayers-requires c κs = search needs
@@ -34,8 +36,10 @@ returns c =
     let k3 = k4 .before in
     let k2 = k3 .before in
     let k1 = k2 .before in
-    whole-refused _ _ (k1 .before .before .args .prior) (k1 .read-general .result .answer) (k2 .read-constraints .result .answer) (k3 .read-sublayers .result .answer) (k4 .read-sub-profiles .result .answer) _ _ _ _
-    (k1 .read-general .ensures) (k2 .read-constraints .ensures) (k3 .read-sublayers .ensures) (k4 .read-sub-profiles .ensures) (c .no-ptl .ensures) (c .before .enum-told2 .given .1)
+    whole-refused _ _ (k1 .before .before .args .prior) (k1 .read-general .result .answer) (k2 .read-constraints .result .answer)
+    (k3 .read-sublayers .result .answer) (k4 .read-sub-profiles .result .answer) _ _ _ _
+    (k1 .read-general .ensures) (k2 .read-constraints .ensures) (k3 .read-sublayers .ensures) (k4 .read-sub-profiles .ensures) (c .no-ptl .ensures)
+    (c .before .enum-told2 .given .1)
 
 joined-requires : tie.Need-joined-requires
 joined-requires c κs = search needs
@@ -46,8 +50,11 @@ returns-2 c =
     let k3 = k4 .before in
     let k2 = k3 .before in
     let k1 = k2 .before in
-    whole-read _ _ (k1 .before .before .args .prior) (k1 .read-general .result .answer) (k2 .read-constraints .result .answer) (k3 .read-sublayers .result .answer) (k4 .read-sub-profiles .result .answer) _ _ _ _
-    (k1 .read-general .ensures) (k2 .read-constraints .ensures) (k3 .read-sublayers .ensures) (k4 .read-sub-profiles .ensures) (c .joined .ensures) (c .before .enum-told .given .1)
+    whole-read _ _ (k1 .before .before .args .prior) (k1 .read-general .result .answer) (k2 .read-constraints .result .answer)
+    (k3 .read-sublayers .result .answer) (k4 .read-sub-profiles .result .answer) _ _ _ _
+    (k1 .read-general .ensures) (k2 .read-constraints .ensures) (k3 .read-sublayers .ensures) (k4 .read-sub-profiles .ensures) (c .joined .ensures)
+    (c .before .enum-told .given .1)
 
 pub parse-ptl-spec : {M : Type 1} → statement M
-parse-ptl-spec = tie.close (tie.spec read-general-requires read-constraints-requires read-sublayers-requires read-sub-profiles-requires enum-told enum-told-2 no-ptl-requires returns joined-requires returns-2)
+parse-ptl-spec = tie.close (tie.spec read-general-requires read-constraints-requires read-sublayers-requires read-sub-profiles-requires enum-told
+    enum-told-2 no-ptl-requires returns joined-requires returns-2)

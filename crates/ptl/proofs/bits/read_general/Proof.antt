@@ -47,4 +47,5 @@ returns c =
     ∙ bind-next (k2 .read-bits2 .result) (k3 .read-bits3 .result) _ _ (k3 .read-bits3 .ensures)))
 
 pub read-general-spec : {M : Type 1} → statement M
-read-general-spec = tie.close (tie.spec read-bits-requires read-bits-requires-2 read-bits-requires-3 number-requires cast-t8 number-requires-2 number-requires-3 cast-t12 returns)
+read-general-spec = tie.close (tie.spec read-bits-requires read-bits-requires-2 read-bits-requires-3 number-requires cast-t8 number-requires-2
+    number-requires-3 cast-t12 returns)

@@ -23,7 +23,8 @@ returns : tie.Need-returns
 returns c =
     let k2 = c .before .before in
     let k1 = k2 .before in
-    bits-after _ (k1 .before .before .args .prior) (k1 .skip-bits .result) (k2 .read-bits .result) (c .skip-bits2 .result) _ (c .before .number .ensures) (k1 .skip-bits .ensures) (k2 .read-bits .ensures) (c .skip-bits2 .ensures)
+    bits-after _ (k1 .before .before .args .prior) (k1 .skip-bits .result) (k2 .read-bits .result) (c .skip-bits2 .result) _
+    (c .before .number .ensures) (k1 .skip-bits .ensures) (k2 .read-bits .ensures) (c .skip-bits2 .ensures)
 
 pub constraint-bits-spec : {M : Type 1} → statement M
 constraint-bits-spec = tie.close (tie.spec skip-bits-requires read-bits-requires number-requires cast-skip-bits skip-bits-requires-2 returns)

@@ -39,7 +39,8 @@ loop-again c =
     let l = c .before .before .loop in
     let a = c .before .before .before .before .before .args in (
       search needs,
-      ap (λ (x : List ℕ). set x (l .k) (c .byte-after .result)) (l .inv .1) ∙ rw (c .byte-after .ensures) (copied-more (a .rbsp .now) (a .from .0) (l .k) (omega arith) (omega arith)),
+      ap (λ (x : List ℕ). set x (l .k) (c .byte-after .result)) (l .inv .1)
+          ∙ rw (c .byte-after .ensures) (copied-more (a .rbsp .now) (a .from .0) (l .k) (omega arith) (omega arith)),
       search needs,
     )
 
@@ -52,7 +53,8 @@ array-write-info-2 c = search needs
 returns : tie.Need-returns Inv-loop μ-loop
 returns c =
     let a = c .before .before .before .before .args in
-    copied-end (a .rbsp .now) (c .before .loop .info) (a .from .0) (c .before .loop .k) (a .to .0 - a .from .0) (c .before .loop .inv .1) (omega arith)
+    copied-end (a .rbsp .now) (c .before .loop .info) (a .from .0) (c .before .loop .k) (a .to .0 - a .from .0)
+    (c .before .loop .inv .1) (omega arith)
 
 pub constraint-bytes-spec : {M : Type 1} → statement M
 constraint-bytes-spec =

@@ -17,13 +17,19 @@ announced-bits-requires c κs = search needs
 align-requires : tie.Need-align-requires
 align-requires c κs =
     let k = c .before .before in
-    omega (arith, k .before .before .pre, announced-place _ (k .before .before .args .prior) (k .read-bits .result) (c .announced-bits .result) (c .before .number .result) (k .read-bits .ensures) (c .announced-bits .ensures))
+    omega (
+      arith,
+      k .before .before .pre,
+      announced-place _ (k .before .before .args .prior) (k .read-bits .result) (c .announced-bits .result) (c .before .number .result)
+          (k .read-bits .ensures) (c .announced-bits .ensures),
+    )
 
 returns : tie.Need-returns
 returns c =
     let d = c .before in
     let k = d .before .before in
-    info-after _ (k .before .before .args .prior) (k .read-bits .result) (d .announced-bits .result) _ (k .read-bits .ensures) (d .announced-bits .ensures) (c .align .result) (d .before .number .ensures) (c .align .ensures _)
+    info-after _ (k .before .before .args .prior) (k .read-bits .result) (d .announced-bits .result) _ (k .read-bits .ensures)
+    (d .announced-bits .ensures) (c .align .result) (d .before .number .ensures) (c .align .ensures _)
 
 pub general-constraints-info-spec : {M : Type 1} → statement M
 general-constraints-info-spec = tie.close (tie.spec read-bits-requires number-requires announced-bits-requires align-requires returns)

@@ -19,12 +19,18 @@ cast-read-values c = search needs
 read-values-requires : tie.Need-read-values-requires
 read-values-requires c κs =
     let k = c .before in
-    omega (arith, k .before .before .pre, c .number .ensures, number-low-after 8 _ (k .before .before .args .prior) (k .read-bits .result) (k .read-bits .ensures))
+    omega (
+      arith,
+      k .before .before .pre,
+      c .number .ensures,
+      number-low-after 8 _ (k .before .before .args .prior) (k .read-bits .result) (k .read-bits .ensures),
+    )
 
 returns : tie.Need-returns
 returns c =
     let k = c .before .before in
-    c .read-values .ensures ∙ profiles-after _ _ (k .before .before .args .prior) (k .read-bits .result) (c .before .number .ensures) (k .read-bits .ensures)
+    c .read-values .ensures
+    ∙ profiles-after _ _ (k .before .before .args .prior) (k .read-bits .result) (c .before .number .ensures) (k .read-bits .ensures)
 
 pub read-sub-profiles-spec : {M : Type 1} → statement M
 read-sub-profiles-spec = tie.close (tie.spec read-bits-requires number-requires cast-read-values read-values-requires returns)

@@ -35,10 +35,12 @@ loop-less : tie.Need-loop-less Inv-loop μ-loop
 loop-less c = search needs
 
 loop-again : tie.Need-loop-again Inv-loop μ-loop
-loop-again c = going-on _ _ _ _ _ _ _ (c .before .before .before .loop .inv) (omega arith) (c .before .read-bits .result) _ (c .number .ensures) (omega arith) (c .before .read-bits .ensures)
+loop-again c = going-on _ _ _ _ _ _ _ (c .before .before .before .loop .inv) (omega arith) (c .before .read-bits .result) _ (c .number .ensures)
+    (omega arith) (c .before .read-bits .ensures)
 
 returns : tie.Need-returns Inv-loop μ-loop
 returns c = going-end _ _ _ _ _ _ _ (c .before .loop .inv) (omega arith) (omega arith)
 
 pub read-values-spec : {M : Type 1} → statement M
-read-values-spec = tie.close (tie.spec Inv-loop μ-loop loop-holds read-bits-requires number-requires mul-values array-write-values add-k loop-less loop-again returns)
+read-values-spec = tie.close
+    (tie.spec Inv-loop μ-loop loop-holds read-bits-requires number-requires mul-values array-write-values add-k loop-less loop-again returns)

@@ -32,7 +32,11 @@ number-requires c κs = search needs
 cast-part : tie.Need-cast-part Inv-loop μ-loop
 cast-part c =
     let l = c .before .before .before .loop in
-    omega (arith, c .number .ensures, number-low-if (isSet (l .byte / 128)) 8 _ (l .last) (c .before .read-bits-if .result) (c .before .read-bits-if .ensures))
+    omega (
+      arith,
+      c .number .ensures,
+      number-low-if (isSet (l .byte / 128)) 8 _ (l .last) (c .before .read-bits-if .result) (c .before .read-bits-if .ensures),
+    )
 
 array-write-part : tie.Need-array-write-part Inv-loop μ-loop
 array-write-part c = search needs
@@ -51,11 +55,13 @@ loop-again c =
     let l = c .before .before .before .loop in
     let m = c .before .before .before .before .before .args .m in (
       omega arith,
-      levels-on _ _ _ _ _ _ _ _ _ (l .inv .1) (omega arith) (c .before .read-bits-if .result) _ (m - 1 - l .done) (m - (l .done + 1)) (c .number .ensures) (omega arith) (omega arith) (c .before .read-bits-if .ensures),
+      levels-on _ _ _ _ _ _ _ _ _ (l .inv .1) (omega arith) (c .before .read-bits-if .result) _ (m - 1 - l .done) (m - (l .done + 1))
+          (c .number .ensures) (omega arith) (omega arith) (c .before .read-bits-if .ensures),
     )
 
 returns : tie.Need-returns Inv-loop μ-loop
 returns c = levels-end _ _ _ _ _ _ _ _ _ (c .before .loop .inv .1) (omega arith) (omega arith)
 
 pub read-levels-spec : {M : Type 1} → statement M
-read-levels-spec = tie.close (tie.spec Inv-loop μ-loop loop-holds sub-i sub-i-2 read-bits-if-requires number-requires cast-part array-write-part mul-byte add-done loop-less loop-again returns)
+read-levels-spec = tie.close (tie.spec Inv-loop μ-loop loop-holds sub-i sub-i-2 read-bits-if-requires number-requires cast-part array-write-part
+    mul-byte add-done loop-less loop-again returns)

@@ -64,7 +64,8 @@ found c =
     let h : a .at < length s = omega (arith, c .before .before .before .before .before .before .before .pre) in
     let byte : b < 256 = omega (arith, c .before .before .before .before .before) in
     let small : flagsAt (a .sublayers) s (a .at + 3 + a .n) < 256 = rw f at byte in
-    let r = reads-after (a .sublayers) s (a .at) h (a .n) (c .before .before .before .before .before .before .before .pre .3) (c .before .before .before .before .before .before .before .pre .4) small in
+    let r = reads-after (a .sublayers) s (a .at) h (a .n) (c .before .before .before .before .before .before .before .pre .3)
+    (c .before .before .before .before .before .before .before .pre .4) small in
     rw (c .wide .ensures .0, c .before .byte .ensures, v .2, v .3, v .1, m, g, f) r
 
 refused-requires : tie.Need-refused-requires

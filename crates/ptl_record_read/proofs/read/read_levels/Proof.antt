@@ -22,13 +22,17 @@ sub-i : tie.Need-sub-i Inv-loop μ-loop
 sub-i c = omega (arith, c .loop-test .taken)
 
 array-write-present : tie.Need-array-write-present Inv-loop μ-loop
-array-write-present c = let l = c .before .loop in omega (arith, c .loop-test .taken, l .inv .low, l .inv .flags-long, c .before .before .before .pre .0)
+array-write-present c =
+    let l = c .before .loop in
+    omega (arith, c .loop-test .taken, l .inv .low, l .inv .flags-long, c .before .before .before .pre .0)
 
 level-if-requires : tie.Need-level-if-requires Inv-loop μ-loop
 level-if-requires c κs = search needs
 
 array-write-idc : tie.Need-array-write-idc Inv-loop μ-loop
-array-write-idc c = let l = c .before .before .loop in omega (arith, c .before .loop-test .taken, l .inv .low, l .inv .levels-long, c .before .before .before .before .pre .0)
+array-write-idc c =
+    let l = c .before .before .loop in
+    omega (arith, c .before .loop-test .taken, l .inv .low, l .inv .levels-long, c .before .before .before .before .pre .0)
 
 wide-requires : tie.Need-wide-requires Inv-loop μ-loop
 wide-requires c κs = search needs
@@ -46,7 +50,8 @@ loop-again : tie.Need-loop-again Inv-loop μ-loop
 loop-again c =
     let l = c .before .before .before .loop in
     let e : l .i ≡ suc (l .i - 1) = omega (arith, c .before .before .loop-test .taken) in
-    rw (c .wide .ensures .0, c .before .level-if .ensures) (filled-more _ _ _ _ _ _ _ _ _ (rw e at (l .inv)) (c .before .before .before .before .before .pre .0))
+    rw (c .wide .ensures .0, c .before .level-if .ensures)
+    (filled-more _ _ _ _ _ _ _ _ _ (rw e at (l .inv)) (c .before .before .before .before .before .pre .0))
 
 returns : tie.Need-returns Inv-loop μ-loop
 unfolding levelsLen presentFlags levelsAt

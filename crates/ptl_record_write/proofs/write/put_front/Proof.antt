@@ -75,7 +75,8 @@ returns c =
     let n = pu .before .before .before .constraint-len .ensures in
     let f = length-front (a .p) in (
       omega (arith, n, f),
-      rw (c .before .before .put-info .ensures, w .put3 .ensures, q .put2 .ensures, pu .put .ensures, pu .before .before .bit-of .ensures .0, n .0) (front-stored (a .p) (a .out .now) (a .at)),
+      rw (c .before .before .put-info .ensures, w .put3 .ensures, q .put2 .ensures, pu .put .ensures, pu .before .before .bit-of .ensures .0, n .0)
+          (front-stored (a .p) (a .out .now) (a .at)),
       omega (arith, n),
     )
 

@@ -40,7 +40,8 @@ returns c =
     let fb = c .before .before .before .before .before .before in
     let g = fb .before .before .before in
     let a = g .args in
-    rw (info-stored (a .p) (array-long g) (g .pre .0), ← g .pre .1, ← fb .first-byte .ensures) (rw (sub-zero (a .n)) at (c .before .before .copy .ensures))
+    rw (info-stored (a .p) (array-long g) (g .pre .0), ← g .pre .1, ← fb .first-byte .ensures)
+    (rw (sub-zero (a .n)) at (c .before .before .copy .ensures))
 
 pub put-info-spec : {M : Type 1} → statement M
 put-info-spec =

@@ -32,8 +32,10 @@ put-levels-requires c κs =
     let p = c .before .before .before in
     let g = start p in
     let h = rw (lt-ltb 1 (g .args .sublayers) (p .before .before .before .before .if1 .left)) at (g .pre .1) in
-    let m = p .before .before .before .level-count .ensures in
-    (omega (arith, m .1), rw (m .0) (omega (arith, h, ap length (p .put .ensures), length-set (g .args .out .now) (g .args .at) (p .before .before .flag-byte .result))))
+    let m = p .before .before .before .level-count .ensures in (
+      omega (arith, m .1),
+      rw (m .0) (omega (arith, h, ap length (p .put .ensures), length-set (g .args .out .now) (g .args .at) (p .before .before .flag-byte .result))),
+    )
 
 same-length : tie.Need-same-length
 same-length c = search needs

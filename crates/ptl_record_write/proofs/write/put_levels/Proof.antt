@@ -36,7 +36,15 @@ put-level-requires c κs =
     let j = l .i - 1 in
     let e : l .i ≡ suc j = omega arith in
     let v = rw e at (l .inv .1) in
-    rw (c .before .has-level .ensures) (omega (arith, levels-longer (a .t3) j, v, l .inv .0, length-sets (l .out) (l .w) (levelBytes (a .t3) (l .i)), ap length (l .inv .2), length-sets (a .out .now) (a .at) (levelBytes (a .t3) (a .m))))
+    rw (c .before .has-level .ensures) (omega (
+      arith,
+      levels-longer (a .t3) j,
+      v,
+      l .inv .0,
+      length-sets (l .out) (l .w) (levelBytes (a .t3) (l .i)),
+      ap length (l .inv .2),
+      length-sets (a .out .now) (a .at) (levelBytes (a .t3) (a .m)),
+    ))
 
 loop-less : tie.Need-loop-less Inv-loop μ-loop
 loop-less c = search needs
@@ -60,7 +68,8 @@ same-length : tie.Need-same-length Inv-loop μ-loop
 same-length c =
     let a = c .before .before .before .args in
     let l = c .before .loop in
-    sym (length-sets (l .out) (l .w) (levelBytes (a .t3) (l .i))) ∙ ap length (l .inv .2) ∙ length-sets (a .out .now) (a .at) (levelBytes (a .t3) (a .m))
+    sym (length-sets (l .out) (l .w) (levelBytes (a .t3) (l .i))) ∙ ap length (l .inv .2)
+    ∙ length-sets (a .out .now) (a .at) (levelBytes (a .t3) (a .m))
 
 returns : tie.Need-returns Inv-loop μ-loop
 unfolding levelBytes

@@ -28,7 +28,8 @@ few : (c : tie.Start) → c .args .p .«num_sub_profiles» ≤ 255
 few c = fitting _ (c .pre .0) .subs
 
 -- the length of the record is that of its fields
-parts : (c : tie.Start) → length (ptlBytes (c .args .p) (c .args .sublayers)) ≡ length (frontBytes (c .args .p)) + length (levelPart (c .args .p) (c .args .sublayers)) + 1 + c .args .p .«num_sub_profiles» * 4
+parts : (c : tie.Start) → length (ptlBytes (c .args .p) (c .args .sublayers))
+    ≡ length (frontBytes (c .args .p)) + length (levelPart (c .args .p) (c .args .sublayers)) + 1 + c .args .p .«num_sub_profiles» * 4
 parts c = length-ptl (c .args .p) (c .args .sublayers) (omega (arith, few c, array-long c))
 
 put-front-requires : tie.Need-put-front-requires
@@ -64,7 +65,10 @@ put-sub-profiles-requires c κs =
     let g = start pf in
     let x = pf .put-front .ensures in
     let y = plp .put-level-part .ensures in
-    let l = ap length (c .before .before .before .put .ensures) ∙ length-set (plp .put-level-part .last .0) (plp .put-level-part .result) (g .args .p .«num_sub_profiles») ∙ ap length (y .1) ∙ length-sets (pf .put-front .last .0) (pf .put-front .result) (levelPart (g .args .p) (g .args .sublayers)) ∙ ap length (x .1) ∙ length-sets (g .args .out .now) (g .args .at) (frontBytes (g .args .p)) in
+    let l = ap length (c .before .before .before .put .ensures)
+    ∙ length-set (plp .put-level-part .last .0) (plp .put-level-part .result) (g .args .p .«num_sub_profiles») ∙ ap length (y .1)
+    ∙ length-sets (pf .put-front .last .0) (pf .put-front .result) (levelPart (g .args .p) (g .args .sublayers)) ∙ ap length (x .1)
+    ∙ length-sets (g .args .out .now) (g .args .at) (frontBytes (g .args .p)) in
     (few g, omega (arith, parts g, g .pre .2, y .0, x .0, l))
 
 add-result : tie.Need-add-result
@@ -96,8 +100,12 @@ returns c =
     let a = g .args in
     let k = parts g in
     let x = pf .put-front .ensures in
-    let y = plp .put-level-part .ensures in
-    (omega (arith, k, x .0, y .0), rw (c .before .before .put-sub-profiles .ensures, ps .before .before .before .put .ensures, y .1, x .1, y .0, x .0) (ptl-stored (a .p) (a .sublayers) (a .out .now) (a .at)), omega (arith, x .2, y .0, few g, part-few (a .p) (a .sublayers) (g .pre .1)))
+    let y = plp .put-level-part .ensures in (
+      omega (arith, k, x .0, y .0),
+      rw (c .before .before .put-sub-profiles .ensures, ps .before .before .before .put .ensures, y .1, x .1, y .0, x .0)
+          (ptl-stored (a .p) (a .sublayers) (a .out .now) (a .at)),
+      omega (arith, x .2, y .0, few g, part-few (a .p) (a .sublayers) (g .pre .1)),
+    )
 
 pub put-ptl-spec : {M : Type 1} → statement M
 put-ptl-spec =

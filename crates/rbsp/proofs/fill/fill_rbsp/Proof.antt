@@ -31,7 +31,8 @@ same-length c = search needs
 returns : tie.Need-returns Inv-loop μ-loop
 returns c =
     let s = c .before .before .before .before .before in
-    fill-full _ _ _ _ _ _ (s .loop .inv) (omega arith) (sym (c .before .before .is-dropped .ensures) ∙ not-true _ (c .before .if1 .taken)) (c .if2 .taken)
+    fill-full _ _ _ _ _ _ (s .loop .inv) (omega arith)
+    (sym (c .before .before .is-dropped .ensures) ∙ not-true _ (c .before .if1 .taken)) (c .if2 .taken)
 
 slice-write-out : tie.Need-slice-write-out Inv-loop μ-loop
 slice-write-out c = search needs
@@ -53,7 +54,8 @@ loop-again c =
     let s = c .before .before .before .before .before in
     let d = c .before .before .is-dropped .ensures in
     ⊎-elim
-    (λ w. rw (w .2, w .3) (fill-kept _ _ _ _ _ _ _ (s .loop .inv) (omega arith) (c .next-zeros .ensures) (sym d ∙ not-true _ (w .0 .taken)) (omega arith)))
+    (λ w.
+    rw (w .2, w .3) (fill-kept _ _ _ _ _ _ _ (s .loop .inv) (omega arith) (c .next-zeros .ensures) (sym d ∙ not-true _ (w .0 .taken)) (omega arith)))
     (λ w. rw (w .1, w .2) (fill-dropped _ _ _ _ _ _ _ (s .loop .inv) (omega arith) (c .next-zeros .ensures) (sym d ∙ not-false _ (w .0 .left))))
     (c .before .if1 .came)
 

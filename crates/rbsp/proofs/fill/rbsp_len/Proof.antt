@@ -49,13 +49,17 @@ loop-again c =
       omega (arith, c .next-zeros .ensures, zeros-le (l .zeros) (getD bytes (l .i) 0)),
       ⊎-elim (λ w. omega arith) (λ w. omega arith) (c .before .if1 .came),
       ⊎-elim
-          (λ w. measure-kept _ (l .zeros) _ (l .i) (l .n) _ bytes (omega arith) (c .next-zeros .ensures) (l .inv .3) (sym d ∙ not-true _ (w .0 .taken)) (w .1))
-          (λ w. measure-dropped _ (l .zeros) _ (l .i) (l .n) _ bytes (omega arith) (c .next-zeros .ensures) (l .inv .3) (sym d ∙ not-false _ (w .0 .left)) (w .1))
+          (λ w. measure-kept _ (l .zeros) _ (l .i) (l .n) _ bytes (omega arith) (c .next-zeros .ensures) (l .inv .3)
+          (sym d ∙ not-true _ (w .0 .taken)) (w .1))
+          (λ w. measure-dropped _ (l .zeros) _ (l .i) (l .n) _ bytes (omega arith) (c .next-zeros .ensures) (l .inv .3)
+          (sym d ∙ not-false _ (w .0 .left)) (w .1))
           (c .before .if1 .came),
     )
 
 returns : tie.Need-returns Inv-loop μ-loop
-returns c = let l = c .before .loop in omega (arith, l .inv .3, ap length (step-end (l .zeros) (l .i) (c .before .before .before .args .payload .now) (omega arith)))
+returns c =
+    let l = c .before .loop in
+    omega (arith, l .inv .3, ap length (step-end (l .zeros) (l .i) (c .before .before .before .args .payload .now) (omega arith)))
 
 pub rbsp-len-spec : {M : Type 1} → statement M
 rbsp-len-spec =

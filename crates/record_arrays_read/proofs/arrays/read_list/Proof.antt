@@ -51,7 +51,8 @@ returns-2 c =
     let w = wi .wide in
     let k = c .before .before .arrays-room in
     output-refused _ _ 1
-    (arrays-refused (a .«record» .now) (a .at) (there wi) (w .result) (w .ensures .0) 1 (room-short _ _ _ (k .result) (k .ensures) (c .enum-told .given .1)))
+    (arrays-refused (a .«record» .now) (a .at) (there wi) (w .result) (w .ensures .0) 1
+    (room-short _ _ _ (k .result) (k .ensures) (c .enum-told .given .1)))
 
 -- the arrays, measured
 found : (c : tie.After-known-told)
@@ -84,8 +85,11 @@ put-arrays-requires c κs =
     let wi = after-wide p in
     let b = start wi in
     let a = b .args in
-    let w = wi .wide in
-    (b .pre, arrays-fit (a .«record» .now) (a .at) (there wi) (w .result) (w .ensures .0) _ _ (found (p .before .before .before) .read) (a .out .now) (p .before .before .if2 .left) _ (p .put .ensures))
+    let w = wi .wide in (
+      b .pre,
+      arrays-fit (a .«record» .now) (a .at) (there wi) (w .result) (w .ensures .0) _ _ (found (p .before .before .before) .read) (a .out .now)
+          (p .before .before .if2 .left) _ (p .put .ensures),
+    )
 
 same-length : tie.Need-same-length
 same-length c = search needs
@@ -96,7 +100,8 @@ returns-4 c =
     let wi = after-wide p in
     let a = start wi .args in
     let w = wi .wide in
-    list-given (a .«record» .now) (a .at) (there wi) (w .result) (w .ensures .0) _ _ (found (p .before .before .before) .read) _ (p .before .before .if2 .left) _ _ (p .put .ensures) (c .before .before .put-arrays .ensures)
+    list-given (a .«record» .now) (a .at) (there wi) (w .result) (w .ensures .0) _ _ (found (p .before .before .before) .read) _
+    (p .before .before .if2 .left) _ _ (p .put .ensures) (c .before .before .put-arrays .ensures)
 
 pub read-list-spec : {M : Type 1} → statement M
 read-list-spec =

@@ -28,12 +28,14 @@ returns : tie.Need-returns
 returns c =
     let a = c .before .before .before .before .before in
     let h = c .before .before .array-head in
-    let e = ap outcome (array-refused (a .args .«record» .now) (a .args .at) 1 (head-short (a .args .«record» .now) (a .args .at) (h .result) (h .ensures) (c .enum-told .given .1))) in
+    let e = ap outcome (array-refused (a .args .«record» .now) (a .args .at) 1
+    (head-short (a .args .«record» .now) (a .args .at) (h .result) (h .ensures) (c .enum-told .given .1))) in
     let f = a .pre .1 .found in
     absurd (let z : _≡_ {A = ℕ} 0 1 = cc in omega arith)
 
 -- the head of the array
-found : (c : tie.After-known-told) → let a = start c .args in HeadAt (a .«record» .now) (a .at) (c .before .head .given .0 .0) (c .before .head .given .0 .1 .0)
+found : (c : tie.After-known-told) → let a = start c .args in
+    HeadAt (a .«record» .now) (a .at) (c .before .head .given .0 .0) (c .before .head .given .0 .1 .0)
 found c =
     let h = c .before .before .before .array-head in
     head-at _ _ (h .result) (h .ensures) _ _ (c .before .head .given .1)
@@ -70,7 +72,8 @@ returns-2 c =
     let kt = after-known-told pu in
     let a = start kt in
     let u = pu .put-units in
-    stored-array (a .args .«record» .now) (a .args .at) _ _ (found kt .read) _ (a .args .to) (a .pre .1) _ (u .result) (u .ensures) _ (c .before .before .put-array-head .ensures)
+    stored-array (a .args .«record» .now) (a .args .at) _ _ (found kt .read) _ (a .args .to) (a .pre .1) _ (u .result) (u .ensures) _
+    (c .before .before .put-array-head .ensures)
 
 pub put-array-spec : {M : Type 1} → statement M
 put-array-spec =

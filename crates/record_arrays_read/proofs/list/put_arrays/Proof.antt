@@ -23,8 +23,11 @@ loop-holds c =
 
 put-array-requires : tie.Need-put-array-requires Inv-loop μ-loop
 put-array-requires c κs =
-    let l = c .before .before .loop in
-    (c .before .before .before .before .before .pre .0, storing-one recordArray arrayInList arraysInList arrays-none arrays-more _ _ _ _ (l .left) (l .at) (l .out) (l .next) (l .inv) (c .before .loop-test .taken))
+    let l = c .before .before .loop in (
+      c .before .before .before .before .before .pre .0,
+      storing-one recordArray arrayInList arraysInList arrays-none arrays-more _ _ _ _ (l .left) (l .at) (l .out) (l .next) (l .inv)
+          (c .before .loop-test .taken),
+    )
 
 sub-left : tie.Need-sub-left Inv-loop μ-loop
 sub-left c = search needs
@@ -36,7 +39,8 @@ loop-again : tie.Need-loop-again Inv-loop μ-loop
 loop-again c =
     let l = c .before .before .before .before .before .loop in
     let p = c .before .before .put-array in
-    storing-stored recordArray arrayInList arraysInList arrays-none arrays-more _ _ _ _ (l .left) (l .at) (l .out) (l .next) (l .inv) (c .before .before .before .before .loop-test .taken) _ (p .result) (p .ensures)
+    storing-stored recordArray arrayInList arraysInList arrays-none arrays-more _ _ _ _ (l .left) (l .at) (l .out) (l .next) (l .inv)
+    (c .before .before .before .before .loop-test .taken) _ (p .result) (p .ensures)
 
 same-length : tie.Need-same-length Inv-loop μ-loop
 same-length c = c .before .loop .inv .putting .same
@@ -44,7 +48,8 @@ same-length c = c .before .loop .inv .putting .same
 returns : tie.Need-returns Inv-loop μ-loop
 returns c =
     let l = c .before .loop in
-    storing-done recordArray arrayInList arraysInList arrays-none arrays-more _ _ _ _ (l .left) (l .at) (l .out) (l .next) (l .inv) (omega arith) .written
+    storing-done recordArray arrayInList arraysInList arrays-none arrays-more _ _ _ _ (l .left) (l .at) (l .out) (l .next) (l .inv)
+    (omega arith) .written
 
 pub put-arrays-spec : {M : Type 1} → statement M
 put-arrays-spec =

@@ -12,8 +12,8 @@ use Rattle.record_arrays_read.proofs.list.put_units.Statement.{statemen
 use Rattle.record_arrays_read.proofs.list.put_units.Tie as tie
 
 abbrev Inv-loop : tie.InvT-loop
-Inv-loop «record» from count out₀ to left₀ at₀ next₀ out left at next =
-    (at ≤ length «record») × Storing (chunk 2) unitInList unitsInList units-none units-more «record» out₀ to (times count (chunk 2) «record» from) left at out next
+Inv-loop «record» from count out₀ to left₀ at₀ next₀ out left at next = (at ≤ length «record»)
+    × Storing (chunk 2) unitInList unitsInList units-none units-more «record» out₀ to (times count (chunk 2) «record» from) left at out next
 
 abbrev μ-loop : tie.MeasureT-loop
 μ-loop «record» from count out₀ to left₀ at₀ next₀ out left at next = left
@@ -24,8 +24,10 @@ at-loop c = c .before .before .before .before .before
 
 loop-holds : tie.Need-loop-holds Inv-loop μ-loop
 loop-holds c =
-    let a = c .before .before .args in
-    (c .before .before .pre .1, storing-start (chunk 2) unitInList unitsInList units-none units-more _ (a .count) (a .from) _ (a .to) (c .before .before .pre .2))
+    let a = c .before .before .args in (
+      c .before .before .pre .1,
+      storing-start (chunk 2) unitInList unitsInList units-none units-more _ (a .count) (a .from) _ (a .to) (c .before .before .pre .2),
+    )
 
 chunk-requires : tie.Need-chunk-requires Inv-loop μ-loop
 chunk-requires c κs = search needs
@@ -41,7 +43,8 @@ short : (c : tie.After-enum-told Inv-loop μ-loop) → ⊥
 short c =
     let l = c .before .before .before .before .loop in
     let k = c .before .before .chunk in
-    storing-not-short (chunk 2) unitInList unitsInList units-none units-more _ _ _ _ (l .left) (l .at) (l .out) (l .next) (l .inv .1) (c .before .before .before .loop-test .taken) 1
+    storing-not-short (chunk 2) unitInList unitsInList units-none units-more _ _ _ _ (l .left) (l .at) (l .out) (l .next) (l .inv .1)
+    (c .before .before .before .loop-test .taken) 1
     (unit-short _ _ (k .result) (k .ensures) (c .enum-told .given .1))
 
 same-length : tie.Need-same-length Inv-loop μ-loop
@@ -62,16 +65,19 @@ put-unit-requires c κs =
     let kt = c .before in
     let t = found kt in
     let l = at-loop kt .loop in
-    let h = storing-room (chunk 2) unitInList unitsInList units-none units-more _ _ _ _ (l .left) (l .at) (l .out) (l .next) (l .inv .1) (kt .before .before .before .before .loop-test .taken) _ _ (t .read) in
+    let h = storing-room (chunk 2) unitInList unitsInList units-none units-more _ _ _ _ (l .left) (l .at) (l .out) (l .next) (l .inv .1)
+    (kt .before .before .before .before .loop-test .taken) _ _ (t .read) in
     (t .inside, omega arith, omega arith)
 
 -- the output has room for it
-room : (c : tie.After-put-unit-arg Inv-loop μ-loop) → let lo = at-loop (c .before) in lo .loop .next + (4 + c .before .before .a .given .0 .0 .len) ≤ length (lo .loop .out)
+room : (c : tie.After-put-unit-arg Inv-loop μ-loop) → let lo = at-loop (c .before) in
+    lo .loop .next + (4 + c .before .before .a .given .0 .0 .len) ≤ length (lo .loop .out)
 room c =
     let kt = c .before in
     let t = found kt in
     let l = at-loop kt .loop in
-    let h = storing-room (chunk 2) unitInList unitsInList units-none units-more _ _ _ _ (l .left) (l .at) (l .out) (l .next) (l .inv .1) (kt .before .before .before .before .loop-test .taken) _ _ (t .read) in
+    let h = storing-room (chunk 2) unitInList unitsInList units-none units-more _ _ _ _ (l .left) (l .at) (l .out) (l .next) (l .inv .1)
+    (kt .before .before .before .before .loop-test .taken) _ _ (t .read) in
     omega arith
 
 add-next : tie.Need-add-next Inv-loop μ-loop
@@ -93,8 +99,12 @@ loop-again : tie.Need-loop-again Inv-loop μ-loop
 loop-again c =
     let kt = c .before .before .before .before .before .before in
     let t = found kt in
-    let l = at-loop kt .loop in
-    (t .inside, storing-next (chunk 2) unitInList unitsInList units-none units-more _ _ _ _ (l .left) (l .at) (l .out) (l .next) (l .inv .1) (kt .before .before .before .before .loop-test .taken) _ _ (t .read) _ (c .before .before .before .before .put-unit .ensures) _ (omega arith))
+    let l = at-loop kt .loop in (
+      t .inside,
+      storing-next (chunk 2) unitInList unitsInList units-none units-more _ _ _ _ (l .left) (l .at) (l .out)
+          (l .next) (l .inv .1) (kt .before .before .before .before .loop-test .taken) _ _ (t .read) _
+          (c .before .before .before .before .put-unit .ensures) _ (omega arith),
+    )
 
 same-length-2 : tie.Need-same-length-2 Inv-loop μ-loop
 same-length-2 c = c .before .loop .inv .1 .putting .same

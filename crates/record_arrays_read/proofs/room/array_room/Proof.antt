@@ -26,11 +26,15 @@ enum-told c = search needs
 returns : tie.Need-returns
 returns c =
     let a = c .before .before .before .before .args in
-    let h = c .before .before .array-head in
-    (sym (ap (roomTaken arrayInList (a .«record» .now) 0) (array-refused (a .«record» .now) (a .at) 1 (head-short (a .«record» .now) (a .at) (h .result) (h .ensures) (c .enum-told .given .1)))), tt)
+    let h = c .before .before .array-head in (
+      sym (ap (roomTaken arrayInList (a .«record» .now) 0)
+          (array-refused (a .«record» .now) (a .at) 1 (head-short (a .«record» .now) (a .at) (h .result) (h .ensures) (c .enum-told .given .1)))),
+      tt,
+    )
 
 -- the head of the array
-found : (c : tie.After-known-told) → let a = start c .args in HeadAt (a .«record» .now) (a .at) (c .before .head .given .0 .0) (c .before .head .given .0 .1 .0)
+found : (c : tie.After-known-told) → let a = start c .args in
+    HeadAt (a .«record» .now) (a .at) (c .before .head .given .0 .0) (c .before .head .given .0 .1 .0)
 found c =
     let h = c .before .before .before .array-head in
     head-at _ _ (h .result) (h .ensures) _ _ (c .before .head .given .1)
@@ -48,13 +52,17 @@ returns-2 : tie.Need-returns-2
 returns-2 c =
     let kt = c .before .before .before in
     let a = start kt .args in
-    let u = c .before .before .units-room in
-    (array-room (a .«record» .now) (a .at) _ _ (found kt .read) (refused 1) (room-short (a .«record» .now) _ _ (u .result) (u .ensures) (c .enum-told2 .given .1)), tt)
+    let u = c .before .before .units-room in (
+      array-room (a .«record» .now) (a .at) _ _ (found kt .read) (refused 1)
+          (room-short (a .«record» .now) _ _ (u .result) (u .ensures) (c .enum-told2 .given .1)),
+      tt,
+    )
 
 -- the units, measured
 units-at : (c : tie.After-known-told2)
     → let kt = c .before .before .before .before in let a = start kt .args in RoomAt (a .«record» .now) (kt .before .head .given .0 .1 .0)
-    (roomTaken unitsInList (a .«record» .now) 0 (times (kt .before .head .given .0 .0 .count) (chunk 2) (a .«record» .now) (kt .before .head .given .0 .1 .0)))
+    (roomTaken unitsInList (a .«record» .now) 0
+    (times (kt .before .head .given .0 .0 .count) (chunk 2) (a .«record» .now) (kt .before .head .given .0 .1 .0)))
     (c .before .room .given .0 .0) (c .before .room .given .0 .1 .0)
 units-at c =
     let u = c .before .before .before .units-room in

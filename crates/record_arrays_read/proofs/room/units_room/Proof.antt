@@ -14,7 +14,8 @@ use Rattle.record_arrays_read.proofs.room.units_room.Tie as tie
 
 abbrev Inv-loop : tie.InvT-loop
 Inv-loop «record» from count left₀ at₀ room₀ left at room =
-    (at ≤ length «record») × (from * 6 + room ≤ at * 6) × (roomTaken unitsInList «record» room (times left (chunk 2) «record» at) ≡ roomTaken unitsInList «record» 0 (times count (chunk 2) «record» from))
+    (at ≤ length «record») × (from * 6 + room ≤ at * 6) × (roomTaken unitsInList «record» room (times left (chunk 2) «record» at)
+    ≡ roomTaken unitsInList «record» 0 (times count (chunk 2) «record» from))
 
 abbrev μ-loop : tie.MeasureT-loop
 μ-loop «record» from count left₀ at₀ room₀ left at room = left
@@ -36,12 +37,16 @@ returns c =
     let l = c .before .before .before .before in
     let s = l .before .before .args .«record» .now in
     let k = c .before .before .chunk in
-    let e = unit-short s (l .loop .at) (k .result) (k .ensures) (c .enum-told .given .1) in
-    (sym (ap (roomTaken unitsInList s (l .loop .room)) (times-refused (chunk 2) unitInList unitsInList units-none units-more s (l .loop .left) (l .loop .at) (c .before .before .before .loop-test .taken) 1 e)) ∙ l .loop .inv .2, tt)
+    let e = unit-short s (l .loop .at) (k .result) (k .ensures) (c .enum-told .given .1) in (
+      sym (ap (roomTaken unitsInList s (l .loop .room)) (times-refused (chunk 2) unitInList unitsInList units-none units-more s (l .loop .left)
+          (l .loop .at) (c .before .before .before .loop-test .taken) 1 e)) ∙ l .loop .inv .2,
+      tt,
+    )
 
 -- the unit that the turn found
 found : (c : tie.After-known-told Inv-loop μ-loop)
-    → UnitAt (c .before .before .before .before .before .before .before .args .«record» .now) (c .before .before .before .before .before .loop .at) (c .before .a .given .0 .0)
+    → UnitAt (c .before .before .before .before .before .before .before .args .«record» .now) (c .before .before .before .before .before .loop .at)
+    (c .before .a .given .0 .0)
 found c =
     let k = c .before .before .before .chunk in
     unit-at _ _ (k .result) (k .ensures) _ (c .before .a .given .1)
@@ -64,13 +69,19 @@ loop-less c = search needs
 loop-again : tie.Need-loop-again Inv-loop μ-loop
 loop-again c =
     let t = found (c .before .before) in
-    let l = c .before .before .before .before .before .before .before .loop in
-    (t .inside, omega arith, room-next (chunk 2) unitInList unitsInList units-none units-more _ (l .left) (l .at) (c .before .before .before .before .before .before .loop-test .taken) _ _ (t .read) (l .room) _ (omega arith) ∙ l .inv .2)
+    let l = c .before .before .before .before .before .before .before .loop in (
+      t .inside,
+      omega arith,
+      room-next (chunk 2) unitInList unitsInList units-none units-more _ (l .left) (l .at)
+          (c .before .before .before .before .before .before .loop-test .taken) _ _ (t .read) (l .room) _ (omega arith) ∙ l .inv .2,
+    )
 
 returns-2 : tie.Need-returns-2 Inv-loop μ-loop
 returns-2 c =
-    let l = c .before .loop in
-    (sym (room-done (chunk 2) unitInList unitsInList units-none units-more _ (l .room) (l .left) (l .at) (omega arith)) ∙ l .inv .2, (omega arith, omega arith))
+    let l = c .before .loop in (
+      sym (room-done (chunk 2) unitInList unitsInList units-none units-more _ (l .room) (l .left) (l .at) (omega arith)) ∙ l .inv .2,
+      (omega arith, omega arith),
+    )
 
 pub units-room-spec : {M : Type 1} → statement M
 units-room-spec =

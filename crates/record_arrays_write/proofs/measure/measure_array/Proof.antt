@@ -2,7 +2,8 @@
 use mathlib.Core.Path.{sym, ap, _∙_, subst}
 use borrow.Author.Needs.{needs}
 use Rattle.record_arrays_write.specs.inner.Measures.{measureOf, UnitsWithin}
-use Rattle.record_arrays_write.proofs.Measures.{entered, end-measured, malformed-measured, unread-measured, units-few, array-measured, array-takes}
+use Rattle.record_arrays_write.proofs.Measures.{entered, end-measured, malformed-measured}
+use Rattle.record_arrays_write.proofs.Measures.{unread-measured, units-few, array-measured, array-takes}
 use Rattle.record_arrays_write.proofs.measure.measure_array.Statement.{statement}
 use Rattle.record_arrays_write.proofs.measure.measure_array.Tie as tie
 
@@ -39,8 +40,11 @@ returns c =
     let t = f .before .before .array-step in
     let a = start f .args in
     let g = f .first .given in
-    let m = c .before .before .measure-units in
-    (unread-measured (a .list .now) (a .c) (t .result) (t .ensures) (g .0 .0) (g .0 .1 .0) (g .1) (sym (ap measureOf (c .enum-told .given .1)) ∙ m .ensures .0), tt)
+    let m = c .before .before .measure-units in (
+      unread-measured (a .list .now) (a .c) (t .result) (t .ensures) (g .0 .0) (g .0 .1 .0) (g .1)
+          (sym (ap measureOf (c .enum-told .given .1)) ∙ m .ensures .0),
+      tt,
+    )
 
 of-array-requires : tie.Need-of-array-requires
 of-array-requires c κs =

@@ -2,7 +2,8 @@
 use Prim.Native.Nat.{_-_}
 use borrow.Author.Needs.{needs}
 use lib.ListN.{length}
-use Rattle.record_arrays_write.proofs.Measures.{MeasuringArrays, arrays-start, arrays-ended, arrays-refused, arrays-add, arrays-less, arrays-again}
+use Rattle.record_arrays_write.proofs.Measures.{MeasuringArrays, arrays-start, arrays-ended}
+use Rattle.record_arrays_write.proofs.Measures.{arrays-refused, arrays-add, arrays-less, arrays-again}
 use Rattle.record_arrays_write.proofs.measure.measure_arrays.Statement.{statement}
 use Rattle.record_arrays_write.proofs.measure.measure_arrays.Tie as tie
 

@@ -2,7 +2,8 @@
 use Prim.Native.Nat.{_-_}
 use borrow.Author.Needs.{needs}
 use lib.ListN.{length}
-use Rattle.record_arrays_write.proofs.Measures.{MeasuringUnits, ahead, units-start, units-ended, units-refused, unit-small, units-add, units-again}
+use Rattle.record_arrays_write.proofs.Measures.{MeasuringUnits, ahead, units-start, units-ended}
+use Rattle.record_arrays_write.proofs.Measures.{units-refused, unit-small, units-add, units-again}
 use Rattle.record_arrays_write.proofs.measure.measure_units.Statement.{statement}
 use Rattle.record_arrays_write.proofs.measure.measure_units.Tie as tie
 

@@ -25,8 +25,11 @@ put-count-requires : tie.Need-put-count-requires
 put-count-requires c κs =
     let p = c .before .before .before in
     let b = start p in
-    let a = b .args in
-    (b .pre .2, count-puts (a .list .now) (a .complete) (a .c .«unit_type») (arrayUnitsFrom (a .list .now) (a .c)) (a .out .now) (a .to) (b .pre .3) _ (p .before .before .array-byte .ensures) _ (p .put .ensures))
+    let a = b .args in (
+      b .pre .2,
+      count-puts (a .list .now) (a .complete) (a .c .«unit_type») (arrayUnitsFrom (a .list .now) (a .c)) (a .out .now) (a .to) (b .pre .3) _
+          (p .before .before .array-byte .ensures) _ (p .put .ensures),
+    )
 
 put-units-requires : tie.Need-put-units-requires
 put-units-requires c κs =
@@ -35,7 +38,8 @@ put-units-requires c κs =
     let b = start p in
     let a = b .args in (
       b .pre .2,
-      units-puts (a .list .now) (a .complete) (a .c .«unit_type») (arrayUnitsFrom (a .list .now) (a .c)) (a .out .now) (a .to) (b .pre .3) _ (p .before .before .array-byte .ensures) _ (p .put .ensures) _ _ (pc .put-count .ensures),
+      units-puts (a .list .now) (a .complete) (a .c .«unit_type») (arrayUnitsFrom (a .list .now) (a .c)) (a .out .now) (a .to) (b .pre .3) _
+          (p .before .before .array-byte .ensures) _ (p .put .ensures) _ _ (pc .put-count .ensures),
     )
 
 same-length : tie.Need-same-length

@@ -42,7 +42,8 @@ put-array-requires c κs =
     let l = co .before .before .before .loop in
     let a = start co .args in
     let g = co .complete .given in
-    array-needs (a .list .now) (a .c) (a .out .now) (a .to) (l .here) (l .out) (l .next) (l .inv) (t .result) (t .ensures) (g .0 .0) (g .0 .1 .0) (g .1)
+    array-needs (a .list .now) (a .c) (a .out .now) (a .to) (l .here) (l .out) (l .next) (l .inv) (t .result) (t .ensures)
+    (g .0 .0) (g .0 .1 .0) (g .1)
 
 loop-less : tie.Need-loop-less Inv-loop μ-loop
 loop-less c =
@@ -51,7 +52,8 @@ loop-less c =
     let l = co .before .before .before .loop in
     let a = start co .args in
     let g = co .complete .given in
-    arrays-less (a .list .now) (a .c) (a .out .now) (a .to) (l .here) (l .out) (l .next) (l .inv) (t .result) (t .ensures) (g .0 .0) (g .0 .1 .0) (g .1)
+    arrays-less (a .list .now) (a .c) (a .out .now) (a .to) (l .here) (l .out) (l .next) (l .inv) (t .result) (t .ensures)
+    (g .0 .0) (g .0 .1 .0) (g .1)
 
 loop-again : tie.Need-loop-again Inv-loop μ-loop
 loop-again c =
@@ -60,7 +62,8 @@ loop-again c =
     let l = co .before .before .before .loop in
     let a = start co .args in
     let g = co .complete .given in
-    arrays-again (a .list .now) (a .c) (a .out .now) (a .to) (l .here) (l .out) (l .next) (l .inv) (t .result) (t .ensures) (g .0 .0) (g .0 .1 .0) (g .1)
+    arrays-again (a .list .now) (a .c) (a .out .now) (a .to) (l .here) (l .out) (l .next) (l .inv) (t .result) (t .ensures)
+    (g .0 .0) (g .0 .1 .0) (g .1)
     _ _ (c .before .before .put-array .ensures)
 
 pub put-arrays-spec : {M : Type 1} → statement M

@@ -75,7 +75,8 @@ loop-again c =
     let l = p .before .before .before .loop in
     let a = start p .args in
     let g = p .a .given in
-    units-again (a .list .now) (a .c) (a .out .now) (a .to) (l .here) (l .out) (l .at) (l .inv) (t .result) (t .ensures) (g .0 .0) (g .0 .1 .0) (g .1) _ (c .before .before .before .put-unit .ensures)
+    units-again (a .list .now) (a .c) (a .out .now) (a .to) (l .here) (l .out) (l .at) (l .inv) (t .result) (t .ensures) (g .0 .0) (g .0 .1 .0)
+    (g .1) _ (c .before .before .before .put-unit .ensures)
 
 pub put-units-spec : {M : Type 1} → statement M
 put-units-spec =

@@ -13,7 +13,8 @@ use Rattle.split.proofs.walk.item_count.Tie as tie
 use Rattle.split.specs.inner.Walk.{itemUnitsFrom}
 
 abbrev Inv-walk : tie.InvT-walk
-Inv-walk item size at₀ n₀ at n = (at ≤ length item) × (n ≤ at) × (plus n (countFound (itemUnitsFrom size item at)) ≡ countFound (itemUnitsFrom size item 0))
+Inv-walk item size at₀ n₀ at n =
+    (at ≤ length item) × (n ≤ at) × (plus n (countFound (itemUnitsFrom size item at)) ≡ countFound (itemUnitsFrom size item 0))
 
 abbrev μ-walk : tie.MeasureT-walk
 μ-walk item size at₀ n₀ at n = length item - at
@@ -41,8 +42,12 @@ walk-less c = let f = unit-at c in omega arith
 
 walk-again : tie.Need-walk-again Inv-walk μ-walk
 walk-again c =
-    let f = unit-at c in
-    (omega arith, omega arith, count-on _ _ _ (c .before .before .before .before .walk .inv .2) (c .before .step .given .0 .0) (itemUnitsFrom _ _ (c .before .step .given .0 .1 .0)) (f .rest))
+    let f = unit-at c in (
+      omega arith,
+      omega arith,
+      count-on _ _ _ (c .before .before .before .before .walk .inv .2) (c .before .step .given .0 .0)
+          (itemUnitsFrom _ _ (c .before .step .given .0 .1 .0)) (f .rest),
+    )
 
 enum-told : tie.Need-enum-told Inv-walk μ-walk
 enum-told c = search needs

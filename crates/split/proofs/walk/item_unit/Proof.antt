@@ -13,7 +13,8 @@ use Rattle.split.proofs.walk.item_unit.Tie as tie
 use Rattle.split.specs.inner.Walk.{itemUnitsFrom}
 
 abbrev Inv-walk : tie.InvT-walk
-Inv-walk item size k at₀ skip₀ at skip = (at ≤ length item) × (skip < total (itemUnitsFrom size item at)) × (found (itemUnitsFrom size item at) skip ≡ found (itemUnitsFrom size item 0) k)
+Inv-walk item size k at₀ skip₀ at skip =
+    (at ≤ length item) × (skip < total (itemUnitsFrom size item at)) × (found (itemUnitsFrom size item at) skip ≡ found (itemUnitsFrom size item 0) k)
 
 abbrev μ-walk : tie.MeasureT-walk
 μ-walk item size k at₀ skip₀ at skip = length item - at
@@ -47,7 +48,8 @@ walk-again : tie.Need-walk-again Inv-walk μ-walk
 walk-again c =
     let f = unit-here (c .before) in
     let l = c .before .before .before .before .before .walk in
-    let w = find-on (l .skip) _ _ (l .inv .1) (l .inv .2) (c .before .before .step .given .0 .0) (itemUnitsFrom _ _ (c .before .before .step .given .0 .1 .0)) (f .rest) (c .if1 .left) in
+    let w = find-on (l .skip) _ _ (l .inv .1) (l .inv .2) (c .before .before .step .given .0 .0)
+    (itemUnitsFrom _ _ (c .before .before .step .given .0 .1 .0)) (f .rest) (c .if1 .left) in
     (omega arith, w .0, w .1)
 
 returns : tie.Need-returns Inv-walk μ-walk
@@ -58,8 +60,11 @@ returns c =
 returns-2 : tie.Need-returns-2 Inv-walk μ-walk
 returns-2 c =
     let f = unit-here (c .before) in
-    let l = c .before .before .before .before .before .walk in
-    (find-here (l .skip) _ _ (l .inv .1) (l .inv .2) (c .before .before .step .given .0 .0) (itemUnitsFrom _ _ (c .before .before .step .given .0 .1 .0)) (f .rest) (c .if1 .taken), omega arith)
+    let l = c .before .before .before .before .before .walk in (
+      find-here (l .skip) _ _ (l .inv .1) (l .inv .2) (c .before .before .step .given .0 .0)
+          (itemUnitsFrom _ _ (c .before .before .step .given .0 .1 .0)) (f .rest) (c .if1 .taken),
+      omega arith,
+    )
 
 pub item-unit-spec : {M : Type 1} → statement M
 item-unit-spec =

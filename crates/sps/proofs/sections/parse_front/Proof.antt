@@ -16,7 +16,8 @@ read-ids-requires : tie.Need-read-ids-requires
 read-ids-requires c κs = search needs
 
 read-ptl-requires : tie.Need-read-ptl-requires
-read-ptl-requires c κs = (c .before .before .pre, ids-place _ (c .read-ids .result .answer) (c .read-ids .result .part) (c .read-ids .ensures .0), c .read-ids .ensures .1)
+read-ptl-requires c κs =
+    (c .before .before .pre, ids-place _ (c .read-ids .result .answer) (c .read-ids .result .part) (c .read-ids .ensures .0), c .read-ids .ensures .1)
 
 read-size-requires : tie.Need-read-size-requires
 read-size-requires c κs = search needs
@@ -41,7 +42,9 @@ no-sps-requires c κs = search needs
 
 -- the sections' answers make up the head
 sections : (c : tie.After-read-depth) → spsHead (c .before .before .before .before .before .before .args .rbsp .now) 0
-    ≡ bind (parsed (c .read-depth .result)) (λ _ q. value (spsHeadOf (c .before .before .before .before .read-ids .result .part) (c .before .before .before .read-ptl .result .ptl) (c .before .before .read-size .result .part) (windowOf (c .before .read-window .result .part)) (numberIn (c .read-depth .result))) q)
+    ≡ bind (parsed (c .read-depth .result))
+    (λ _ q. value (spsHeadOf (c .before .before .before .before .read-ids .result .part) (c .before .before .before .read-ptl .result .ptl)
+    (c .before .before .read-size .result .part) (windowOf (c .before .read-window .result .part)) (numberIn (c .read-depth .result))) q)
 sections c =
     let k4 = c .before in
     let k3 = k4 .before in
@@ -59,7 +62,8 @@ sections c =
     ∙ bind-next (r4 .answer) (c .read-depth .result) _ _ (c .read-depth .ensures)
 
 returns : tie.Need-returns
-returns c = c .no-sps .ensures ∙ sym (ap (readOr zeroSps) (sections (c .before .before .before .before) ∙ bind-refused _ refl (c .before .before .enum-told .given .1) (c .before .refusal .ensures)))
+returns c = c .no-sps .ensures ∙ sym (ap (readOr zeroSps)
+    (sections (c .before .before .before .before) ∙ bind-refused _ refl (c .before .before .enum-told .given .1) (c .before .refusal .ensures)))
 
 head-of-requires : tie.Need-head-of-requires
 head-of-requires c κs =
@@ -70,4 +74,5 @@ returns-2 : tie.Need-returns-2
 returns-2 c = rw (c .head-of .ensures, sections (c .before .before .before .before), c .before .before .r .given .1)
 
 pub parse-front-spec : {M : Type 1} → statement M
-parse-front-spec = tie.close (tie.spec read-ids-requires read-ptl-requires read-size-requires read-window-requires read-depth-requires enum-known-r enum-told refusal-requires no-sps-requires returns head-of-requires returns-2)
+parse-front-spec = tie.close (tie.spec read-ids-requires read-ptl-requires read-size-requires read-window-requires read-depth-requires enum-known-r
+    enum-told refusal-requires no-sps-requires returns head-of-requires returns-2)

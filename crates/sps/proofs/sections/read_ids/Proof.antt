@@ -98,4 +98,6 @@ returns c =
     )
 
 pub read-ids-spec : {M : Type 1} → statement M
-read-ids-spec = tie.close (tie.spec read-bits-requires read-bits-requires-2 read-bits-requires-3 read-bits-requires-4 read-bits-requires-5 read-bits-requires-6 number-requires cast-t11 number-requires-2 cast-t13 number-requires-3 cast-t15 number-requires-4 cast-t17 number-requires-5 cast-t19 add-t20 number-requires-6 returns)
+read-ids-spec = tie.close (tie.spec read-bits-requires read-bits-requires-2 read-bits-requires-3 read-bits-requires-4 read-bits-requires-5
+    read-bits-requires-6 number-requires cast-t11 number-requires-2 cast-t13 number-requires-3 cast-t15 number-requires-4 cast-t17 number-requires-5
+    cast-t19 add-t20 number-requires-6 returns)

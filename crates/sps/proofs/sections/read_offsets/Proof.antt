@@ -47,4 +47,5 @@ returns c =
     ∙ bind-next (k3 .exp-golomb3 .result) (k4 .exp-golomb4 .result) _ _ (k4 .exp-golomb4 .ensures)))
 
 pub read-offsets-spec : {M : Type 1} → statement M
-read-offsets-spec = tie.close (tie.spec exp-golomb-requires exp-golomb-requires-2 exp-golomb-requires-3 exp-golomb-requires-4 number-requires number-requires-2 number-requires-3 number-requires-4 returns)
+read-offsets-spec = tie.close (tie.spec exp-golomb-requires exp-golomb-requires-2 exp-golomb-requires-3 exp-golomb-requires-4 number-requires
+    number-requires-2 number-requires-3 number-requires-4 returns)

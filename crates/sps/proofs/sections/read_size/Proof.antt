@@ -54,4 +54,5 @@ returns c =
     ∙ bind-next (k5 .exp-golomb2 .result) (k6 .read-bits3 .result) _ _ (k6 .read-bits3 .ensures))))
 
 pub read-size-spec : {M : Type 1} → statement M
-read-size-spec = tie.close (tie.spec read-bits-requires read-bits-requires-2 number-requires read-bits-if-requires exp-golomb-requires exp-golomb-requires-2 read-bits-requires-3 number-requires-2 number-requires-3 number-requires-4 returns)
+read-size-spec = tie.close (tie.spec read-bits-requires read-bits-requires-2 number-requires read-bits-if-requires exp-golomb-requires
+    exp-golomb-requires-2 read-bits-requires-3 number-requires-2 number-requires-3 number-requires-4 returns)

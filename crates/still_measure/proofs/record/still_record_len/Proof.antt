@@ -26,10 +26,12 @@ bytes-at c i = omega (arith, c .before .shared-slice-known .given i)
 -- the result of compact read is at the front of the array
 read-at : (c : tie.After-known-told)
     → Read (c .before .before .before .before .before .before .before .args .«record» .now)
-    (c .before .read .given .0 .0) (c .before .read .given .0 .1 .0) (c .before .read .given .0 .1 .1 .0) (c .before .before .before .before .parse .last .1 .0)
+    (c .before .read .given .0 .0) (c .before .read .given .0 .1 .0) (c .before .read .given .0 .1 .1 .0)
+    (c .before .before .before .before .parse .last .1 .0)
 read-at c =
     let y = c .before .before .before .before .parse in
-    was-read _ (bytes-at (c .before .before .before .before .before)) _ _ _ _ _ (ap (λ (x : CompactRead). (compactOf x, y .last .1 .0)) (sym (c .before .read .given .1)) ∙ y .ensures) (omega arith)
+    was-read _ (bytes-at (c .before .before .before .before .before)) _ _ _ _ _
+    (ap (λ (x : CompactRead). (compactOf x, y .last .1 .0)) (sym (c .before .read .given .1)) ∙ y .ensures) (omega arith)
 
 array-share-prefix-list : tie.Need-array-share-prefix-list
 array-share-prefix-list c = read-at c .within
@@ -52,7 +54,8 @@ returns-2 c =
     let y = c .before .before .before .before .parse in
     let e = ap (λ (x : CompactRead). (compactOf x, y .last .1 .0)) (sym (c .before .read2 .given .1)) ∙ y .ensures in
     counted-refused (stillRecord (a .«record» .now) (a .picture)) _
-    (record-unread (a .«record» .now) (a .picture) _ (not-read (a .«record» .now) (bytes-at (c .before .before .before .before .before)) _ _ _ e (omega arith)))
+    (record-unread (a .«record» .now) (a .picture) _
+    (not-read (a .«record» .now) (bytes-at (c .before .before .before .before .before)) _ _ _ e (omega arith)))
 
 pub still-record-len-spec : {M : Type 1} → statement M
 still-record-len-spec =

@@ -36,7 +36,8 @@ returns : tie.Need-returns
 returns c =
     let kt = c .before .before in
     let a = start kt .args in
-    stream-counted _ _ _ (listed-here kt) (a .stored .now) (sized-listed _ _ _ _ (kt .before .before .before .plain-sizes .ensures) _ (kt .before .sizes .given .1) .1) _
+    stream-counted _ _ _ (listed-here kt) (a .stored .now)
+    (sized-listed _ _ _ _ (kt .before .before .before .plain-sizes .ensures) _ (kt .before .sizes .given .1) .1) _
     (omega (arith, c .picture-end .ensures, c .before .stream-len .ensures))
 
 returns-2 : tie.Need-returns-2

@@ -15,7 +15,8 @@ measure-requires : tie.Need-measure-requires
 measure-requires c κs = tt
 
 returns-2 : tie.Need-returns-2
-returns-2 c = plain-measured _ _ _ _ (c .before .before .before .before .before .pre .1) (c .before .before .before .before .before .pre .0) (c .before .before .if1 .left) (c .measure .result) (c .measure .ensures)
+returns-2 c = plain-measured _ _ _ _ (c .before .before .before .before .before .pre .1) (c .before .before .before .before .before .pre .0)
+    (c .before .before .if1 .left) (c .measure .result) (c .measure .ensures)
 
 pub plain-sizes-spec : {M : Type 1} → statement M
 plain-sizes-spec = tie.close (tie.spec returns slice-aggregate-measure measure-requires returns-2)

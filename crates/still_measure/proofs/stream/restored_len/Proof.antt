@@ -21,12 +21,14 @@ enum-known-e c = search needs
 returns : tie.Need-returns
 returns c =
     let a = c .before .before .before .before .before .before .args in
-    item-counted (a .config) (a .head) (a .list .now) (a .stored .now) _ _ (sym (ap countOf (c .before .enum-told .given .1)) ∙ c .before .before .before .record-len .ensures) (c .item-len .ensures)
+    item-counted (a .config) (a .head) (a .list .now) (a .stored .now) _ _
+    (sym (ap countOf (c .before .enum-told .given .1)) ∙ c .before .before .before .record-len .ensures) (c .item-len .ensures)
 
 returns-2 : tie.Need-returns-2
 returns-2 c =
     let a = c .before .before .before .before .before .before .args in
-    item-refused (a .config) (a .head) (a .list .now) (a .stored .now) _ (sym (ap countOf (c .before .e .given .1)) ∙ c .before .before .before .record-len .ensures)
+    item-refused (a .config) (a .head) (a .list .now) (a .stored .now) _
+    (sym (ap countOf (c .before .e .given .1)) ∙ c .before .before .before .record-len .ensures)
 
 pub restored-len-spec : {M : Type 1} → statement M
 restored-len-spec =

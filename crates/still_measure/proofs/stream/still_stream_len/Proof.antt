@@ -45,7 +45,8 @@ read-at : (c : tie.After-known-told)
 read-at c =
     let p = after-parse c in
     let y = p .parse in
-    was-read _ (bytes-at (p .before)) _ _ _ _ _ (ap (λ (x : CompactRead). (compactOf x, y .last .1 .0)) (sym (c .before .read .given .1)) ∙ y .ensures) (omega arith)
+    was-read _ (bytes-at (p .before)) _ _ _ _ _
+    (ap (λ (x : CompactRead). (compactOf x, y .last .1 .0)) (sym (c .before .read .given .1)) ∙ y .ensures) (omega arith)
 
 array-share-prefix-list : tie.Need-array-share-prefix-list
 array-share-prefix-list c = read-at c .within
@@ -60,7 +61,8 @@ enum-known-read-2 : tie.Need-enum-known-read-2
 enum-known-read-2 c = search needs
 
 returns-2 : tie.Need-returns-2
-returns-2 c = counted-as _ _ _ (stream-read _ _ _ (after-parse (c .before .before) .before .before .if1 .left) _ _ (read-at (c .before .before) .given)) (c .stream-len .ensures)
+returns-2 c = counted-as _ _ _
+    (stream-read _ _ _ (after-parse (c .before .before) .before .before .if1 .left) _ _ (read-at (c .before .before) .given)) (c .stream-len .ensures)
 
 returns-3 : tie.Need-returns-3
 returns-3 c =

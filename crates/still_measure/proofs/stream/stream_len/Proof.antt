@@ -35,7 +35,8 @@ expanded-at c =
     let tf = after-to-full c in
     let y = tf .to-full in
     was-expanded _ anyPicture _ (start tf .pre .0) _ (y .result .head) _ _
-    (ap (λ (x : ExpandAnswer). ((expandAnswerOf x (y .result .head), y .result .head), y .last .1 .1 .1 .0)) (sym (c .before .answer .given .1)) ∙ y .ensures) (omega arith)
+    (ap (λ (x : ExpandAnswer). ((expandAnswerOf x (y .result .head), y .result .head), y .last .1 .1 .1 .0)) (sym (c .before .answer .given .1))
+    ∙ y .ensures) (omega arith)
 
 array-share-prefix-grouped : tie.Need-array-share-prefix-grouped
 array-share-prefix-grouped c = expanded-at c .within
@@ -58,7 +59,8 @@ returns-2 c =
     let s = start tf in
     let a = s .args in
     let y = tf .to-full in
-    let e = ap (λ (x : ExpandAnswer). ((expandAnswerOf x (y .result .head), y .result .head), y .last .1 .1 .1 .0)) (sym (c .before .answer2 .given .1)) ∙ y .ensures in
+    let e = ap (λ (x : ExpandAnswer). ((expandAnswerOf x (y .result .head), y .result .head), y .last .1 .1 .1 .0))
+    (sym (c .before .answer2 .given .1)) ∙ y .ensures in
     counted-refused (streamFrom (a .config) (a .list .now) (a .stored .now) (tolsOf (a .tols))) _
     (stream-unexpanded (a .config) (a .list .now) (a .stored .now) (tolsOf (a .tols)) _
     (not-expanded (a .config) anyPicture (a .list .now) (s .pre .0) _ _ _ _ e (omega arith)))

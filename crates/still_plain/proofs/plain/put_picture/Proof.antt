@@ -50,7 +50,8 @@ returns c =
     let p = after-put pu in
     let nh = after-nal-header p in
     let a = nh .before .before .before .args in
-    picture-stored (a .stored .now) (a .out .now) _ _ _ _ (a .at) (nh .nal-header .result) (nh .nal-header .ensures) (p .before .before .before .before .put-number .ensures) (p .put .ensures) (pu .put2 .ensures) (c .before .before .copy .ensures)
+    picture-stored (a .stored .now) (a .out .now) _ _ _ _ (a .at) (nh .nal-header .result) (nh .nal-header .ensures)
+    (p .before .before .before .before .put-number .ensures) (p .put .ensures) (pu .put2 .ensures) (c .before .before .copy .ensures)
 
 pub put-picture-spec : {M : Type 1} → statement M
 put-picture-spec =

@@ -37,7 +37,8 @@ put-stream-requires : tie.Need-put-stream-requires
 put-stream-requires c κs =
     let pe = c .before .before .before in
     let b = start pe in
-    puts-front _ _ _ (b .pre .0) (b .args .out .now) (omega (arith, c .before .before .if1 .left, pe .picture-end .ensures, pe .before .stream-len .ensures))
+    puts-front _ _ _ (b .pre .0) (b .args .out .now)
+    (omega (arith, c .before .before .if1 .left, pe .picture-end .ensures, pe .before .stream-len .ensures))
 
 put-picture-requires : tie.Need-put-picture-requires
 put-picture-requires c κs = search needs
@@ -54,7 +55,8 @@ returns-2 c =
     let k = b .pre .0 in
     let l = stream-long _ _ _ k (a .stored .now) in
     let s = pe .before .stream-len .ensures in
-    written-fits (unitsStream (a .list .now) (a .stored .now)) (a .out .now) _ (stream-given _ _ _ k (a .stored .now)) _ _ (omega (arith, pe .picture-end .ensures, s)) (ps .before .before .before .if1 .left)
+    written-fits (unitsStream (a .list .now) (a .stored .now)) (a .out .now) _ (stream-given _ _ _ k (a .stored .now)) _ _
+    (omega (arith, pe .picture-end .ensures, s)) (ps .before .before .before .if1 .left)
     (stream-stored _ _ _ k (a .stored .now) (a .out .now) _ _ _ s (ps .put-stream .ensures) (c .before .before .put-picture .ensures))
 
 pub put-sized-spec : {M : Type 1} → statement M

@@ -13,13 +13,15 @@ abbrev μ-loop : tie.MeasureT-loop
 μ-loop list w k nowhere c seen₀ here seen = length list - here .at
 
 turn-at : (c : tie.After-a Inv-loop μ-loop)
-    → Turn (c .before .before .before .before .before .args .list .now) (c .before .before .before .before .before .args .c) (c .before .before .before .before .before .args .w) (c .before .before .before .before .before .args .k)
+    → Turn (c .before .before .before .before .before .args .list .now) (c .before .before .before .before .before .args .c)
+    (c .before .before .before .before .before .args .w) (c .before .before .before .before .before .args .k)
     (c .before .before .before .loop .here) (c .before .before .before .loop .seen) (c .a .given .0 .0) (c .a .given .0 .1 .0)
 turn-at c =
     let t = c .before .before in
     let l = t .before in
     let a = l .before .before .args in
-    walked-turn (a .list .now) (a .c) (a .w) (a .k) (l .loop .here) (l .loop .seen) (l .loop .inv) (t .step .result) (t .step .ensures) (c .a .given .0 .0) (c .a .given .0 .1 .0) (c .a .given .1)
+    walked-turn (a .list .now) (a .c) (a .w) (a .k) (l .loop .here) (l .loop .seen) (l .loop .inv) (t .step .result) (t .step .ensures)
+    (c .a .given .0 .0) (c .a .given .0 .1 .0) (c .a .given .1)
 
 loop-holds : tie.Need-loop-holds Inv-loop μ-loop
 loop-holds c = let a = c .before .args in walked-start (a .list .now) (a .c) (a .w) (a .k) (c .before .pre)
@@ -47,7 +49,8 @@ returns c =
     let t = c .before .before .before in
     let l = t .before in
     let a = l .before .before .args in
-    walked-end (a .list .now) (a .c) (a .w) (a .k) (l .loop .here) (l .loop .seen) (l .loop .inv) (t .step .result) (t .step .ensures) (c .before .enum-told .given .1)
+    walked-end (a .list .now) (a .c) (a .w) (a .k) (l .loop .here) (l .loop .seen) (l .loop .inv) (t .step .result) (t .step .ensures)
+    (c .before .enum-told .given .1)
 
 enum-told-2 : tie.Need-enum-told-2 Inv-loop μ-loop
 enum-told-2 c = search needs
@@ -57,7 +60,8 @@ returns-2 c =
     let t = c .before .before in
     let l = t .before in
     let a = l .before .before .args in
-    walked-malformed (a .list .now) (a .c) (a .w) (a .k) (l .loop .here) (l .loop .seen) (l .loop .inv) (t .step .result) (t .step .ensures) (c .enum-told2 .given .1)
+    walked-malformed (a .list .now) (a .c) (a .w) (a .k) (l .loop .here) (l .loop .seen) (l .loop .inv) (t .step .result) (t .step .ensures)
+    (c .enum-told2 .given .1)
 
 pub find-from-spec : {M : Type 1} → statement M
 find-from-spec =

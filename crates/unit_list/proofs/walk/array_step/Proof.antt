@@ -6,7 +6,8 @@ use lib.ListN.{length, take}
 use borrow.Author.Needs.{needs}
 use Rattle.parse.specs.Parse.{value}
 use Rattle.boxes.specs.Bytes.{chunk}
-use Rattle.unit_list.proofs.Steps.{chunk-bytes, chunk-refused, arrays-end, arrays-unread, array-inside, arrays-short, arrays-complete, arrays-type, arrays-entered}
+use Rattle.unit_list.proofs.Steps.{chunk-bytes, chunk-refused, arrays-end, arrays-unread, array-inside}
+use Rattle.unit_list.proofs.Steps.{arrays-short, arrays-complete, arrays-type, arrays-entered}
 use Rattle.unit_list.proofs.walk.array_step.Statement.{statement}
 use Rattle.unit_list.proofs.walk.array_step.Tie as tie
 
@@ -43,8 +44,11 @@ enum-told c = search needs
 returns-2 : tie.Need-returns-2
 returns-2 c =
     let s = c .before .before .before .before .before .before in
-    let a = s .args in
-    (arrays-unread (a .list .now) (a .c) (omega (arith, c .before .before .before .if1 .left, s .pre .within)) (chunk-refused (c .before .before .chunk .result) _ (c .before .before .chunk .ensures) (c .enum-told .given .1)), tt)
+    let a = s .args in (
+      arrays-unread (a .list .now) (a .c) (omega (arith, c .before .before .before .if1 .left, s .pre .within))
+          (chunk-refused (c .before .before .chunk .result) _ (c .before .before .chunk .ensures) (c .enum-told .given .1)),
+      tt,
+    )
 
 returns-3 : tie.Need-returns-3
 returns-3 c =
@@ -70,8 +74,11 @@ returns-4 c =
 returns-5 : tie.Need-returns-5
 returns-5 c =
     let r = after-rest (c .before) in
-    let a = start r .args in
-    (arrays-type (a .list .now) (a .c) (left-at r) (r .rest .given .0 .0) (read-at r) (omega (arith, c .before .before .before .before .if2 .left)) (c .before .if3 .left) (c .if4 .taken), tt)
+    let a = start r .args in (
+      arrays-type (a .list .now) (a .c) (left-at r) (r .rest .given .0 .0) (read-at r) (omega (arith, c .before .before .before .before .if2 .left))
+          (c .before .if3 .left) (c .if4 .taken),
+      tt,
+    )
 
 add-first : tie.Need-add-first
 add-first c = omega (arith, inside-at (after-rest (c .before)), c .before .before .before .before .if2 .left)
@@ -84,7 +91,8 @@ returns-6 c =
     let r = after-rest (c .before .before) in
     let b = r .before .before .before .before .before .before in
     let a = b .args in
-    arrays-entered (a .list .now) (a .c) (left-at r) (r .rest .given .0 .0) (read-at r) (omega (arith, c .before .before .before .before .before .if2 .left)) (c .before .before .if3 .left) (b .pre .lent) (c .before .if4 .left)
+    arrays-entered (a .list .now) (a .c) (left-at r) (r .rest .given .0 .0) (read-at r)
+    (omega (arith, c .before .before .before .before .before .if2 .left)) (c .before .before .if3 .left) (b .pre .lent) (c .before .if4 .left)
 
 pub array-step-spec : {M : Type 1} → statement M
 array-step-spec =

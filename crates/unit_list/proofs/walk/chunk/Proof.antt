@@ -33,7 +33,8 @@ returns-3 : tie.Need-returns-3
 returns-3 c =
     let b = c .before .before .before .before in
     let a = b .args in
-    chunk-whole (a .width) (a .s .now) (a .at) (a .end) (b .pre .2) (omega arith) (c .before .number .result) (c .before .number .ensures .0) (omega arith)
+    chunk-whole (a .width) (a .s .now) (a .at) (a .end) (b .pre .2) (omega arith) (c .before .number .result)
+    (c .before .number .ensures .0) (omega arith)
 
 pub chunk-spec : {M : Type 1} → statement M
 chunk-spec = tie.close (tie.spec sub-if1 returns number-requires add-start sub-if2 returns-2 returns-3)

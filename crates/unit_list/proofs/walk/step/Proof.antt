@@ -16,15 +16,19 @@ abbrev μ-loop : tie.MeasureT-loop
 μ-loop list c here = length list - here .end
 
 turn-at : (c : tie.After-first Inv-loop μ-loop)
-    → (μ-loop (c .before .before .before .before .before .before .before .args .list .now) (c .before .before .before .before .before .before .before .args .c) (c .first .given .0 .1 .0)
-    < μ-loop (c .before .before .before .before .before .before .before .args .list .now) (c .before .before .before .before .before .before .before .args .c) (c .before .before .before .before .before .loop .here))
-    × Inv-loop (c .before .before .before .before .before .before .before .args .list .now) (c .before .before .before .before .before .before .before .args .c) (c .first .given .0 .1 .0)
+    → (μ-loop (c .before .before .before .before .before .before .before .args .list .now)
+    (c .before .before .before .before .before .before .before .args .c) (c .first .given .0 .1 .0)
+    < μ-loop (c .before .before .before .before .before .before .before .args .list .now)
+    (c .before .before .before .before .before .before .before .args .c) (c .before .before .before .before .before .loop .here))
+    × Inv-loop (c .before .before .before .before .before .before .before .args .list .now)
+    (c .before .before .before .before .before .before .before .args .c) (c .first .given .0 .1 .0)
 turn-at c =
     let a = c .before .before in
     let i = a .before in
     let l = i .before .before in
     let g = c .first .given in
-    turn-entered (l .before .before .args .list .now) (l .before .before .args .c) (l .loop .here) (l .loop .inv) (i .if1 .taken) (a .array-step .result) (a .array-step .ensures) (g .0 .0) (g .0 .1 .0) (g .1)
+    turn-entered (l .before .before .args .list .now) (l .before .before .args .c) (l .loop .here) (l .loop .inv) (i .if1 .taken)
+    (a .array-step .result) (a .array-step .ensures) (g .0 .0) (g .0 .1 .0) (g .1)
 
 loop-holds : tie.Need-loop-holds Inv-loop μ-loop
 loop-holds c = (c .before .pre, refl, omega arith)
@@ -48,8 +52,11 @@ returns : tie.Need-returns Inv-loop μ-loop
 returns c =
     let a = c .before .before in
     let i = a .before in
-    let l = i .before .before in
-    (turn-end (l .before .before .args .list .now) (l .before .before .args .c) (l .loop .here) (l .loop .inv) (i .if1 .taken) (a .array-step .result) (a .array-step .ensures) (c .enum-told .given .1), tt)
+    let l = i .before .before in (
+      turn-end (l .before .before .args .list .now) (l .before .before .args .c) (l .loop .here) (l .loop .inv) (i .if1 .taken)
+          (a .array-step .result) (a .array-step .ensures) (c .enum-told .given .1),
+      tt,
+    )
 
 enum-told-2 : tie.Need-enum-told-2 Inv-loop μ-loop
 enum-told-2 c = search needs
@@ -58,8 +65,11 @@ returns-2 : tie.Need-returns-2 Inv-loop μ-loop
 returns-2 c =
     let a = c .before .before in
     let i = a .before in
-    let l = i .before .before in
-    (turn-malformed (l .before .before .args .list .now) (l .before .before .args .c) (l .loop .here) (l .loop .inv) (i .if1 .taken) (a .array-step .result) (a .array-step .ensures) (c .enum-told2 .given .1), tt)
+    let l = i .before .before in (
+      turn-malformed (l .before .before .args .list .now) (l .before .before .args .c) (l .loop .here) (l .loop .inv) (i .if1 .taken)
+          (a .array-step .result) (a .array-step .ensures) (c .enum-told2 .given .1),
+      tt,
+    )
 
 unit-step-requires : tie.Need-unit-step-requires Inv-loop μ-loop
 unit-step-requires c κs = c .before .before .loop .inv .0
@@ -67,7 +77,8 @@ unit-step-requires c κs = c .before .before .loop .inv .0
 returns-3 : tie.Need-returns-3 Inv-loop μ-loop
 returns-3 c =
     let l = c .before .before .before in
-    turn-unit (l .before .before .args .list .now) (l .before .before .args .c) (l .loop .here) (l .loop .inv) (c .before .if1 .left) (c .unit-step .result) (c .unit-step .ensures)
+    turn-unit (l .before .before .args .list .now) (l .before .before .args .c) (l .loop .here) (l .loop .inv) (c .before .if1 .left)
+    (c .unit-step .result) (c .unit-step .ensures)
 
 pub step-spec : {M : Type 1} → statement M
 step-spec =

@@ -11,7 +11,8 @@ use Rattle.unit_list.proofs.walk.unit_step.Statement.{statement}
 use Rattle.unit_list.proofs.walk.unit_step.Tie as tie
 
 read-at : (c : tie.After-a)
-    → chunk 4 (take (c .before .before .before .before .before .before .args .c .end) (c .before .before .before .before .before .before .args .list .now)) (c .before .before .before .before .before .before .args .c .at)
+    → chunk 4 (take (c .before .before .before .before .before .before .args .c .end)
+    (c .before .before .before .before .before .before .args .list .now)) (c .before .before .before .before .before .before .args .c .at)
     ≡ value (c .a .given .0 .0) (c .a .given .0 .0 .start + c .a .given .0 .0 .len)
 read-at c = chunk-bytes (c .before .before .chunk .result) _ (c .a .given .0 .0) (c .before .before .chunk .ensures) (c .a .given .1)
 
@@ -32,8 +33,11 @@ enum-told c = search needs
 returns-2 : tie.Need-returns-2
 returns-2 c =
     let i = c .before .before .before in
-    let b = i .before .before .before in
-    (units-unread (b .args .list .now) (b .args .c) (b .pre) (i .if1 .left) (chunk-refused (c .before .before .chunk .result) (chunk 4 (take (b .args .c .end) (b .args .list .now)) (b .args .c .at)) (c .before .before .chunk .ensures) (c .enum-told .given .1)), tt)
+    let b = i .before .before .before in (
+      units-unread (b .args .list .now) (b .args .c) (b .pre) (i .if1 .left) (chunk-refused (c .before .before .chunk .result)
+          (chunk 4 (take (b .args .c .end) (b .args .list .now)) (b .args .c .at)) (c .before .before .chunk .ensures) (c .enum-told .given .1)),
+      tt,
+    )
 
 add-next : tie.Need-add-next
 add-next c =

@@ -28,7 +28,8 @@ returns c =
     let x = y .before .before .before .before in
     let n = x .before .before .before .before in
     let a = n .before .before .before .args in
-    head-written (a .out .now) (n .put-number .last .0) (x .put .last .0) (y .put2 .last .0) (a .at) (a .rest) (a .complete) (a .unit-type) (n .put-number .ensures) (x .put .ensures) (y .put2 .ensures)
+    head-written (a .out .now) (n .put-number .last .0) (x .put .last .0) (y .put2 .last .0) (a .at) (a .rest) (a .complete) (a .unit-type)
+    (n .put-number .ensures) (x .put .ensures) (y .put2 .ensures)
 
 pub put-array-head-spec : {M : Type 1} → statement M
 put-array-head-spec =

@@ -35,7 +35,8 @@ returns-4 : tie.Need-returns-4
 returns-4 c =
     let k₂ = c .before .before .before .before .before in
     let a = k₂ .before .before .before .before .args in
-    several _ _ _ (a .layer) (a .start .0) _ _ (k₂ .before .before .enum-told .given .1) _ _ (k₂ .layers .given .1) _ _ (c .before .before .sublayers .given .1) (c .if1 .taken)
+    several _ _ _ (a .layer) (a .start .0) _ _ (k₂ .before .before .enum-told .given .1) _ _ (k₂ .layers .given .1) _ _
+    (c .before .before .sublayers .given .1) (c .if1 .taken)
 
 enum-told-5 : tie.Need-enum-told-5
 enum-told-5 c = search needs
@@ -48,14 +49,16 @@ returns-5 c =
     let k₃ = c .before .before .before .before in
     let k₂ = k₃ .before .before .before in
     let a = k₂ .before .before .before .before .args in
-    no-layer _ _ _ _ (a .start .0) _ _ (k₂ .before .before .enum-told .given .1) _ _ (k₂ .layers .given .1) _ _ (k₃ .sublayers .given .1) _ (c .before .before .if1 .left) (c .enum-told6 .given .1)
+    no-layer _ _ _ _ (a .start .0) _ _ (k₂ .before .before .enum-told .given .1) _ _ (k₂ .layers .given .1) _ _ (k₃ .sublayers .given .1) _
+    (c .before .before .if1 .left) (c .enum-told6 .given .1)
 
 returns-6 : tie.Need-returns-6
 returns-6 c =
     let k₃ = c .before .before .before .before in
     let k₂ = k₃ .before .before .before in
     let a = k₂ .before .before .before .before .args in
-    in-front _ _ _ _ (a .start .0) _ _ (k₂ .before .before .enum-told .given .1) _ _ (k₂ .layers .given .1) _ _ (k₃ .sublayers .given .1) _ _ (c .before .before .if1 .left) (c .enum-told5 .given .1)
+    in-front _ _ _ _ (a .start .0) _ _ (k₂ .before .before .enum-told .given .1) _ _ (k₂ .layers .given .1) _ _ (k₃ .sublayers .given .1) _ _
+    (c .before .before .if1 .left) (c .enum-told5 .given .1)
 
 pub front-of-spec : {M : Type 1} → statement M
 front-of-spec =

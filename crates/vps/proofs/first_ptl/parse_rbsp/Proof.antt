@@ -25,7 +25,8 @@ params-answer-requires c κs = search needs
 returns : tie.Need-returns
 returns c =
     let k = c .before .before in
-    ptl-answered _ (k .before .before .front .result) _ (k .parse-ptl .result) _ (k .before .before .front .ensures) (k .before .number .ensures) (c .before .params-answer .ensures) (k .parse-ptl .ensures)
+    ptl-answered _ (k .before .before .front .result) _ (k .parse-ptl .result) _ (k .before .before .front .ensures) (k .before .number .ensures)
+    (c .before .params-answer .ensures) (k .parse-ptl .ensures)
 
 pub parse-rbsp-spec : {M : Type 1} → statement M
 parse-rbsp-spec = tie.close (tie.spec front-requires number-requires cast-s parse-ptl-requires params-answer-requires returns)

@@ -17,7 +17,8 @@ use contract.Monad.{Fun, fact}
 use contract.Running.{givenOf, tables, tablesOf}
 use types.Kit.{Given, ‵, raw, _⊛_, _$_, _∵_, !, qed, by, move, keep, use0, use1, split, fsplit, fjoin, suffices, frame, done}
 use types.Part.{whole, sub, look-in, agg}
-use types.Run.{look, init, stop, fld, from, load, of-opd, and-then, no-more, assigns, land, returns, enter, alloc1, alloc0, params1, pass1, pass0, free0}
+use types.Run.{look, init, stop, fld, from, load, of-opd, and-then, no-more, assigns}
+use types.Run.{land, returns, enter, alloc1, alloc0, params1, pass1, pass0, free0}
 use sound.WpLaws.{fmOf, WpFn-mono}
 use denote.RattleType.{owns}
 use denote.Laws.{Is}
@@ -86,46 +87,60 @@ module _ {M : Type 1} (𝓤 : URA M) (H : Heap 𝓤) (A : Atoms 𝓤) (W : Given
 
       asks-next : ent 𝓤 (emp 𝓤) (Next .pre to-next)
       asks-next =
-          qed W [] ∵ says ! ok $ nothing ! $ owned ! Position.the-row (Is Position.the-row) (LL.makes Position.the-type Position′.the-plain 𝓤 H A) (d .pos) _ pos-is $ fjoin ! $
+          qed W [] ∵ says ! ok $ nothing ! $
+          owned ! Position.the-row (Is Position.the-row) (LL.makes Position.the-type Position′.the-plain 𝓤 H A) (d .pos) _ pos-is $ fjoin ! $
           nothing ! $ frame ! $ done !
 
-      next-says : (p : BitPosition) → ent 𝓤 (ensured 𝓤 H A next.ended (next.clauses 𝓤 H A mem run) tt (d .pos, tt) tt p) (fact 𝓤 (NextWhole (d .pos) p))
+      next-says : (p : BitPosition)
+          → ent 𝓤 (ensured 𝓤 H A next.ended (next.clauses 𝓤 H A mem run) tt (d .pos, tt) tt p) (fact 𝓤 (NextWhole (d .pos) p))
       next-says p = exE 𝓤 _ (λ ws. snd∗ 𝓤 (sem 𝓤 H A (lasts next.ended tt (d .pos, tt) ws)) (fact 𝓤 (NextWhole (d .pos) p)))
 
       exits : (p : BitPosition) → PositionIs p → NextWhole (d .pos) p → ent 𝓤 Entry (Post (Reader′.lowered (movedTo d p)))
       exits p is whole-byte =
           qed W ((‵ (flft κ q) ⊛ ‵ ftrue) ∷ ‵ (owns (Row (κ, tt) ∷ []) (d, tt) at) ∷ []) ∵
-          suffices ! _ (ends-at 𝓤 H A f.ended stayed (f.clauses 𝓤 H A mem run) W (((κ, tt), (q, tt), tt, (d, tt), at), tt) (Reader′.lowered (movedTo d p)) (movedTo d p) (tt, tt) (tt, tt)) $
+          suffices ! _ (ends-at 𝓤 H A f.ended stayed (f.clauses 𝓤 H A mem run) W (((κ, tt), (q, tt), tt, (d, tt), at), tt)
+          (Reader′.lowered (movedTo d p)) (movedTo d p) (tt, tt) (tt, tt)) $
           says ! (aligned d p whole-byte) $ frame ! $ fsplit ! $
-          use1 W (‵ (OwnReader ℓ d) ⊛ ‵ (OwnReader ℓ d)) (LL.copy (Reader.the-type ℓ) (Reader′.the-copy ℓ) 𝓤 H A W .twice d (Reader′.lowered d ∷ [])) $ split ! $
+          use1 W (‵ (OwnReader ℓ d) ⊛ ‵ (OwnReader ℓ d))
+          (LL.copy (Reader.the-type ℓ) (Reader′.the-copy ℓ) 𝓤 H A W .twice d (Reader′.lowered d ∷ [])) $ split ! $
           move ! (0 ∷ 2 ∷ []) $ fjoin ! $ frame ! $ by ! (moves 𝓤 H A W ℓ d p is)
 
-      walk : Holds (hasTy (Reader′.mir (named 0)) (Reader′.lowered d)) × WT (Reader′.lowered d) → ent 𝓤 Entry (WpFn 𝓤 H (𝓣 .C) (𝓣 .Λ) code.function (Reader′.lowered d ∷ []) Post)
+      walk : Holds (hasTy (Reader′.mir (named 0)) (Reader′.lowered d)) × WT (Reader′.lowered d)
+          → ent 𝓤 Entry (WpFn 𝓤 H (𝓣 .C) (𝓣 .Λ) code.function (Reader′.lowered d ∷ []) Post)
       walk wt =
           qed W (raw Entry ∷ []) ∵ enter ! (𝓣 .C) (𝓣 .Λ) code.function (Reader′.lowered d ∷ []) _ $
-          alloc1 ! (λ l₀. alloc1 ! (λ l₁. alloc1 ! (λ l₂. alloc1 ! (λ l₃. alloc1 ! (λ l₄. alloc0 ! $ params1 ! $ pass1 ! (init ! 6 refl wt) $ pass0 ! $
+          alloc1 ! (λ l₀. alloc1 ! (λ l₁. alloc1 ! (λ l₂. alloc1 ! (λ l₃. alloc1 ! (λ l₄. alloc0 ! $ params1 ! $
+          pass1 ! (init ! 6 refl wt) $ pass0 ! $
           -- src, and the position: [_4; …; _3; …; _2; …; _1; …; room for _0; …; what is had on entry]
-          assigns ! (of-opd ! (load ! (from ! (fld ! refl (stop !))) (look-in ! 6 (sub ! 0 refl (whole !))))) (from ! (stop !)) (init ! 4 refl (tt, wt .1 .0)) $
-          assigns ! (of-opd ! (load ! (from ! (fld ! refl (stop !))) (look-in ! 6 (sub ! 1 refl (whole !))))) (from ! (stop !)) (init ! 0 refl (tt, wt .1 .1 .0)) $
+          assigns ! (of-opd ! (load ! (from ! (fld ! refl (stop !))) (look-in ! 6 (sub ! 0 refl (whole !))))) (from ! (stop !))
+          (init ! 4 refl (tt, wt .1 .0)) $
+          assigns ! (of-opd ! (load ! (from ! (fld ! refl (stop !))) (look-in ! 6 (sub ! 1 refl (whole !))))) (from ! (stop !))
+          (init ! 0 refl (tt, wt .1 .1 .0)) $
           -- pos
           use0 W (raw (Next .pre to-next)) asks-next $
-          calls-at ! (fmOf 𝓤 H (W .laws) 𝓣) Next known-next to-next (and-then ! (load ! (from ! (stop !)) (look ! 1 refl)) (no-more !)) (λ w. gave ! (‵ ftrue) Position.the-row Position′.lowered position-val _ _ (next-says) (id⊢ 𝓤 _) (λ p whole-byte is.
+          calls-at ! (fmOf 𝓤 H (W .laws) 𝓣) Next known-next to-next (and-then ! (load ! (from ! (stop !)) (look ! 1 refl)) (no-more !)) (λ w.
+          gave ! (‵ ftrue) Position.the-row Position′.lowered position-val _ _ (next-says) (id⊢ 𝓤 _) (λ p whole-byte is.
           -- [the position; true; _4; …; _3; …; _2; …; _1; …; room for _0; …; what is had on entry]
           land ! (from ! (stop !)) (init ! 4 refl (position-typed 𝓤 H A W p _ is)) $
           -- the reader at its next position
-          assigns ! (agg ! (and-then ! (load ! (from ! (stop !)) (look ! 6 refl)) (and-then ! (load ! (from ! (stop !)) (look ! 4 refl)) (no-more !)))) (from ! (stop !)) (init ! 10 refl (tt, (wt .1 .0, (position-typed 𝓤 H A W p (Position′.lowered p) is .1, tt)))) $
+          assigns !
+          (agg ! (and-then ! (load ! (from ! (stop !)) (look ! 6 refl)) (and-then ! (load ! (from ! (stop !)) (look ! 4 refl)) (no-more !))))
+          (from ! (stop !)) (init ! 10 refl (tt, (wt .1 .0, (position-typed 𝓤 H A W p (Position′.lowered p) is .1, tt)))) $
           returns ! (look ! 10 refl) $ move ! (10 ∷ 11 ∷ 8 ∷ 9 ∷ 6 ∷ 7 ∷ 4 ∷ 5 ∷ 2 ∷ 3 ∷ []) $
           leave ! $ leave ! $ leave ! $ leave ! $ leave ! $ free0 ! $
           keep ! (2 ∷ []) $ by ! (exits p is whole-byte))))))))
 
     walks : Walks 𝓤 H A f.ended stayed (WpFn 𝓤 H (𝓣 .C) (𝓣 .Λ) code.function) (f.clauses 𝓤 H A mem run)
-    walks = walked 𝓤 H A f.ended stayed (f.clauses 𝓤 H A mem run) (WpFn 𝓤 H (𝓣 .C) (𝓣 .Λ) code.function) (λ κs. (LL.vals (Reader.the-type (lifetime κs)) (Reader′.the-laws (lifetime κs)), tt)) (λ κs. (LL.tells (Reader.the-type (lifetime κs)) (Reader′.the-laws (lifetime κs)), tt))
+    walks = walked 𝓤 H A f.ended stayed (f.clauses 𝓤 H A mem run) (WpFn 𝓤 H (𝓣 .C) (𝓣 .Λ) code.function)
+        (λ κs. (LL.vals (Reader.the-type (lifetime κs)) (Reader′.the-laws (lifetime κs)), tt))
+        (λ κs. (LL.tells (Reader.the-type (lifetime κs)) (Reader′.the-laws (lifetime κs)), tt))
         (λ κs qs bounds a g are. needs 𝓤 _ _ (λ ok.
         walk (κs .0) (qs .0) (a .0) (LL.owed (Reader.the-type (lifetime κs)) (Reader′.the-laws (lifetime κs)) (a .0) _ (are .0) .1 .0) ok
         (LL.lawful (Reader.the-type (lifetime κs)) (Reader′.the-laws (lifetime κs)) 𝓤 H A W .typed (a .0) _ (are .0) .0)))
 
     meets : Meets 𝓤 H A f.signature (WpFn 𝓤 H (𝓣 .C) (𝓣 .Λ) code.function) (f.spec 𝓤 H A mem run)
-    meets = walk-meets 𝓤 H A f.ended stayed W (goes-none 𝓤 H A W 1 Row yes (λ κs x f. refl), tt) (f.clauses 𝓤 H A mem run) (WpFn 𝓤 H (𝓣 .C) (𝓣 .Λ) code.function) (WpFn-mono 𝓤 H (W .laws) 𝓣 code.function) walks
+    meets = walk-meets 𝓤 H A f.ended stayed W (goes-none 𝓤 H A W 1 Row yes (λ κs x f. refl), tt) (f.clauses 𝓤 H A mem run)
+        (WpFn 𝓤 H (𝓣 .C) (𝓣 .Λ) code.function) (WpFn-mono 𝓤 H (W .laws) 𝓣 code.function) walks
 
 pub align-spec : {M : Type 1} → stated.statement M
 unfolding code.routine tablesOf
@@ -133,4 +148,5 @@ align-spec 𝓤 H 𝓜 𝓖 𝓡 =
     entered 𝓤 H (tripleOf 𝓤 H (𝓖 .A) f.signature (f.spec 𝓤 H (𝓖 .A) (𝓜 .mem) (𝓡 .run)))
     (tables 𝓤 H 𝓜 𝓡 code.env .C) (tables 𝓤 H 𝓜 𝓡 code.env .Λ) #align code.function (code.unfolded 𝓤 H 𝓜 𝓡)
     (meets 𝓤 H (𝓖 .A) (givenOf 𝓤 H 𝓜 𝓖) (𝓜 .mem) (𝓡 .run) (tablesOf 𝓤 H 𝓜 (tables 𝓤 H 𝓜 𝓡 code.env))
-    (cited 𝓤 H (Next 𝓤 H (𝓖 .A) (givenOf 𝓤 H 𝓜 𝓖) (𝓜 .mem) (𝓡 .run)) 𝓜 𝓡 code.env #next next-def.routine code.calls-bit-reader·bits·align (next-thm.met 𝓤 H 𝓜 𝓖 𝓡)))
+    (cited 𝓤 H (Next 𝓤 H (𝓖 .A) (givenOf 𝓤 H 𝓜 𝓖) (𝓜 .mem) (𝓡 .run)) 𝓜 𝓡 code.env #next next-def.routine code.calls-bit-reader·bits·align
+    (next-thm.met 𝓤 H 𝓜 𝓖 𝓡)))

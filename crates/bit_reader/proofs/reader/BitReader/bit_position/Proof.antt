@@ -54,23 +54,31 @@ module _ {M : Type 1} (𝓤 : URA M) (H : Heap 𝓤) (A : Atoms 𝓤) (W : Given
     exits : ent 𝓤 Entry (Post (Position′.lowered (d .pos)))
     exits =
         qed W ((‵ (flft κ q) ⊛ ‵ ftrue) ∷ ‵ (owns (Row (κ, tt) ∷ []) (d, tt) at) ∷ []) ∵
-        suffices ! _ (ends-at 𝓤 H A f.ended stayed (f.clauses 𝓤 H A mem run) W (((κ, tt), (q, tt), tt, (d, tt), at), tt) (Position′.lowered (d .pos)) (d .pos) (tt, tt) (tt, tt)) $ says ! refl $
-        frame ! $ frame ! $ owned ! Position.the-row (Is Position.the-row) (LL.makes Position.the-type Position′.the-plain 𝓤 H A) (d .pos) _ pos-is $ done !
+        suffices ! _ (ends-at 𝓤 H A f.ended stayed (f.clauses 𝓤 H A mem run) W (((κ, tt), (q, tt), tt, (d, tt), at), tt) (Position′.lowered (d .pos))
+        (d .pos) (tt, tt) (tt, tt)) $ says ! refl $
+        frame ! $ frame ! $
+        owned ! Position.the-row (Is Position.the-row) (LL.makes Position.the-type Position′.the-plain 𝓤 H A) (d .pos) _ pos-is $ done !
 
-    walk : Holds (hasTy (Reader′.mir (named 0)) (Reader′.lowered d)) × WT (Reader′.lowered d) → ent 𝓤 Entry (WpFn 𝓤 H (𝓣 .C) (𝓣 .Λ) code.function (Reader′.lowered d ∷ []) Post)
+    walk : Holds (hasTy (Reader′.mir (named 0)) (Reader′.lowered d)) × WT (Reader′.lowered d)
+        → ent 𝓤 Entry (WpFn 𝓤 H (𝓣 .C) (𝓣 .Λ) code.function (Reader′.lowered d ∷ []) Post)
     walk wt =
         qed W (raw Entry ∷ []) ∵ enter ! (𝓣 .C) (𝓣 .Λ) code.function (Reader′.lowered d ∷ []) _ $
         alloc1 ! (λ l₀. alloc1 ! (λ l₁. alloc0 ! $ params1 ! $ pass1 ! (init ! 0 refl wt) $ pass0 ! $
-        assigns ! (of-opd ! (load ! (from ! (fld ! refl (stop !))) (look-in ! 0 (sub ! 1 refl (whole !))))) (from ! (stop !)) (init ! 2 refl (tt, wt .1 .1 .0)) $
+        assigns ! (of-opd ! (load ! (from ! (fld ! refl (stop !))) (look-in ! 0 (sub ! 1 refl (whole !))))) (from ! (stop !))
+        (init ! 2 refl (tt, wt .1 .1 .0)) $
         returns ! (look ! 2 refl) $ forget ! 0 refl $ forget ! 2 refl $ move ! (2 ∷ 3 ∷ []) $ free1 ! $ free1 ! $ free0 ! $ by ! exits))
 
   walks : Walks 𝓤 H A f.ended stayed (WpFn 𝓤 H (𝓣 .C) (𝓣 .Λ) code.function) (f.clauses 𝓤 H A mem run)
-  walks = walked 𝓤 H A f.ended stayed (f.clauses 𝓤 H A mem run) (WpFn 𝓤 H (𝓣 .C) (𝓣 .Λ) code.function) (λ κs. (LL.vals (Reader.the-type (lifetime κs)) (Reader′.the-laws (lifetime κs)), tt)) (λ κs. (LL.tells (Reader.the-type (lifetime κs)) (Reader′.the-laws (lifetime κs)), tt))
-      (λ κs qs bounds a g are. via 𝓤 _ (fst∗ 𝓤 _ (emp 𝓤)) (walk (κs .0) (qs .0) (a .0) (LL.owed (Reader.the-type (lifetime κs)) (Reader′.the-laws (lifetime κs)) (a .0) _ (are .0) .1 .0)
+  walks = walked 𝓤 H A f.ended stayed (f.clauses 𝓤 H A mem run) (WpFn 𝓤 H (𝓣 .C) (𝓣 .Λ) code.function)
+      (λ κs. (LL.vals (Reader.the-type (lifetime κs)) (Reader′.the-laws (lifetime κs)), tt))
+      (λ κs. (LL.tells (Reader.the-type (lifetime κs)) (Reader′.the-laws (lifetime κs)), tt))
+      (λ κs qs bounds a g are. via 𝓤 _ (fst∗ 𝓤 _ (emp 𝓤))
+      (walk (κs .0) (qs .0) (a .0) (LL.owed (Reader.the-type (lifetime κs)) (Reader′.the-laws (lifetime κs)) (a .0) _ (are .0) .1 .0)
       (LL.lawful (Reader.the-type (lifetime κs)) (Reader′.the-laws (lifetime κs)) 𝓤 H A W .typed (a .0) _ (are .0) .0)))
 
   meets : Meets 𝓤 H A f.signature (WpFn 𝓤 H (𝓣 .C) (𝓣 .Λ) code.function) (f.spec 𝓤 H A mem run)
-  meets = walk-meets 𝓤 H A f.ended stayed W (goes-none 𝓤 H A W 1 Row yes (λ κs x f. refl), tt) (f.clauses 𝓤 H A mem run) (WpFn 𝓤 H (𝓣 .C) (𝓣 .Λ) code.function) (WpFn-mono 𝓤 H (W .laws) 𝓣 code.function) walks
+  meets = walk-meets 𝓤 H A f.ended stayed W (goes-none 𝓤 H A W 1 Row yes (λ κs x f. refl), tt) (f.clauses 𝓤 H A mem run)
+      (WpFn 𝓤 H (𝓣 .C) (𝓣 .Λ) code.function) (WpFn-mono 𝓤 H (W .laws) 𝓣 code.function) walks
 
 pub bit-position-spec : {M : Type 1} → stated.statement M
 unfolding code.routine tablesOf

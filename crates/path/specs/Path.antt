@@ -67,6 +67,7 @@ pub record Paths (C S C′ S′ : List ℕ) (pic pic′ : Picture) (tols tols′
 
 -- The claim, for any two stills that meet the premises and any targets, with chroma at most 3, depth at most 15 and any dimensions.
 abbrev pub WholePath : Type 0
-WholePath = (C S C′ S′ : List ℕ) → Still C S → Still C′ S′ → (pic pic′ : Picture) → pic .«chroma_format_idc» ≤ 3 → pic .«bit_depth» ≤ 15
-    → pic′ .«chroma_format_idc» ≤ 3 → pic′ .«bit_depth» ≤ 15
+WholePath =
+    (C S C′ S′ : List ℕ) → Still C S → Still C′ S′
+    → (pic pic′ : Picture) → pic .«chroma_format_idc» ≤ 3 → pic .«bit_depth» ≤ 15 → pic′ .«chroma_format_idc» ≤ 3 → pic′ .«bit_depth» ≤ 15
     → (tols tols′ : Option ℕ) → Paths C S C′ S′ pic pic′ tols tols′

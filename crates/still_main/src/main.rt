@@ -7,16 +7,15 @@
 // alone on a line, and to standard error in words; the file OUT is then neither created nor changed. Whatever else fails is reported on
 // standard error: a file that cannot be opened, read or written in full, one that is too long, a wrong number of arguments. The exit status
 // is always 0, as for every Rattle program.
-mod files;
-mod ground;
-mod say;
-
 use access_unit::Target;
 use boxes::place;
 use error::Refusal;
 use error::Written;
 use libc::STDIN_FILENO;
 use libc::STDOUT_FILENO;
+use still_io::files;
+use still_io::ground;
+use still_io::say;
 use unit_list::ChunkRead;
 use unit_list::walk;
 ghost use mathlib.Core.Path.{_≡_};

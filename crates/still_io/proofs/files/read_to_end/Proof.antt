@@ -5,8 +5,8 @@ use native.Mathlib.Omega.{arith}
 use lib.ListN.{length}
 use lib.Seq.{length-take-le}
 use borrow.Author.Needs.{needs}
-use Rattle.still_main.proofs.files.read_to_end.Statement.{statement}
-use Rattle.still_main.proofs.files.read_to_end.Tie as tie
+use Rattle.still_io.proofs.files.read_to_end.Statement.{statement}
+use Rattle.still_io.proofs.files.read_to_end.Tie as tie
 
 abbrev Inv-loop : tie.InvT-loop
 Inv-loop fd buf₀ done₀ buf done = (done ≤ length buf) × (length buf ≡ length buf₀)

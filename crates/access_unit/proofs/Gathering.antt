@@ -12,20 +12,20 @@ use borrow.Author.Tests.{eq-eqb, ne-eqb, le-leb, lt-leb}
 use Rattle.parse.specs.Logic.{if_then_else_}
 use Rattle.parse.specs.Outcome.{Outcome, accept, refuse, andThen}
 use Rattle.boxes.specs.Parts.{held}
+use Rattle.boxes.specs.Bytes.{outside}
 use Rattle.boxes.specs.declared.Span.{Span}
+use Rattle.boxes.proofs.Spans.{spanLengths}
 use Rattle.unit_list.specs.UnitList.{Array, decode, unitsOf}
 use Rattle.unit_list.specs.Answers.{listUnits}
 use Rattle.unit_list.proofs.Accepted.{accepted}
 use Rattle.split.specs.Item.{splitItem}
+use Rattle.split.specs.inner.Walk.{itemUnitsFrom}
 use Rattle.split.proofs.Items.{split-sound, split-lent, split-apart, items-outside, items-left}
 use Rattle.split.proofs.Spans.{apart-sum}
 use Rattle.access_unit.specs.AccessUnit.{keeps, leading, kept}
 use Rattle.access_unit.specs.inner.Gathered.{keptLeft, lengths, itemSum, listSum, Gathered, someGathered, gather, sizesOf, bothSums, sizesWith}
 use Rattle.access_unit.specs.declared.sizes.UnitSum.{UnitSum}
 use Rattle.access_unit.specs.declared.sizes.Sizes.{Sizes}
-use Rattle.split.specs.inner.Walk.{itemUnitsFrom}
-use Rattle.boxes.specs.Bytes.{outside}
-use Rattle.boxes.proofs.Spans.{spanLengths}
 
 -- ### bounds of the sums
 

@@ -9,15 +9,15 @@ use lib.ListN.{length, take, drop}
 use lib.Seq.{take-append-seam, drop-append-seam}
 use Rattle.parse.specs.Logic.{if_then_else_}
 use Rattle.parse.specs.Outcome.{Outcome, accept, refuse, andThen}
+use Rattle.parse.specs.inner.Walk.{more}
 use Rattle.boxes.specs.Parts.{held}
 use Rattle.boxes.specs.declared.Span.{Span}
 use Rattle.boxes.proofs.Walk.{total}
 use Rattle.nal.specs.Kinds.{kindOf, isAud}
 use Rattle.opi.specs.Opi.{opiOlsIdx}
+use Rattle.split.specs.inner.Walk.{itemUnitsFrom}
 use Rattle.access_unit.specs.AccessUnit.{agrees, isOpi, keeps, mayLead, leading, following, kept}
 use Rattle.access_unit.specs.inner.Gathered.{keptLeft}
-use Rattle.split.specs.inner.Walk.{itemUnitsFrom}
-use Rattle.parse.specs.inner.Walk.{more}
 
 -- a dropped unit is an OPI unit, so it may lead
 either : (b c d : Bool) → (if b then c else true) ≡ false → (d || b) ≡ true

@@ -11,16 +11,16 @@ use lib.ListN.{length, length-append}
 use borrow.Author.Tests.{eq-eqb, ne-eqb}
 use Rattle.parse.specs.Logic.{if_then_else_}
 use Rattle.parse.specs.Outcome.{Outcome, accept, refuse, andThen}
+use Rattle.parse.specs.inner.Walk.{more}
 use Rattle.boxes.specs.Parts.{held}
 use Rattle.boxes.specs.declared.Span.{Span}
 use Rattle.boxes.proofs.Walk.{after, after-nil, done-more, done-end, done-refused}
+use Rattle.boxes.proofs.Spans.{held-long}
 use Rattle.split.proofs.Items.{Turn}
 use Rattle.access_unit.specs.AccessUnit.{keeps, mayLead, leading}
 use Rattle.access_unit.specs.inner.Gathered.{keptLeft, lengths, adding, addingKept, itemSum, listSum}
-use Rattle.access_unit.proofs.KeptUnits.{over-kept, over-dropped}
 use Rattle.access_unit.specs.declared.sizes.UnitSum.{UnitSum}
-use Rattle.parse.specs.inner.Walk.{more}
-use Rattle.boxes.proofs.Spans.{held-long}
+use Rattle.access_unit.proofs.KeptUnits.{over-kept, over-dropped}
 
 -- ### one unit added
 

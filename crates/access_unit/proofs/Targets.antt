@@ -6,12 +6,13 @@ use mathlib.Core.List.{List}
 use mathlib.Core.Option.{Option, none, some}
 use native.Mathlib.Omega.{arith}
 use lib.ListN.{length}
-use Rattle.parse.specs.Outcome.{accept, refuse}
 use Rattle.error.specs.Refusals.{numberOf}
 use Rattle.error.specs.declared.Refusal.{Refusal}
+use Rattle.parse.specs.Outcome.{accept, refuse}
+use Rattle.parse.proofs.Lent.{lent-within}
 use Rattle.boxes.specs.Parts.{held}
 use Rattle.boxes.specs.declared.Span.{Span}
-use Rattle.parse.proofs.Lent.{lent-within}
+use Rattle.boxes.proofs.Spans.{held-long}
 use Rattle.nal.specs.Kinds.{kindOf, isAud, isRecordOf}
 use Rattle.nal.specs.declared.UnitKind.{UnitKind}
 use Rattle.opi.specs.Opi.{opiOlsIdx}
@@ -23,7 +24,6 @@ use Rattle.access_unit.specs.AccessUnit.{targetOf, agrees, isOpi, keeps,
 use Rattle.access_unit.specs.Answers.{tolsOf}
 use Rattle.access_unit.specs.declared.Target.{Target}
 use Rattle.access_unit.specs.declared.Target.the-variants as T
-use Rattle.boxes.proofs.Spans.{held-long}
 
 -- the target
 module _ (h : VvcConfig) (x : Target) where

@@ -7,21 +7,21 @@ use native.Mathlib.Omega.{arith}
 use lib.ListN.{length, take, drop, length-append}
 use lib.Seq.{sets, take-all, length-sets}
 use Rattle.parse.specs.Outcome.{Outcome, accept, refuse}
+use Rattle.parse.specs.inner.Stores.{bytesOf, Puts}
+use Rattle.parse.proofs.General.{sets-append}
 use Rattle.boxes.specs.Walk.{found}
 use Rattle.unit_list.specs.Answers.{listUnits}
+use Rattle.unit_list.specs.inner.Find.{unitsLeft}
 use Rattle.unit_list.specs.declared.ListCursor.{ListCursor}
 use Rattle.access_unit.specs.AccessUnit.{leading, following}
-use Rattle.unit_list.specs.inner.Find.{unitsLeft}
 use Rattle.access_unit.specs.inner.Gathered.{Walks, keptLeft, Gathered, gather, bytesAt, gatheredBytes}
-use Rattle.access_unit_annex_b.specs.inner.Stream.{firstUnits, PutsFirst, FirstPut, PutsStream}
 use Rattle.access_unit.specs.declared.sizes.Sizes.{Sizes}
-use Rattle.access_unit_annex_b.specs.declared.stream.Places.{Places}
 use Rattle.access_unit.proofs.KeptUnits.{leads-and-follows, leading-take, following-drop}
 use Rattle.access_unit.proofs.Sums.{leading-le}
 use Rattle.access_unit.proofs.Gathering.{From, gathered, Known}
 use Rattle.access_unit.proofs.Order.{stream-parts, stream-size}
-use Rattle.parse.proofs.General.{sets-append}
-use Rattle.parse.specs.inner.Stores.{bytesOf, Puts}
+use Rattle.access_unit_annex_b.specs.inner.Stream.{firstUnits, PutsFirst, FirstPut, PutsStream}
+use Rattle.access_unit_annex_b.specs.declared.stream.Places.{Places}
 
 -- the output has room for it
 pub puts-stream : (size : ℕ) (target : Option ℕ) (list item : List ℕ) (v : Sizes) (out : List ℕ) → Known size target list item v

@@ -6,19 +6,19 @@ use native.Mathlib.Omega.{arith}
 use lib.ListN.{length, take, drop, length-append}
 use lib.Seq.{sets}
 use Rattle.parse.specs.Outcome.{Outcome, accept, refuse}
+use Rattle.parse.specs.inner.Walk.{more}
+use Rattle.parse.specs.inner.Stores.{bytesOf}
+use Rattle.parse.proofs.General.{sets-append}
+use Rattle.parse.proofs.Stores.{puts-found, Putting, putting-start, putting-end, putting-room, putting-again}
 use Rattle.boxes.specs.Bytes.{toBe}
 use Rattle.boxes.specs.Parts.{held}
 use Rattle.boxes.specs.declared.Span.{Span}
 use Rattle.boxes.proofs.Walk.{total}
+use Rattle.boxes.proofs.Spans.{held-long}
 use Rattle.split.specs.Stream.{annexB}
 use Rattle.access_unit.specs.AccessUnit.{startCode}
 use Rattle.access_unit.specs.inner.Gathered.{bytesAt}
 use Rattle.access_unit_annex_b.specs.inner.Stream.{firstUnits, restUnits}
-use Rattle.parse.specs.inner.Walk.{more}
-use Rattle.parse.proofs.General.{sets-append}
-use Rattle.parse.specs.inner.Stores.{bytesOf}
-use Rattle.parse.proofs.Stores.{puts-found, Putting, putting-start, putting-end, putting-room, putting-again}
-use Rattle.boxes.proofs.Spans.{held-long}
 
 pub stream-one : (u : List ℕ) (us : List (List ℕ)) → annexB startCode (u ∷ us) ≡ (startCode ++ u) ++ annexB startCode us
 unfolding annexB

@@ -16,14 +16,14 @@ ghost use mathlib.Core.List.{_++_};
 ghost use Prim.Native.Nat.{_+_, _≤_};
 ghost use lib.ListN.{length};
 ghost use lib.Seq.{sets};
+ghost use Rattle.parse.specs.inner.Stores.{bytesOf, Puts};
 ghost use Rattle.boxes.specs.Parts.{held};
 ghost use Rattle.unit_list.specs.inner.Walk.{Fits};
 ghost use Rattle.unit_list.specs.inner.Find.{unitsLeft};
 ghost use Rattle.access_unit.specs.AccessUnit.{startCode};
 ghost use Rattle.access_unit.specs.Answers.{tolsOf};
-ghost use Rattle.access_unit_annex_b.specs.inner.Stream.{PutsFirst, FirstPut, PutsStream};
 ghost use Rattle.access_unit.specs.inner.Gathered.{gather, gatheredBytes, bytesAt};
-ghost use Rattle.parse.specs.inner.Stores.{bytesOf, Puts};
+ghost use Rattle.access_unit_annex_b.specs.inner.Stream.{PutsFirst, FirstPut, PutsStream};
 
 // The places after the units that were stored: in the item and in the output.
 pub struct Places {

@@ -7,9 +7,11 @@ use mathlib.Core.Option.{Option}
 use native.Mathlib.Omega.{arith}
 use types.Run.{OneOf}
 use denote.Enum.Declared.{tagOf}
+use Rattle.parse.specs.inner.Walk.{more}
 use Rattle.boxes.specs.declared.Span.{Span}
 use Rattle.boxes.proofs.Walk.{total}
 use Rattle.split.specs.Answers.{nextOf, itemStep}
+use Rattle.split.specs.inner.Walk.{UnitAhead, Onward}
 use Rattle.split.specs.declared.NextUnit.{NextUnit}
 use Rattle.split.specs.declared.NextUnit.the-variants as N
 use Rattle.split.proofs.NextUnit.{the-type}
@@ -17,8 +19,6 @@ use Rattle.split.proofs.Items.{found-end, found-refusal}
 use Rattle.access_unit.specs.AccessUnit.{kept}
 use Rattle.access_unit.specs.inner.Gathered.{keptLeft}
 use Rattle.access_unit_nal.specs.inner.Kept.{keptStepped}
-use Rattle.split.specs.inner.Walk.{UnitAhead, Onward}
-use Rattle.parse.specs.inner.Walk.{more}
 
 -- what a step found lies after every earlier place too
 pub onward-earlier : (item : List ℕ) (p q : ℕ) → p ≤ q → (r : NextUnit) → Onward item q r → Onward item p r

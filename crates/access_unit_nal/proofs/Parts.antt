@@ -10,6 +10,7 @@ use denote.Enum.Declared.{tagOf}
 use Rattle.parse.specs.Outcome.{Outcome, accept, refuse}
 use Rattle.boxes.specs.Parts.{PartOf, nowhere}
 use Rattle.boxes.specs.Places.{Place, inFirst, inSecond, placeOf, placeFound, PlaceFits}
+use Rattle.boxes.specs.inner.Places.{lying, spanInFirst}
 use Rattle.boxes.specs.declared.Span.{Span}
 use Rattle.boxes.specs.declared.UnitPlace.{UnitPlace}
 use Rattle.boxes.specs.declared.UnitPlace.the-variants as U
@@ -18,7 +19,6 @@ use Rattle.boxes.proofs.Places.{place-lies}
 use Rattle.access_unit.specs.AccessUnit.{Source, ofList, ofItem}
 use Rattle.access_unit.specs.Answers.{sourceAt, PartOfEither}
 use Rattle.access_unit_nal.specs.Answers.{sourcePlace}
-use Rattle.boxes.specs.inner.Places.{lying, spanInFirst}
 
 -- a place that is not in the item is one in the list
 pub not-second : (s t : List ℕ) (r : UnitPlace) → OneOf (0 ∷ 2 ∷ 3 ∷ []) (tagOf the-type r) → PlaceFits s t r → PlaceFits s [] r

@@ -9,20 +9,20 @@ use lib.ListN.{length, getD, length-append, length-map, List·getD-append}
 use lib.Seq.{getD-append-add}
 use Rattle.parse.specs.Outcome.{Outcome, accept, refuse}
 use Rattle.boxes.specs.Parts.{nowhere}
-use Rattle.boxes.specs.declared.Span.{Span}
-use Rattle.access_unit.specs.AccessUnit.{leading, following, kept, Source, ofList, ofItem}
-use Rattle.access_unit.specs.inner.Gathered.{Gathered, gather, inOrder, sources, Walks, keptLeft}
-use Rattle.access_unit_nal.specs.inner.Kept.{HasKept, KeptNumber}
-use Rattle.access_unit.proofs.KeptUnits.{leads-and-follows}
-use Rattle.access_unit.proofs.Sums.{leading-le}
 use Rattle.boxes.specs.Walk.{found}
 use Rattle.boxes.specs.Places.{Place, inFirst, inSecond, placeFound}
+use Rattle.boxes.specs.declared.Span.{Span}
 use Rattle.boxes.proofs.Places.{nth-there, place-past}
 use Rattle.unit_list.specs.Answers.{listUnits}
-use Rattle.access_unit_nal.specs.Answers.{sourcePlace}
+use Rattle.access_unit.specs.AccessUnit.{leading, following, kept, Source, ofList, ofItem}
+use Rattle.access_unit.specs.inner.Gathered.{Gathered, gather, inOrder, sources, Walks, keptLeft}
 use Rattle.access_unit.specs.declared.sizes.Sizes.{Sizes}
+use Rattle.access_unit.proofs.KeptUnits.{leads-and-follows}
+use Rattle.access_unit.proofs.Sums.{leading-le}
 use Rattle.access_unit.proofs.Gathering.{From, gathered, Known}
 use Rattle.access_unit.proofs.Order.{order-length}
+use Rattle.access_unit_nal.specs.Answers.{sourcePlace}
+use Rattle.access_unit_nal.specs.inner.Kept.{HasKept, KeptNumber}
 
 getD-mapped : (f : Span → Source) (us : List Span) (k : ℕ) (d : Source) → k < length us → getD (map f us) k d ≡ f (getD us k nowhere)
 getD-mapped f [] k d h = absurd (omega arith)

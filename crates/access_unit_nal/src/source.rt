@@ -14,11 +14,11 @@ ghost use Prim.Native.Nat.{_+_, _≤_};
 ghost use lib.ListN.{length};
 ghost use Rattle.boxes.specs.Walk.{found};
 ghost use Rattle.boxes.specs.Places.{placeOf, placeFound, PlaceFits};
+ghost use Rattle.split.specs.inner.Walk.{Onward};
 ghost use Rattle.access_unit.specs.Answers.{tolsOf};
 ghost use Rattle.access_unit.specs.inner.Gathered.{Walks, keptLeft, sources};
 ghost use Rattle.access_unit_nal.specs.Answers.{sourcePlace};
 ghost use Rattle.access_unit_nal.specs.inner.Kept.{Numbered, keptStepped, HasKept};
-ghost use Rattle.split.specs.inner.Walk.{Onward};
 
 // A unit by its number: a kept unit of the item, a unit of the list, or past the last.
 pub enum UnitNumber {

@@ -7,10 +7,10 @@ use native.Mathlib.Omega.{arith}
 use lib.Dec.{leb}
 use lib.ListN.{length}
 use lib.Pow.{pow-pos}
-use Rattle.parse.specs.Logic.{if_then_else_}
-use Rattle.parse.specs.Parse.{Parsed, value, refused, bind, give}
 use Rattle.error.specs.Refusals.{numberOf}
 use Rattle.error.specs.declared.Refusal.{Refusal}
+use Rattle.parse.specs.Logic.{if_then_else_}
+use Rattle.parse.specs.Parse.{Parsed, value, refused, bind, give}
 use Rattle.bit_reader.specs.Bits.{bitsAt, u, skip}
 use Rattle.bit_reader.specs.inner.Answers.{parsed, refusalOf, numberIn, placeIn, partAfter}
 use Rattle.bit_reader.specs.inner.Reader.{skipping}

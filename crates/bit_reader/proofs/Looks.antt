@@ -10,9 +10,9 @@ use lib.ListN.{length, take, length-take}
 use lib.Seq.{getD-take}
 use Rattle.parse.specs.Logic.{if_then_else_}
 use Rattle.parse.specs.Parse.{Parsed, value, refused, bind, Parser, _>>=_, give, refusing, refuseIf, here, times}
+use Rattle.parse.proofs.General.{leb-same}
 use Rattle.bit_reader.specs.Bits.{bitAt, bitsAt, u, isSet, skip, align, zerosBeforeOne, ue}
 use Rattle.bit_reader.proofs.Numbers.{u-read, skip-read, align-read, zeros-read}
-use Rattle.parse.proofs.General.{leb-same}
 
 -- same: the list cut after m bytes, which contain the n bits from p on, has the same answer, also where that is a refusal.
 -- near: the next position is at most n bits on.

@@ -9,12 +9,12 @@ use lib.Seq.{take-at, drop-at, drop-append-add}
 use borrow.Author.Tests.{le-leb, lt-leb}
 use Rattle.parse.specs.Outcome.{accept, refuse}
 use Rattle.parse.specs.Parse.{Parsed, value, refused}
-use Rattle.boxes.specs.declared.Span.{Span}
+use Rattle.parse.proofs.Many.{Advances}
 use Rattle.boxes.specs.Bytes.{be, toBe, uint, bytes, chunk, toChunk}
 use Rattle.boxes.specs.Parts.{held}
 use Rattle.boxes.specs.Answers.{fieldAt}
+use Rattle.boxes.specs.declared.Span.{Span}
 use Rattle.boxes.proofs.Numbers.{be-toBe-at, length-toBe}
-use Rattle.parse.proofs.Many.{Advances}
 
 pub uint-there : (w : ℕ) (s : List ℕ) (p : ℕ) → p + w ≤ length s → uint w s p ≡ value (be s p w) (p + w)
 unfolding uint

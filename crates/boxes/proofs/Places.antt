@@ -12,11 +12,11 @@ use Rattle.parse.specs.Outcome.{Outcome, accept, refuse}
 use Rattle.boxes.specs.Parts.{nowhere}
 use Rattle.boxes.specs.Walk.{countFound, found}
 use Rattle.boxes.specs.Places.{Place, inFirst, placeOf, nth, placeFound, PlaceFits}
+use Rattle.boxes.specs.inner.Places.{lying, spanInFirst}
 use Rattle.boxes.specs.declared.Span.{Span}
 use Rattle.boxes.specs.declared.UnitPlace.{UnitPlace}
 use Rattle.boxes.specs.declared.UnitPlace.the-variants as U
 use Rattle.boxes.proofs.UnitPlace.{the-type}
-use Rattle.boxes.specs.inner.Places.{lying, spanInFirst}
 
 -- element k, d where there is none
 abbrev pub foundOr : {A : Type 0} → A → Outcome (List A) → ℕ → A

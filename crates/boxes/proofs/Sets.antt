@@ -6,9 +6,9 @@ use native.Mathlib.Omega.{arith}
 use lib.ListN.{length, set, take, drop, length-drop, drop-of-length-le}
 use lib.Seq.{sets, sets-eq, take-all, take-at, take-add, take-length, length-take-le, drop-drop}
 use borrow.Rule.Slice.PartMut.{putMid}
+use Rattle.parse.proofs.General.{sets-append, sets-last}
 use Rattle.boxes.specs.Bytes.{toBe}
 use Rattle.boxes.proofs.Numbers.{length-toBe}
-use Rattle.parse.proofs.General.{sets-append, sets-last}
 
 -- what a copy to a part that runs to the end leaves
 pub sets-copied : (d u ys : List ℕ) (i : ℕ) → i + length u ≤ length d

@@ -10,10 +10,10 @@ use lib.Seq.{getD-at}
 use borrow.Author.Tests.{eq-eqb, ne-eqb}
 use Rattle.parse.specs.Logic.{if_then_else_}
 use Rattle.parse.specs.Outcome.{Outcome, accept, refuse}
+use Rattle.parse.specs.inner.Walk.{more}
 use Rattle.boxes.specs.Parts.{nowhere}
 use Rattle.boxes.specs.Walk.{countFound, found}
 use Rattle.boxes.specs.declared.Span.{Span}
-use Rattle.parse.specs.inner.Walk.{more}
 
 -- a count with n counted before
 abbrev pub plus : ℕ → Outcome ℕ → Outcome ℕ

@@ -1,9 +1,9 @@
 -- The answers of the calls that read a field (SCOPE 3.1).
 use Prim.Native.Nat.{ℕ}
 use mathlib.Core.List.{List}
+use Rattle.error.specs.Refusals.{numberOf}
 use Rattle.parse.specs.Outcome.{Outcome, accept, refuse, lentInput}
 use Rattle.parse.specs.Parse.{Parsed, value, refused}
-use Rattle.error.specs.Refusals.{numberOf}
 use Rattle.boxes.specs.Bytes.{uint}
 use Rattle.boxes.specs.declared.Field.{Field}
 use Rattle.boxes.specs.declared.Field.the-variants.{Value, Refused}

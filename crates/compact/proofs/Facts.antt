@@ -14,21 +14,21 @@ use Rattle.boxes.specs.Bytes.{toBe, chunk, toChunk}
 use Rattle.boxes.specs.Parts.{held}
 use Rattle.boxes.specs.declared.Span.{Span}
 use Rattle.boxes.proofs.Fields.{Chunk, chunk-read}
+use Rattle.boxes.proofs.Spans.{held-long}
+use Rattle.boxes.proofs.Numbers.{be-one}
 use Rattle.unit_list.specs.UnitList.{unitsOf, encodeUnits}
 use Rattle.unit_list.specs.Answers.{listUnits}
+use Rattle.unit_list.specs.inner.Written.{unitBytes}
 use Rattle.unit_list.proofs.Arrays.{sound-none, sound-more}
 use Rattle.unit_list.proofs.Encode.{UnitsRead, units-encode}
+use Rattle.unit_list.proofs.StoredUnits.{room-more}
 use Rattle.compact.specs.Compact.{compactRecord, CompactParsed, oneArray, parsedWith, parseCompact}
 use Rattle.compact.specs.Compact.{allAtMost, compactBytes, serializeCompact, configOf, compactFirstByte}
 use Rattle.compact.specs.inner.Units.{recordUnits}
 use Rattle.compact.specs.declared.CompactVvcConfig.{CompactVvcConfig}
-use Rattle.unit_list.proofs.StoredUnits.{room-more}
 use Rattle.compact.proofs.OneArray.{list-long}
 use Rattle.compact.proofs.RecordRead.{times-length, parse-too-long, parse-empty, parse-short, parse-over, parse-given, record-given}
 use Rattle.compact.proofs.RecordBytes.{bytes-given}
-use Rattle.unit_list.specs.inner.Written.{unitBytes}
-use Rattle.boxes.proofs.Spans.{held-long}
-use Rattle.boxes.proofs.Numbers.{be-one}
 
 -- every element is a byte
 abbrev pub AllBytes : List ℕ → Type 0

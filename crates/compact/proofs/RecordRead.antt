@@ -7,17 +7,17 @@ use lib.ListN.{length, getD}
 use borrow.Author.Tests.{le-leb, lt-ltb, le-ltb}
 use Rattle.parse.specs.Outcome.{accept, refuse, andThen}
 use Rattle.parse.specs.Parse.{Parsed, value, refused, bind, Parser, times, outcome}
+use Rattle.parse.proofs.Lent.{lent-too-long}
 use Rattle.boxes.specs.Bytes.{chunk}
 use Rattle.boxes.specs.Parts.{held}
 use Rattle.boxes.specs.declared.Span.{Span}
 use Rattle.boxes.proofs.Fields.{uint-there, uint-short}
-use Rattle.parse.proofs.Lent.{lent-too-long}
+use Rattle.boxes.proofs.Numbers.{be-one}
+use Rattle.unit_list.specs.inner.Written.{unitBytes}
 use Rattle.compact.specs.Compact.{atEnd, compactRecord, oneArray, parsedWith, parseCompact, configOf}
 use Rattle.compact.specs.inner.Units.{recordUnits}
 use Rattle.compact.specs.declared.CompactVvcConfig.{CompactVvcConfig}
 use Rattle.compact.proofs.OneArray.{list-long}
-use Rattle.unit_list.specs.inner.Written.{unitBytes}
-use Rattle.boxes.proofs.Numbers.{be-one}
 
 -- as many units are read as are asked for
 length-bind : {A : Type 0} (n : ℕ) (a : A) (y : Parsed (List A)) (us : List A) (q : ℕ)

@@ -1,6 +1,6 @@
 -- The outcome that an answer of reading a compact record means (SCOPE 3.2).
-use Rattle.parse.specs.Outcome.{Outcome, accept, refuse}
 use Rattle.error.specs.Refusals.{numberOf}
+use Rattle.parse.specs.Outcome.{Outcome, accept, refuse}
 use Rattle.compact.specs.Compact.{CompactParsed}
 use Rattle.compact.specs.declared.CompactRead.{CompactRead}
 use Rattle.compact.specs.declared.CompactRead.the-variants.{Read, Refused}

@@ -7,25 +7,25 @@ use lib.ListN.{length, set, take}
 use lib.Seq.{sets, take-length}
 use Rattle.parse.specs.Outcome.{Outcome, accept, refuse}
 use Rattle.parse.specs.Parse.{Parsed, value, refused, bind, times, outcome}
+use Rattle.parse.specs.inner.Walk.{more}
+use Rattle.parse.specs.inner.Stores.{bytesOf, Puts}
+use Rattle.parse.proofs.Many.{times-nil, times-step, times-bad}
+use Rattle.parse.proofs.General.{sets-append}
+use Rattle.parse.proofs.Binds.{outcome-more}
 use Rattle.boxes.specs.Bytes.{toBe, chunk}
 use Rattle.boxes.specs.Parts.{held}
 use Rattle.boxes.specs.declared.Span.{Span}
-use Rattle.parse.proofs.Many.{times-nil, times-step, times-bad}
 use Rattle.boxes.proofs.Fields.{Chunk, chunk-read}
 use Rattle.unit_list.specs.UnitList.{encodeUnits}
 use Rattle.unit_list.specs.inner.Walk.{chunkStepped}
+use Rattle.unit_list.specs.inner.Written.{unitBytes}
 use Rattle.unit_list.specs.declared.ChunkRead.{ChunkRead}
 use Rattle.unit_list.specs.declared.ChunkRead.the-variants as C
 use Rattle.unit_list.proofs.Steps.{chunk-bytes, chunk-refused}
-use Rattle.compact.specs.Compact.{oneArray}
-use Rattle.compact_read.specs.inner.Room.{measured, foundList}
-use Rattle.compact.proofs.OneArray.{listHead, head-long, list-bytes}
 use Rattle.unit_list.proofs.StoredUnits.{room-more}
-use Rattle.parse.specs.inner.Walk.{more}
-use Rattle.parse.proofs.General.{sets-append}
-use Rattle.parse.proofs.Binds.{outcome-more}
-use Rattle.unit_list.specs.inner.Written.{unitBytes}
-use Rattle.parse.specs.inner.Stores.{bytesOf, Puts}
+use Rattle.compact.specs.Compact.{oneArray}
+use Rattle.compact.proofs.OneArray.{listHead, head-long, list-bytes}
+use Rattle.compact_read.specs.inner.Room.{measured, foundList}
 
 -- one of n units read from place p on, and the rest after it
 pub record Turn (s : List ℕ) (n p : ℕ) (a : Span) : Type 0 where

@@ -11,11 +11,11 @@ ghost use Prim.Native.Nat.{_≤_, _^_};
 ghost use lib.ListN.{length};
 ghost use lib.Seq.{sets};
 ghost use Rattle.parse.specs.Parse.{outcome};
-ghost use Rattle.compact.specs.inner.Units.{recordUnits};
-ghost use Rattle.compact_read.specs.inner.Room.{measured, unitsRoomOf, RoomSmall, RoomSays, foundList};
 ghost use Rattle.parse.specs.inner.Stores.{bytesOf, Puts};
 ghost use Rattle.unit_list.specs.inner.Written.{unitBytes};
 ghost use Rattle.compact.specs.Compact.{configOf};
+ghost use Rattle.compact.specs.inner.Units.{recordUnits};
+ghost use Rattle.compact_read.specs.inner.Room.{measured, unitsRoomOf, RoomSmall, RoomSays, foundList};
 
 // The bytes that units take in a list, and the place after them in the record; or that the record is too short.
 pub enum UnitsRoom {

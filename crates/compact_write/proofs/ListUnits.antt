@@ -9,32 +9,32 @@ use lib.Dec.{leb}
 use lib.ListN.{length, set, length-map}
 use lib.Seq.{sets}
 use borrow.Author.Tests.{le-leb, lt-leb, leb-true}
-use Rattle.parse.specs.Logic.{if_then_else_}
-use Rattle.parse.specs.Outcome.{Outcome, accept, refuse, andThen}
 use Rattle.error.specs.Refusals.{numberOf}
 use Rattle.error.specs.declared.Refusal.{Refusal}
+use Rattle.parse.specs.Logic.{if_then_else_}
+use Rattle.parse.specs.Outcome.{Outcome, accept, refuse, andThen}
+use Rattle.parse.specs.inner.Walk.{more}
+use Rattle.parse.specs.inner.Stores.{bytesOf, Puts}
 use Rattle.boxes.specs.Parts.{held}
+use Rattle.boxes.specs.Bytes.{outside}
 use Rattle.boxes.specs.declared.Span.{Span}
+use Rattle.boxes.proofs.PrefixSizes.{size-inside}
+use Rattle.boxes.proofs.Spans.{held-long}
 use Rattle.unit_list.specs.UnitList.{encodeUnits, decode}
 use Rattle.unit_list.specs.inner.Walk.{typedList, typedUnitsFrom, started, arraysStarted, StartFits, stepped, Fits, StepFits}
 use Rattle.unit_list.specs.inner.Find.{unitsLeft}
+use Rattle.unit_list.specs.inner.Written.{unitBytes}
 use Rattle.unit_list.specs.declared.ListCursor.{ListCursor}
 use Rattle.unit_list.specs.declared.ListStart.{ListStart}
 use Rattle.unit_list.specs.declared.ListStart.the-variants as S
 use Rattle.unit_list.specs.declared.ListStep.{ListStep}
 use Rattle.unit_list.specs.declared.ListStep.the-variants as L
 use Rattle.unit_list.proofs.Turns.{ListTurn, list-found, list-end, list-malformed, start-units, start-refused}
-use Rattle.compact.specs.Compact.{allAtMost, compactBytes, serializeCompact, compactFirstByte}
-use Rattle.compact_write.specs.inner.Sums.{addingUnit, addingAll, summed, noUnits, recordLength, compactRecordOf}
-use Rattle.compact.specs.declared.CompactVvcConfig.{CompactVvcConfig}
-use Rattle.compact_write.specs.declared.list_units.RecordSum.{RecordSum}
 use Rattle.unit_list.proofs.StoredUnits.{room-more}
-use Rattle.boxes.specs.Bytes.{outside}
-use Rattle.parse.specs.inner.Walk.{more}
-use Rattle.unit_list.specs.inner.Written.{unitBytes}
-use Rattle.parse.specs.inner.Stores.{bytesOf, Puts}
-use Rattle.boxes.proofs.PrefixSizes.{size-inside}
-use Rattle.boxes.proofs.Spans.{held-long}
+use Rattle.compact.specs.Compact.{allAtMost, compactBytes, serializeCompact, compactFirstByte}
+use Rattle.compact.specs.declared.CompactVvcConfig.{CompactVvcConfig}
+use Rattle.compact_write.specs.inner.Sums.{addingUnit, addingAll, summed, noUnits, recordLength, compactRecordOf}
+use Rattle.compact_write.specs.declared.list_units.RecordSum.{RecordSum}
 
 -- one unit added, then the others
 module _ (s : List ℕ) (a : Span) (inside : a .start + a .len ≤ length s) (v : RecordSum) where

@@ -15,12 +15,12 @@ ghost use Prim.Native.Nat.{_+_, _≤_, _<_, _^_};
 ghost use lib.Seq.{sets};
 ghost use Rattle.parse.specs.Outcome.{lentOutput, counted};
 ghost use Rattle.parse.specs.Answers.{countOf, writtenOf};
+ghost use Rattle.parse.specs.inner.Stores.{bytesOf, Puts};
 ghost use Rattle.unit_list.specs.inner.Walk.{Fits};
 ghost use Rattle.unit_list.specs.inner.Find.{unitsLeft};
-ghost use Rattle.compact_write.specs.inner.Sums.{addingUnit, summed, noUnits, sumOf, SumFits, recordLength, compactRecordOf};
-ghost use Rattle.parse.specs.inner.Stores.{bytesOf, Puts};
 ghost use Rattle.unit_list.specs.inner.Written.{unitBytes};
 ghost use Rattle.compact.specs.Compact.{compactFirstByte};
+ghost use Rattle.compact_write.specs.inner.Sums.{addingUnit, summed, noUnits, sumOf, SumFits, recordLength, compactRecordOf};
 
 // The units so far: their count, the bytes that they take after lengths of one byte, and whether each length fits one byte.
 pub struct RecordSum {

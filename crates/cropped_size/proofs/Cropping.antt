@@ -4,8 +4,8 @@ use mathlib.Core.Bool.{true, false}
 use Prim.Native.Nat.{ℕ, _+_, _*_, _-_, _^_, _≤_, _<_}
 use native.Mathlib.Nat.{mul-le-mul}
 use native.Mathlib.Omega.{arith}
-use Rattle.cropped_size.specs.Cropped.{clamp32, subWidth, subHeight, croppedSide, croppedSize}
 use Rattle.sps.specs.declared.SpsHead.{SpsHead}
+use Rattle.cropped_size.specs.Cropped.{clamp32, subWidth, subHeight, croppedSide, croppedSize}
 use Rattle.cropped_size.specs.declared.PictureSize.{PictureSize}
 
 -- the product of two numbers of 32 bits fits 64

@@ -7,20 +7,20 @@ use lib.ListN.{length}
 use lib.Seq.{sets}
 use borrow.Author.Tests.{le-leb, lt-leb}
 use Rattle.parse.specs.Outcome.{Outcome, accept, refuse, andThen}
+use Rattle.parse.proofs.General.{sets-front}
 use Rattle.boxes.specs.Parts.{held}
 use Rattle.boxes.specs.declared.Span.{Span}
 use Rattle.unit_list.specs.UnitList.{encode}
 use Rattle.unit_list.specs.Answers.{listUnits}
+use Rattle.grouping.specs.Grouping.{grouped}
+use Rattle.grouping.specs.inner.Units.{heldUnits}
 use Rattle.compact.specs.declared.CompactVvcConfig.{CompactVvcConfig}
 use Rattle.full.specs.Read.{zeroHead}
 use Rattle.full.specs.declared.VvcConfig.{VvcConfig}
-use Rattle.grouping.specs.Grouping.{grouped}
 use Rattle.expand.specs.Expand.{FullHead, expandUnits, toFull}
-use Rattle.expand.specs.declared.Picture.{Picture}
 use Rattle.expand.specs.Answers.{expandedGiven}
-use Rattle.grouping.specs.inner.Units.{heldUnits}
 use Rattle.expand.specs.inner.ParameterSets.{withUnits}
-use Rattle.parse.proofs.General.{sets-front}
+use Rattle.expand.specs.declared.Picture.{Picture}
 
 -- what a call returns: the answer with the head, and the output after the call
 abbrev pub Given : Type 0

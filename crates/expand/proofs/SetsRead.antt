@@ -4,25 +4,25 @@ use mathlib.Core.Path.{_≡_, refl, sym, ap, _∙_}
 use mathlib.Core.Bool.{Bool, true, false}
 use mathlib.Core.List.{List}
 use mathlib.Core.Option.{none, some}
-use Rattle.parse.specs.Outcome.{Outcome, accept, refuse, andThen, handsBack}
 use Rattle.error.specs.Refusals.{numberOf}
-use Rattle.parse.specs.Steps.{orRefuse}
 use Rattle.error.specs.declared.Refusal.{Refusal}
+use Rattle.parse.specs.Outcome.{Outcome, accept, refuse, andThen, handsBack}
+use Rattle.parse.specs.Steps.{orRefuse}
 use Rattle.ptl.specs.Ptl.{zeroPtl}
 use Rattle.ptl.specs.declared.VvcPtlRecord.{VvcPtlRecord}
-use Rattle.sps.specs.Sps.{parseSps}
-use Rattle.vps.specs.Vps.{vpsFirstPtl}
 use Rattle.params.specs.Answers.{paramsReadOf}
-use Rattle.vps.specs.Answers.{vpsPtlOf, ptlGiven}
 use Rattle.params.specs.declared.ParamsAnswer.{ParamsAnswer}
 use Rattle.params.specs.declared.ParamsAnswer.the-variants as P
-use Rattle.vps.specs.declared.PtlRead.{PtlRead}
+use Rattle.sps.specs.Sps.{parseSps}
 use Rattle.sps.specs.declared.SpsHead.{SpsHead}
-use Rattle.compact.specs.declared.CompactVvcConfig.{CompactVvcConfig}
+use Rattle.vps.specs.Vps.{vpsFirstPtl}
+use Rattle.vps.specs.Answers.{vpsPtlOf, ptlGiven}
+use Rattle.vps.specs.declared.PtlRead.{PtlRead}
 use Rattle.grouping.specs.Grouping.{havingType, firstElement}
+use Rattle.compact.specs.declared.CompactVvcConfig.{CompactVvcConfig}
 use Rattle.expand.specs.Expand.{multiLayerVps, ptlOfSets, expandUnits, expandedHead}
-use Rattle.expand.specs.declared.Picture.{Picture}
 use Rattle.expand.specs.inner.ParameterSets.{ptlOrZeros, firstVpsPtl, firstSpsPtl, setsPtl, withUnits}
+use Rattle.expand.specs.declared.Picture.{Picture}
 
 -- ### a value beside an answer
 

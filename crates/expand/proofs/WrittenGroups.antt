@@ -9,10 +9,10 @@ use lib.ListN.{length}
 use borrow.Author.Tests.{le-leb, eq-eqb}
 use Rattle.parse.specs.Logic.{if_then_else_}
 use Rattle.nal.specs.Header.{largestUnitType, typeOr31}
-use Rattle.record_arrays.specs.Read.{holdsOne}
-use Rattle.record_arrays.specs.Write.{unitsFit, arrayFits, arraysFit}
 use Rattle.grouping.specs.Grouping.{havingType, firsts, group, grouped}
 use Rattle.grouping.proofs.GroupedFits.{Every, EachOf, every-having, having-le, Has-units, types-have}
+use Rattle.record_arrays.specs.Read.{holdsOne}
+use Rattle.record_arrays.specs.Write.{unitsFit, arrayFits, arraysFit}
 
 -- few and short units, with at most one unit of each type without a count: their arrays can be written
 pub record Groupable (us : List (List ℕ)) : Type 0 where

@@ -9,10 +9,10 @@ use Rattle.parse.specs.Steps.{_>>=_, _>>_, orRefuse}
 use Rattle.boxes.specs.Parts.{held}
 use Rattle.unit_list.specs.UnitList.{encode}
 use Rattle.unit_list.specs.Answers.{listUnits}
-use Rattle.sps.specs.Sps.{parseSps}
-use Rattle.vps.specs.Vps.{vpsFirstPtl}
 use Rattle.ptl.specs.declared.VvcPtlRecord.{VvcPtlRecord}
+use Rattle.sps.specs.Sps.{parseSps}
 use Rattle.sps.specs.declared.SpsHead.{SpsHead}
+use Rattle.vps.specs.Vps.{vpsFirstPtl}
 use Rattle.grouping.specs.Grouping.{havingType, firstElement, grouped}
 use Rattle.compact.specs.declared.CompactVvcConfig.{CompactVvcConfig}
 use Rattle.full.specs.declared.VvcConfig.{VvcConfig}

@@ -10,12 +10,12 @@ use params::ParamsAnswer;
 use unit_list::ListCursor;
 use unit_list::ListStart;
 ghost use mathlib.Core.Path.{_≡_};
-ghost use Rattle.parse.specs.Outcome.{refuse};
 ghost use Rattle.error.specs.Refusals.{numberOf};
+ghost use Rattle.parse.specs.Outcome.{refuse};
+ghost use Rattle.grouping.specs.inner.Units.{Readable, unitsAt};
 ghost use Rattle.full.specs.Read.{zeroHead};
 ghost use Rattle.expand.specs.Expand.{expandUnits, toFull};
 ghost use Rattle.expand.specs.Answers.{expandedOf, expandedGiven};
-ghost use Rattle.grouping.specs.inner.Units.{Readable, unitsAt};
 ghost use Rattle.expand.specs.inner.ParameterSets.{withUnits};
 
 // What the caller knows of the picture.

@@ -14,8 +14,8 @@ ghost use mathlib.Core.Path.{_≡_};
 ghost use Rattle.error.specs.Refusals.{numberOf};
 ghost use Rattle.params.specs.Answers.{paramsReadOf};
 ghost use Rattle.vps.specs.Answers.{vpsPtlOf};
-ghost use Rattle.expand.specs.Expand.{multiLayerVps, ptlOfSets};
 ghost use Rattle.grouping.specs.inner.Units.{Readable, unitsAt};
+ghost use Rattle.expand.specs.Expand.{multiLayerVps, ptlOfSets};
 ghost use Rattle.expand.specs.inner.ParameterSets.{ptlOrZeros, firstVpsPtl, firstSpsPtl, setsPtl};
 
 // The PTL of the first VPS after a cursor. Refusals: `missing` if there is no VPS, and the VPS's.

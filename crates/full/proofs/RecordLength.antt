@@ -9,18 +9,18 @@ use lib.Dec.{leb}
 use lib.ListN.{length, length-append}
 use borrow.Author.Tests.{leb-true}
 use Rattle.parse.specs.Logic.{if_then_else_}
+use Rattle.parse.proofs.General.{both-true}
 use Rattle.boxes.specs.Bytes.{toBe, toChunk, outside}
 use Rattle.boxes.proofs.Numbers.{length-toBe}
 use Rattle.unit_list.specs.UnitList.{Array, unitsOf, encodeUnits, encodeArray, encodeArrays, encode}
 use Rattle.unit_list.proofs.Encode.{length-toChunk}
+use Rattle.ptl_record.proofs.Writing.{info-long, part-few, fitting, length-front, length-ptl}
 use Rattle.record_arrays.specs.Read.{holdsOne}
 use Rattle.record_arrays.specs.Write.{arrayBytes, arraysBytes, unitsFit, arrayFits, arraysFit}
-use Rattle.ptl_record.proofs.Writing.{info-long, part-few, fitting, length-front, length-ptl}
 use Rattle.full.specs.Write.{ptlPart, headBytes, ptlPartFits, headFits, fullBytes, recordFits}
 use Rattle.full.specs.RoundTrip.{Typed}
 use Rattle.full.specs.declared.VvcConfig.{VvcConfig}
 use Rattle.full.proofs.HeadRoundTrip.{small, length-part}
-use Rattle.parse.proofs.General.{both-true}
 
 -- ### the head
 

@@ -3,9 +3,9 @@ use Prim.Native.Nat.{ℕ, _+_}
 use mathlib.Core.List.{List}
 use mathlib.Core.Option.{Option}
 use lib.Dec.{ltb}
+use Rattle.error.specs.Refusals.{numberOf}
 use Rattle.parse.specs.Logic.{if_then_else_}
 use Rattle.parse.specs.Outcome.{Outcome, accept, refuse}
-use Rattle.error.specs.Refusals.{numberOf}
 use Rattle.boxes.specs.Walk.{found}
 use Rattle.boxes.specs.Places.{Place, inFirst, placeFound}
 use Rattle.boxes.specs.declared.Span.{Span}

@@ -9,13 +9,13 @@ use Rattle.parse.specs.Outcome.{Outcome, accept, refuse, lentInput}
 use Rattle.parse.specs.Parse.{Parsed, value, refused, Parser, _>>=_, _>>_, give, refuseIf, times}
 use Rattle.boxes.specs.Bytes.{uint}
 use Rattle.boxes.specs.declared.Span.{Span}
-use Rattle.bit_reader.specs.Bits.{isSet}
 use Rattle.unit_list.specs.UnitList.{Array, encode, heldArrays}
-use Rattle.record_arrays.specs.Read.{recordArray}
+use Rattle.bit_reader.specs.Bits.{isSet}
 use Rattle.ptl.specs.Ptl.{zeroPtl}
-use Rattle.ptl_record.specs.Read.{vvcPtlRecord}
-use Rattle.full.specs.declared.VvcConfig.{VvcConfig}
 use Rattle.ptl.specs.declared.VvcPtlRecord.{VvcPtlRecord}
+use Rattle.ptl_record.specs.Read.{vvcPtlRecord}
+use Rattle.record_arrays.specs.Read.{recordArray}
+use Rattle.full.specs.declared.VvcConfig.{VvcConfig}
 
 -- a head without the PTL flag: the fields under the flag are 0
 abbrev pub plainHead : ℕ → VvcConfig

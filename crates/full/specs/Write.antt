@@ -8,8 +8,8 @@ use Rattle.parse.specs.Logic.{if_then_else_, bit}
 use Rattle.parse.specs.Outcome.{Outcome, accept, refuse, andThen}
 use Rattle.boxes.specs.Bytes.{toBe, outside}
 use Rattle.unit_list.specs.UnitList.{Array, decode, heldArrays}
-use Rattle.record_arrays.specs.Write.{arraysBytes, arraysFit}
 use Rattle.ptl_record.specs.Write.{ptlBytes, ptlFits}
+use Rattle.record_arrays.specs.Write.{arraysBytes, arraysFit}
 use Rattle.full.specs.declared.VvcConfig.{VvcConfig}
 
 -- the fields under ptl_present_flag

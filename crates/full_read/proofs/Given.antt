@@ -8,9 +8,9 @@ use lib.ListN.{length}
 use Rattle.parse.specs.Logic.{if_then_else_}
 use Rattle.parse.specs.Outcome.{Outcome, accept, refuse, handsBack, lentOutput, overlay}
 use Rattle.parse.specs.Parse.{Parsed, value, refused, bind, times}
+use Rattle.parse.proofs.Lent.{lent-too-long, lent-within}
 use Rattle.boxes.specs.Bytes.{uint}
 use Rattle.boxes.specs.declared.Span.{Span}
-use Rattle.parse.proofs.Lent.{lent-too-long, lent-within}
 use Rattle.unit_list.specs.UnitList.{Array, encode, heldArrays}
 use Rattle.record_arrays.specs.Read.{recordArray}
 use Rattle.record_arrays_read.specs.inner.Arrays.{countedArrays, listGiven}

@@ -6,14 +6,17 @@ use native.Mathlib.Omega.{arith}
 use native.Mathlib.Decide.{decLe}
 use lib.ListN.{length, getD}
 use borrow.Author.Tests.{eq-eqb, ne-eqb}
-use Rattle.parse.specs.Parse.{Parsed, value, refused, bind}
 use Rattle.error.specs.Refusals.{numberOf}
 use Rattle.error.specs.declared.Refusal.{Refusal}
+use Rattle.parse.specs.Parse.{Parsed, value, refused, bind}
+use Rattle.parse.specs.inner.Answers.{orZeros}
+use Rattle.parse.proofs.Zeros.{zeros-beside}
 use Rattle.boxes.specs.Bytes.{be, uint}
 use Rattle.boxes.proofs.Fields.{uint-there, uint-short}
+use Rattle.ptl.specs.Ptl.{zeroPtl}
 use Rattle.ptl.specs.declared.VvcPtlRecord.{VvcPtlRecord}
-use Rattle.ptl_record.specs.inner.Answers.{ptlRecordRead, ptlRecordOf}
 use Rattle.ptl_record.specs.Read.{vvcPtlRecord}
+use Rattle.ptl_record.specs.inner.Answers.{ptlRecordRead, ptlRecordOf}
 use Rattle.ptl_record.specs.declared.PtlRecordAnswer.{PtlRecordAnswer}
 use Rattle.ptl_record.specs.declared.PtlRecordAnswer.the-variants as P
 use Rattle.ptl_record.specs.declared.PtlRecordRead.{PtlRecordRead}
@@ -24,9 +27,6 @@ use Rattle.full_read.specs.inner.Heads.{headAnswerOf, headReadOf, sizesA
 use Rattle.full_read.specs.declared.head.HeadAnswer.{HeadAnswer}
 use Rattle.full_read.specs.declared.head.HeadAnswer.the-variants as H
 use Rattle.full_read.specs.declared.head.HeadRead.{HeadRead}
-use Rattle.parse.specs.inner.Answers.{orZeros}
-use Rattle.ptl.specs.Ptl.{zeroPtl}
-use Rattle.parse.proofs.Zeros.{zeros-beside}
 
 -- after the PTL: three numbers of two bytes
 module _ (s : List ℕ) where

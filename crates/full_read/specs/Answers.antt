@@ -1,8 +1,8 @@
 -- The outcomes that the answers of full read mean (SCOPE 3.10 and 6.1).
 use Prim.Native.Nat.{ℕ}
 use mathlib.Core.List.{List}
-use Rattle.parse.specs.Outcome.{Outcome, accept, refuse, handsBack, lentOutput}
 use Rattle.error.specs.Refusals.{numberOf}
+use Rattle.parse.specs.Outcome.{Outcome, accept, refuse, handsBack, lentOutput}
 use Rattle.full.specs.Read.{FullParsed, parseFull, zeroHead}
 use Rattle.full.specs.declared.VvcConfig.{VvcConfig}
 use Rattle.full_read.specs.declared.FullAnswer.{FullAnswer}

@@ -7,12 +7,12 @@ use ptl_record::PtlRecordAnswer;
 ghost use mathlib.Core.Path.{_≡_};
 ghost use Prim.Native.Nat.{_+_, _≤_, _^_};
 ghost use lib.ListN.{length};
-ghost use Rattle.parse.specs.Parse.{refused as refusedBy};
 ghost use Rattle.error.specs.Refusals.{numberOf};
+ghost use Rattle.parse.specs.Parse.{refused as refusedBy};
+ghost use Rattle.parse.specs.inner.Answers.{orZeros};
 ghost use Rattle.boxes.specs.Bytes.{be};
 ghost use Rattle.full.specs.Read.{vvcHead, headWithPtl, zeroHead, headFields};
 ghost use Rattle.full_read.specs.inner.Heads.{headReadOf, sizesAfter};
-ghost use Rattle.parse.specs.inner.Answers.{orZeros};
 
 // The place after a head, or a refusal.
 pub enum HeadAnswer {

@@ -8,27 +8,27 @@ use lib.Dec.{leb}
 use lib.ListN.{length, set, length-append, length-set}
 use lib.Seq.{sets, length-sets}
 use borrow.Author.Tests.{eq-eqb, ne-eqb, leb-true}
-use Rattle.parse.specs.Outcome.{Outcome, accept, refuse}
 use Rattle.error.specs.Refusals.{numberOf}
 use Rattle.error.specs.declared.Refusal.{Refusal}
+use Rattle.parse.specs.Outcome.{Outcome, accept, refuse}
+use Rattle.parse.specs.inner.Stores.{Puts, bytesOf}
+use Rattle.parse.proofs.General.{both-true}
 use Rattle.boxes.specs.Walk.{countFound}
 use Rattle.boxes.specs.declared.Span.{Span}
 use Rattle.unit_list.specs.UnitList.{Array, decode, heldArrays}
 use Rattle.unit_list.specs.inner.Walk.{arraysFrom, Fits}
 use Rattle.unit_list.specs.declared.ListCursor.{ListCursor}
+use Rattle.ptl_record.proofs.Writing.{sets-then}
 use Rattle.record_arrays.specs.Write.{arraysBytes}
 use Rattle.record_arrays_write.specs.inner.Measures.{arraysMeasure, measuredBy, measureOf, ArraysWithin, arraysInRecord}
 use Rattle.record_arrays_write.specs.declared.measure.Measure.{Measure}
 use Rattle.record_arrays_write.specs.declared.measure.RecordMeasure.{RecordMeasure}
 use Rattle.record_arrays_write.specs.declared.measure.RecordMeasure.the-variants as M
-use Rattle.ptl_record.proofs.Writing.{sets-then}
 use Rattle.full.specs.Write.{headBytes, headFits, fullBytes, recordFits, writeFull, serializeFull}
 use Rattle.full.specs.declared.VvcConfig.{VvcConfig}
 use Rattle.full_write.specs.inner.Record.{fullRecordOf, Writable, SizeOf}
 use Rattle.full_write.specs.declared.RecordSize.{RecordSize}
 use Rattle.full_write.specs.declared.RecordSize.the-variants as R
-use Rattle.parse.proofs.General.{both-true}
-use Rattle.parse.specs.inner.Stores.{Puts, bytesOf}
 
 -- the record of a list is that of its arrays
 pub serialize-arrays : (h : VvcConfig) (s : List ℕ) (o : Outcome (List (Array Span))) → o ≡ decode s → fullRecordOf h s o ≡ serializeFull h s

@@ -9,14 +9,14 @@ use lib.ListN.{length, getD, set, replicate, length-append, length-replicate, ge
 use lib.Seq.{sets, getD-set-same, getD-set-other}
 use borrow.Author.Tests.{eq-eqb, eqb-true}
 use Rattle.parse.specs.Logic.{if_then_else_}
+use Rattle.parse.proofs.General.{sets-append, sets-before}
 use Rattle.boxes.specs.Bytes.{toBe, toChunk}
 use Rattle.boxes.proofs.Numbers.{length-toBe}
 use Rattle.nal.specs.Header.{typeOr31}
+use Rattle.nal.specs.inner.Kinds.{unitTypes}
 use Rattle.unit_list.specs.UnitList.{encodeUnits, encodeArray, encodeArrays}
 use Rattle.unit_list.proofs.Encode.{length-toChunk}
 use Rattle.grouping.specs.Grouping.{havingType, without, firsts, group, grouped}
-use Rattle.nal.specs.inner.Kinds.{unitTypes}
-use Rattle.parse.proofs.General.{sets-append, sets-before}
 
 -- ### the array of a type
 

@@ -6,13 +6,13 @@ use native.Mathlib.Omega.{arith}
 use lib.ListN.{length, length-append}
 use lib.Seq.{sets, length-sets}
 use borrow.Author.Tests.{eq-eqb, ne-eqb}
+use Rattle.parse.proofs.General.{sets-append}
 use Rattle.boxes.specs.Bytes.{toChunk}
 use Rattle.nal.specs.Header.{typeOr31}
 use Rattle.unit_list.specs.UnitList.{encodeUnits}
 use Rattle.unit_list.proofs.Encode.{length-toChunk}
 use Rattle.grouping.specs.Grouping.{havingType}
 use Rattle.grouping.specs.inner.Units.{Turn}
-use Rattle.parse.proofs.General.{sets-append}
 
 -- the bytes of the units of type t, each after its length
 abbrev pub bytesOf : ℕ → List (List ℕ) → List ℕ

@@ -8,8 +8,10 @@ use types.Run.{OneOf}
 use denote.Enum.Declared.{tagOf}
 use lib.ListN.{length}
 use Rattle.parse.specs.Outcome.{Outcome, accept, refuse}
+use Rattle.parse.specs.inner.Walk.{more}
 use Rattle.boxes.specs.Parts.{held}
 use Rattle.boxes.specs.declared.Span.{Span}
+use Rattle.boxes.proofs.Spans.{held-long}
 use Rattle.nal.specs.Header.{largestUnitType, typeOr31}
 use Rattle.unit_list.specs.inner.Walk.{typedUnitsFrom, stepped, StepFits}
 use Rattle.unit_list.specs.inner.Find.{unitsLeft}
@@ -21,8 +23,6 @@ use Rattle.unit_list.proofs.Turns.{ListTurn, list-found, list-stops}
 use Rattle.grouping.specs.inner.Units.{spansOf, unitsAt, Readable, UnitStepped, Steps}
 use Rattle.grouping.specs.declared.units.UnitStep.{UnitStep}
 use Rattle.grouping.specs.declared.units.UnitStep.the-variants as U
-use Rattle.parse.specs.inner.Walk.{more}
-use Rattle.boxes.proofs.Spans.{held-long}
 
 -- a step that found no unit: none is left
 pub none-left : (s : List ℕ) (here : ListCursor) (r : ListStep) → stepped s r ≡ typedUnitsFrom s here → OneOf (1 ∷ 2 ∷ []) (tagOf the-type r)

@@ -12,11 +12,11 @@ use Rattle.parse.specs.Logic.{if_then_else_}
 use Rattle.parse.specs.Outcome.{Outcome, accept, refuse}
 use Rattle.boxes.specs.Bytes.{toChunk, outside}
 use Rattle.boxes.specs.Walk.{countFound}
+use Rattle.boxes.proofs.PrefixSizes.{size-inside}
 use Rattle.compact.specs.ItemData.{stillUnit, restore}
 use Rattle.compact.specs.declared.CompactVvcConfig.{CompactVvcConfig}
 use Rattle.item_data.specs.inner.Still.{restoredBytes, Restores}
 use Rattle.item_data.proofs.Stills.{restore-too-long, restore-copy, restore-unit}
-use Rattle.boxes.proofs.PrefixSizes.{size-inside}
 
 -- bytes whose length was measured as n
 pub record MeasuredAs (o : Outcome (List ℕ)) (n : ℕ) : Type 0 where

@@ -10,23 +10,23 @@ use lib.Seq.{sets, drop-cons}
 use borrow.Author.Tests.{le-leb, lt-leb, eq-eqb, ne-eqb, le-ltb}
 use Rattle.parse.specs.Outcome.{Outcome, accept, refuse}
 use Rattle.parse.specs.Parse.{Parsed, value, refused}
+use Rattle.parse.specs.inner.Walk.{more}
+use Rattle.parse.proofs.Many.{many-bad}
+use Rattle.parse.proofs.General.{sets-append}
 use Rattle.boxes.specs.Bytes.{toBe, toChunk, outside}
 use Rattle.boxes.specs.Parts.{held}
 use Rattle.boxes.specs.Walk.{countFound}
 use Rattle.boxes.specs.declared.Span.{Span}
 use Rattle.boxes.proofs.Walk.{total}
-use Rattle.parse.proofs.Many.{many-bad}
 use Rattle.boxes.proofs.Numbers.{length-toBe}
+use Rattle.boxes.proofs.Spans.{held-long}
+use Rattle.nal.specs.Header.{nalHeader}
 use Rattle.unit_list.proofs.Encode.{length-toChunk}
 use Rattle.split.specs.Item.{itemUnit, itemUnits}
+use Rattle.split.specs.inner.Walk.{itemUnitsFrom}
 use Rattle.split.proofs.Items.{left-step}
-use Rattle.nal.specs.Header.{nalHeader}
 use Rattle.compact.specs.ItemData.{stillUnit, prefixed, restore, isStill, onlyStill, strip}
 use Rattle.compact.specs.declared.CompactVvcConfig.{CompactVvcConfig}
-use Rattle.split.specs.inner.Walk.{itemUnitsFrom}
-use Rattle.parse.specs.inner.Walk.{more}
-use Rattle.parse.proofs.General.{sets-append}
-use Rattle.boxes.proofs.Spans.{held-long}
 
 -- ### restored
 

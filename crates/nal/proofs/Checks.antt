@@ -7,9 +7,9 @@ use native.Mathlib.Omega.{arith}
 use lib.Dec.{eqb, ltb}
 use lib.ListN.{length, getD}
 use borrow.Author.Tests.{ltb-true, lt-ltb, le-ltb, eqb-true, eqb-false, eq-eqb, ne-eqb, not-true}
+use Rattle.parse.proofs.General.{both-true}
 use Rattle.nal.specs.StartCode.{scan, endsInZero, unitChecked}
 use Rattle.nal.proofs.StartCodes.{CodeAt, scan-none, none-scan}
-use Rattle.parse.proofs.General.{both-true}
 
 pub record Splittable (u : List ℕ) : Type 0 where
   pub some : 0 < length u

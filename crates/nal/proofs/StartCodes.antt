@@ -11,8 +11,8 @@ use lib.ListN.{length, getD, drop, length-drop, length-append}
 use lib.Seq.{drop-cons, getD-drop}
 use borrow.Author.Tests.{eqb-true, eq-eqb}
 use Rattle.parse.specs.Logic.{if_then_else_}
-use Rattle.nal.specs.StartCode.{isStartCode, scan}
 use Rattle.parse.proofs.General.{both-true}
+use Rattle.nal.specs.StartCode.{isStartCode, scan}
 
 -- the bytes 00 00 01 are in s from place i on
 pub record CodeAt (s : List ℕ) (i : ℕ) : Type 0 where

@@ -11,11 +11,11 @@ use lib.Dec.{leb, eqb}
 use types.Run.{OneOf}
 use borrow.Author.Tests.{le-leb, lt-leb, leb-true, leb-false, ne-eqb}
 use Rattle.parse.specs.Logic.{if_then_else_}
+use Rattle.nal.specs.Kinds.{isRecordType, unitKind, isPictureData, isRecord, isAud, isRecordOf}
+use Rattle.nal.specs.inner.Kinds.{isPictureDataOf}
 use Rattle.nal.specs.declared.UnitKind.{UnitKind}
 use Rattle.nal.specs.declared.UnitKind.the-variants.{PictureData, Record, Aud, Other}
-use Rattle.nal.specs.Kinds.{isRecordType, unitKind, isPictureData, isRecord, isAud, isRecordOf}
 use Rattle.nal.proofs.UnitKind.{the-type}
-use Rattle.nal.specs.inner.Kinds.{isPictureDataOf}
 
 -- ### by the type
 

@@ -6,9 +6,9 @@ use mathlib.Core.Option.{Option, none, some}
 use Prim.Native.Nat.{ℕ}
 use borrow.Author.Tests.{eq-eqb, ne-eqb}
 use denote.Ref.{RefT, now}
+use Rattle.error.specs.declared.Refusal.{Refusal}
 use Rattle.parse.specs.Logic.{if_then_else_}
 use Rattle.parse.specs.Parse.{Parsed, value, refused, bind, refusing}
-use Rattle.error.specs.declared.Refusal.{Refusal}
 use Rattle.bit_reader.specs.Bits.{u, isSet, ue}
 use Rattle.bit_reader.specs.inner.Answers.{parsed}
 use Rattle.bit_reader.specs.inner.Reader.{skipping, readerPlaceAfter, Stepped}

@@ -2,8 +2,8 @@
 use Prim.Native.Nat.{ℕ}
 use mathlib.Core.List.{List}
 use mathlib.Core.Option.{Option, none, some}
-use Rattle.parse.specs.Outcome.{Outcome, accept, refuse, lentInput}
 use Rattle.error.specs.Refusals.{numberOf}
+use Rattle.parse.specs.Outcome.{Outcome, accept, refuse, lentInput}
 use Rattle.opi.specs.Opi.{opiOlsIdx}
 use Rattle.opi.specs.declared.OlsIdx.{OlsIdx}
 use Rattle.opi.specs.declared.OlsIdx.the-variants as O

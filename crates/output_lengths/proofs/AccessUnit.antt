@@ -11,6 +11,7 @@ use borrow.Author.Tests.{le-leb, eqb-true}
 use Rattle.parse.specs.Logic.{if_then_else_}
 use Rattle.parse.specs.Outcome.{Outcome, accept, refuse, andThen}
 use Rattle.boxes.specs.Parts.{held}
+use Rattle.boxes.specs.Bytes.{AllBytes}
 use Rattle.boxes.specs.declared.Span.{Span}
 use Rattle.unit_list.specs.UnitList.{encode, unitsOf, heldArrays}
 use Rattle.unit_list.specs.Answers.{listUnits}
@@ -25,7 +26,6 @@ use Rattle.output_lengths.proofs.FullRecord.{full-read}
 use Rattle.output_lengths.proofs.Refusals.{beside-not-short}
 use Rattle.output_lengths.proofs.Outputs.{suffices, lent-accepted}
 use Rattle.output_lengths.proofs.Assembled.{streamed, held-room, encoded-units, assembled-parts}
-use Rattle.boxes.specs.Bytes.{AllBytes}
 
 module _ (rec item : List ℕ) where
   read-beside : (r : FullParsed) (list : List ℕ) → readBeside rec item ≡ accept (r, list) → parseFull rec ≡ accept (r, list)

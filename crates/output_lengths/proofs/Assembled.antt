@@ -18,6 +18,7 @@ use Rattle.unit_list.proofs.Encode.{units-encode}
 use Rattle.unit_list.proofs.Accepted.{accepted}
 use Rattle.split.specs.Item.{itemUnit}
 use Rattle.split.specs.Stream.{annexB}
+use Rattle.split.specs.inner.Walk.{itemUnitsFrom}
 use Rattle.split.proofs.Items.{unit-read, unit-advances}
 use Rattle.full.specs.declared.VvcConfig.{VvcConfig}
 use Rattle.access_unit.specs.AccessUnit.{targetOf, keeps, kept, startCode, assemble}
@@ -27,7 +28,6 @@ use Rattle.access_unit.proofs.Streams.{stream-length}
 use Rattle.access_unit.proofs.Gathering.{gathered}
 use Rattle.access_unit.proofs.Answering.{assemble-unknown, assemble-known}
 use Rattle.path.proofs.Expansion.{then-accept}
-use Rattle.split.specs.inner.Walk.{itemUnitsFrom}
 
 -- the bytes of units after start codes of four bytes
 abbrev pub streamed : List (List ℕ) → ℕ

@@ -11,17 +11,17 @@ use Rattle.parse.specs.Logic.{if_then_else_}
 use Rattle.parse.specs.Outcome.{accept, refuse}
 use Rattle.parse.specs.Parse.{times}
 use Rattle.boxes.specs.Bytes.{uint, chunk, toChunk, outside}
+use Rattle.boxes.proofs.Numbers.{be-one}
 use Rattle.unit_list.specs.UnitList.{encodeUnits}
 use Rattle.unit_list.proofs.Encode.{length-toChunk}
+use Rattle.grouping.proofs.GroupedFits.{units-long}
 use Rattle.compact.specs.Compact.{atEnd, compactRecord, CompactParsed, allAtMost, compactBytes, compactFirstByte}
 use Rattle.compact.specs.declared.CompactVvcConfig.{CompactVvcConfig}
 use Rattle.compact.proofs.Facts.{CompactFacts}
 use Rattle.access_unit.specs.inner.Gathered.{lengths}
 use Rattle.path.proofs.Units.{every-of}
-use Rattle.grouping.proofs.GroupedFits.{units-long}
 use Rattle.output_lengths.specs.Lengths.{longestCompact, multiLayer}
 use Rattle.output_lengths.proofs.Reading.{Gives, gives-value, gives-any, gives-bind, gives-uint}
-use Rattle.boxes.proofs.Numbers.{be-one}
 
 -- units after lengths of w bytes
 pub encoded-long : (w : ℕ) (us : List (List ℕ)) → length (encodeUnits w us) ≡ w * length us + lengths us

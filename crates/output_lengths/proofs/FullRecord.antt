@@ -13,18 +13,18 @@ use Rattle.boxes.specs.Bytes.{uint, chunk, toChunk, AllBytes}
 use Rattle.boxes.specs.Parts.{held}
 use Rattle.boxes.specs.declared.Span.{Span}
 use Rattle.boxes.proofs.Fields.{chunk-read}
+use Rattle.boxes.proofs.Numbers.{be-one}
 use Rattle.unit_list.specs.UnitList.{Array, largestType, unitsOf, encodeUnits, encodeArray, encodeArrays, encode, heldArray, heldArrays}
 use Rattle.unit_list.proofs.Arrays.{Sound, sound-none, sound-more, room, room-append}
 use Rattle.unit_list.proofs.Encode.{length-toChunk}
 use Rattle.bit_reader.specs.Bits.{isSet}
 use Rattle.ptl_record.specs.Read.{vvcPtlRecord}
-use Rattle.full.specs.Read.{FullParsed, plainHead, headWithPtl, vvcHead, vvcRecord, parseFull}
 use Rattle.record_arrays.specs.Read.{holdsOne, recordArray}
+use Rattle.full.specs.Read.{FullParsed, plainHead, headWithPtl, vvcHead, vvcRecord, parseFull}
 use Rattle.full.specs.declared.VvcConfig.{VvcConfig}
 use Rattle.vvcc_c.proofs.Beside.{read-as}
 use Rattle.output_lengths.specs.Lengths.{prefixSize, scratchRoom}
 use Rattle.output_lengths.proofs.Reading.{Gives, gives-value, gives-any, gives-bind, gives-uint}
-use Rattle.boxes.proofs.Numbers.{be-one}
 
 module _ (s : List ℕ) where
   -- ### units: four bytes of a list or stream for two of the record, and the unit itself

@@ -9,13 +9,13 @@ use lib.ListN.{length}
 use Rattle.parse.specs.Logic.{if_then_else_}
 use Rattle.parse.specs.Outcome.{Outcome, accept, refuse, andThen, lentInput}
 use Rattle.parse.specs.Parse.{Parsed, value, refused, outcomeOr}
+use Rattle.boxes.specs.Bytes.{outside}
 use Rattle.boxes.specs.declared.Span.{Span}
 use Rattle.unit_list.specs.UnitList.{Array, unitList, decode, heldArrays}
 use Rattle.compact.specs.ItemData.{stillUnit, prefixed, restore}
 use Rattle.compact.specs.declared.CompactVvcConfig.{CompactVvcConfig}
 use Rattle.full.specs.Write.{fullBytes, recordFits, writeFull, serializeFull}
 use Rattle.full.specs.declared.VvcConfig.{VvcConfig}
-use Rattle.boxes.specs.Bytes.{outside}
 
 -- a refusal is not 20
 abbrev pub NotShort : {A : Type 0} → Outcome A → Type 0

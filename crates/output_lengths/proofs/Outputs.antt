@@ -8,8 +8,8 @@ use lib.ListN.{length}
 use borrow.Author.Tests.{le-leb}
 use Rattle.parse.specs.Outcome.{Outcome, accept, refuse, lentInput}
 use Rattle.parse.proofs.Lent.{lent-too-long, lent-within}
-use Rattle.output_lengths.proofs.NotShort.{NotShort}
 use Rattle.output_lengths.specs.Lengths.{Suffices}
+use Rattle.output_lengths.proofs.NotShort.{NotShort}
 
 pub suffices : (n : ℕ) (o : Outcome (List ℕ)) → NotShort o → ((b : List ℕ) → o ≡ accept b → length b ≤ n) → Suffices n o
 suffices n (accept b) never h =

@@ -21,17 +21,17 @@ use Rattle.bit_reader.specs.Bits.{u, isSet, skip, align, zerosBeforeOne, ue}
 use Rattle.ptl.specs.Ptl.{levels, constraintBits, generalConstraintsInfo, constraintBytes, profileTierLevel, zeroPtl}
 use Rattle.ptl_record.specs.Read.{octets, vvcPtlRecord}
 use Rattle.sps.specs.Sps.{window, noWindow, spsHead, parseSps}
-use Rattle.vps.specs.Vps.{vpsPtl, vpsFirstPtl}
 use Rattle.sps.specs.declared.SpsHead.{SpsHead}
+use Rattle.vps.specs.Vps.{vpsPtl, vpsFirstPtl}
 use Rattle.split.specs.Item.{itemUnit, itemUnits, splitItem}
+use Rattle.grouping.specs.Grouping.{firstElement, havingType}
 use Rattle.compact.specs.Compact.{atEnd, compactRecord, parseCompact}
 use Rattle.compact.specs.ItemData.{restore}
 use Rattle.compact.specs.declared.CompactVvcConfig.{CompactVvcConfig}
-use Rattle.full.specs.Read.{headWithPtl, vvcHead, vvcRecord, fullParsed, parseFull}
 use Rattle.record_arrays.specs.Read.{holdsOne, recordArray}
+use Rattle.full.specs.Read.{headWithPtl, vvcHead, vvcRecord, fullParsed, parseFull}
 use Rattle.full.specs.Write.{serializeFull}
 use Rattle.full.specs.declared.VvcConfig.{VvcConfig}
-use Rattle.grouping.specs.Grouping.{firstElement, havingType}
 use Rattle.expand.specs.Expand.{multiLayerVps, ptlOfSets, expandUnits, toFull}
 use Rattle.expand.specs.declared.Picture.{Picture}
 use Rattle.access_unit.specs.AccessUnit.{Source, targetOf, arranged, notEmpty, accessUnit, assemble}

@@ -9,27 +9,27 @@ use lib.ListN.{length, length-append}
 use Rattle.parse.specs.Outcome.{accept, andThen}
 use Rattle.boxes.specs.Bytes.{toChunk, AllBytes}
 use Rattle.boxes.specs.Parts.{held}
+use Rattle.boxes.specs.Walk.{countFound}
 use Rattle.boxes.specs.declared.Span.{Span}
 use Rattle.unit_list.specs.UnitList.{unitsOf, encode}
 use Rattle.unit_list.specs.Answers.{listUnits}
 use Rattle.split.specs.Stream.{annexB}
+use Rattle.grouping.specs.Grouping.{grouped}
+use Rattle.grouping.proofs.GroupedFits.{grouped-sound, grouped-few, grouped-count}
 use Rattle.compact.specs.Compact.{CompactParsed, parseCompact}
 use Rattle.compact.specs.ItemData.{stillUnit, restore}
 use Rattle.compact.specs.declared.CompactVvcConfig.{CompactVvcConfig}
-use Rattle.full.specs.Write.{headBytes, fullBytes, serializeFull}
 use Rattle.record_arrays.specs.Write.{arraysBytes}
+use Rattle.full.specs.Write.{headBytes, fullBytes, serializeFull}
 use Rattle.full.specs.declared.VvcConfig.{VvcConfig}
-use Rattle.grouping.specs.Grouping.{grouped}
 use Rattle.expand.specs.Expand.{FullHead, expandedHead, toFull}
 use Rattle.expand.specs.declared.Picture.{Picture}
 use Rattle.access_unit.specs.AccessUnit.{startCode, assemble}
 use Rattle.access_unit.specs.inner.Gathered.{lengths}
 use Rattle.path.proofs.Expansion.{then-accept}
 use Rattle.path.proofs.Lengths.{head-long, arrays-long}
-use Rattle.boxes.specs.Walk.{countFound}
 use Rattle.still.specs.Stills.{stillRecord, anyPicture, streamWith, stillStream}
 use Rattle.still.specs.inner.Steps.{ReadFrom, itemAfter, streamExpanded, unitsStream}
-use Rattle.grouping.proofs.GroupedFits.{grouped-sound, grouped-few, grouped-count}
 use Rattle.still.proofs.Lists.{Ready, written-bytes, facts, us, types, expanded, written, ready}
 use Rattle.still.proofs.Steps.{item-counted, stream-layers, stream-plain}
 use Rattle.output_lengths.specs.Lengths.{multiLayer, recordRoom, stillRoomWith, stillRoom, Suffices}

@@ -1,6 +1,6 @@
 -- The answer of a call that reads a parameter set (SCOPE 3.7).
-use Rattle.parse.specs.Outcome.{Outcome, accept, refuse}
 use Rattle.error.specs.Refusals.{numberOf}
+use Rattle.parse.specs.Outcome.{Outcome, accept, refuse}
 use Rattle.params.specs.declared.ParamsAnswer.{ParamsAnswer}
 use Rattle.params.specs.declared.ParamsAnswer.the-variants as A
 

@@ -2,8 +2,8 @@
 use mathlib.Core.Path.{_≡_, refl}
 use Prim.Native.Nat.{ℕ}
 use native.Mathlib.Omega.{arith}
-use Rattle.parse.specs.Parse.{Parsed, value, refused, bind, outcome}
 use mathlib.Core.List.{List, _∷_}
+use Rattle.parse.specs.Parse.{Parsed, value, refused, bind, outcome}
 use Rattle.parse.specs.inner.Walk.{more}
 
 pub bind-bind : {A B C : Type 0} (x : Parsed A) (f : A → ℕ → Parsed B) (g : B → ℕ → Parsed C) → bind (bind x f) g ≡ bind x (λ a q. bind (f a q) g)

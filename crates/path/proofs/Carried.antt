@@ -12,34 +12,34 @@ use Rattle.parse.specs.Outcome.{accept}
 use Rattle.boxes.specs.Bytes.{toChunk, outside}
 use Rattle.boxes.specs.Parts.{held, nowhere}
 use Rattle.boxes.specs.declared.Span.{Span}
+use Rattle.boxes.proofs.PrefixSizes.{not-outside}
 use Rattle.nal.proofs.Checks.{Splittable}
 use Rattle.unit_list.specs.UnitList.{unitsOf, encode}
 use Rattle.unit_list.proofs.Encode.{held-encode, decode-encode, units-encode, length-toChunk}
-use Rattle.split.specs.Item.{splitItem}
-use Rattle.split.specs.Stream.{annexB, streamUnitsFrom, splitStream}
-use Rattle.split.proofs.RoundTrip.{four, split-assembled, split-one, held-one}
 use Rattle.ptl.specs.declared.VvcPtlRecord.{VvcPtlRecord}
 use Rattle.ptl_record.specs.AsWritten.{asWritten}
 use Rattle.ptl_record.proofs.RoundTrip as P
+use Rattle.split.specs.Item.{splitItem}
+use Rattle.split.specs.Stream.{annexB, streamUnitsFrom, splitStream}
+use Rattle.split.proofs.RoundTrip.{four, split-assembled, split-one, held-one}
+use Rattle.grouping.specs.Grouping.{grouped}
+use Rattle.grouping.proofs.GroupedFits.{Every, grouped-sound, grouped-few, grouped-count, every-grouped, units-long, grouped-long}
 use Rattle.compact.specs.ItemData.{restore}
 use Rattle.compact.specs.declared.CompactVvcConfig.{CompactVvcConfig}
-use Rattle.full.specs.Read.{parseFull}
 use Rattle.record_arrays.specs.Write.{arraysBytes}
+use Rattle.full.specs.Read.{parseFull}
 use Rattle.full.specs.Write.{headBytes, fullBytes, ptlPartFits, headFits, recordFits, writeFull, serializeFull}
 use Rattle.full.specs.declared.VvcConfig.{VvcConfig}
 use Rattle.full.proofs.HeadRoundTrip.{Writable, withPtl}
 use Rattle.full.proofs.RecordRoundTrip.{read-written}
-use Rattle.grouping.specs.Grouping.{grouped}
 use Rattle.expand.specs.Expand.{expandedHead}
 use Rattle.expand.specs.declared.Picture.{Picture}
-use Rattle.grouping.proofs.GroupedFits.{Every, grouped-sound, grouped-few, grouped-count, every-grouped, units-long, grouped-long}
 use Rattle.expand.proofs.WrittenGroups.{Groupable, grouped-fit}
 use Rattle.access_unit.specs.AccessUnit.{startCode, assemble}
 use Rattle.access_unit.proofs.OneUnit.{one-assembled}
 use Rattle.path.specs.Still.{Clean}
 use Rattle.path.proofs.Lengths.{head-long, arrays-long}
 use Rattle.path.proofs.Units.{still-splits, all-split}
-use Rattle.boxes.proofs.PrefixSizes.{not-outside}
 
 annexB-long : (gs : List (List ℕ)) (u : List ℕ) → Every (λ x. length x ≤ 255) gs
     → length (annexB startCode (gs ++ (u ∷ []))) ≤ 259 * length gs + 4 + length u

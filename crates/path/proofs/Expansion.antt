@@ -9,21 +9,21 @@ use Rattle.parse.specs.Logic.{if_then_else_}
 use Rattle.parse.specs.Outcome.{Outcome, accept, refuse, andThen}
 use Rattle.parse.specs.Steps.{orRefuse}
 use Rattle.boxes.specs.Parts.{held}
+use Rattle.boxes.specs.Bytes.{AllBytes}
 use Rattle.boxes.specs.declared.Span.{Span}
 use Rattle.unit_list.specs.UnitList.{encode}
 use Rattle.unit_list.specs.Answers.{listUnits}
 use Rattle.ptl.specs.declared.VvcPtlRecord.{VvcPtlRecord}
 use Rattle.ptl_record.proofs.RoundTrip as P
 use Rattle.sps.specs.Sps.{parseSps}
-use Rattle.vps.specs.Vps.{vpsFirstPtl}
 use Rattle.sps.specs.declared.SpsHead.{SpsHead}
-use Rattle.compact.specs.declared.CompactVvcConfig.{CompactVvcConfig}
+use Rattle.vps.specs.Vps.{vpsFirstPtl}
 use Rattle.grouping.specs.Grouping.{havingType, firstElement, grouped}
+use Rattle.grouping.proofs.GroupedFits.{Every}
+use Rattle.compact.specs.declared.CompactVvcConfig.{CompactVvcConfig}
 use Rattle.expand.specs.Expand.{FullHead, multiLayerVps, ptlOfSets, expandedHead, withList, expandUnits, toFull}
 use Rattle.expand.specs.declared.Picture.{Picture}
-use Rattle.grouping.proofs.GroupedFits.{Every}
 use Rattle.path.proofs.Ptls.{sps-ptl, vps-ptl}
-use Rattle.boxes.specs.Bytes.{AllBytes}
 
 -- when one step after another is accepted, both are
 pub then-accept : {A B : Type 0} (o : Outcome A) (f : A → Outcome B) (b : B) → andThen o f ≡ accept b → (a : A) × (o ≡ accept a) × (f a ≡ accept b)

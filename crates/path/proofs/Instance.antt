@@ -15,9 +15,9 @@ use Rattle.bit_reader.specs.Bits.{bitsAt, u, skip, align, zerosBeforeOne, ue}
 use Rattle.ptl.specs.Ptl.{presentFlags, levels, withoutFlags, constraintBits, generalConstraintsInfo, constraintBytes, profileTierLevel}
 use Rattle.sps.specs.Sps.{window, spsHead, parseSps}
 use Rattle.split.specs.Stream.{annexB}
-use Rattle.compact.specs.Compact.{atEnd, compactRecord, parseCompact}
 use Rattle.grouping.specs.Grouping.{havingType, without, firsts, grouped}
 use Rattle.grouping.proofs.Grouping.{grouped-as}
+use Rattle.compact.specs.Compact.{atEnd, compactRecord, parseCompact}
 use Rattle.expand.specs.Expand.{multiLayerVps, ptlOfSets, expandUnits, toFull}
 use Rattle.expand.specs.declared.Picture.{Picture}
 use Rattle.path.specs.Still.{unitsIn, Still}

@@ -9,20 +9,20 @@ use lib.ListN.{length, getD}
 use borrow.Author.Tests.{ltb-true, eq-eqb}
 use Rattle.parse.specs.Logic.{if_then_else_}
 use Rattle.parse.specs.Outcome.{accept}
+use Rattle.parse.proofs.General.{both-true}
+use Rattle.boxes.specs.Bytes.{AllBytes}
 use Rattle.nal.specs.Header.{typeOr31}
 use Rattle.nal.specs.StartCode.{unitChecked}
 use Rattle.nal.proofs.Checks.{Splittable, checked-splittable}
 use Rattle.unit_list.specs.UnitList.{encode}
-use Rattle.compact.specs.Compact.{CompactParsed, oneArray, parseCompact}
-use Rattle.compact.specs.declared.CompactVvcConfig.{CompactVvcConfig}
+use Rattle.ptl.proofs.Examples.{ptlOfP}
 use Rattle.grouping.specs.Grouping.{havingType, grouped}
 use Rattle.grouping.specs.Order.{typeAt}
+use Rattle.compact.specs.Compact.{CompactParsed, oneArray, parseCompact}
+use Rattle.compact.specs.declared.CompactVvcConfig.{CompactVvcConfig}
 use Rattle.expand.specs.Expand.{FullHead, expandedHead, withList, toFull}
 use Rattle.expand.specs.declared.Picture.{Picture}
-use Rattle.ptl.proofs.Examples.{ptlOfP}
 use Rattle.path.specs.Still.{Clean, AtMostOne, unitsIn, Still}
-use Rattle.boxes.specs.Bytes.{AllBytes}
-use Rattle.parse.proofs.General.{both-true}
 
 unfoldable pub allBytes : List ℕ → Bool
 allBytes [] = true

@@ -6,16 +6,16 @@ use mathlib.Core.Bool.{true}
 use mathlib.Core.List.{List}
 use borrow.Author.Tests.{le-leb}
 use Rattle.parse.specs.Outcome.{accept}
+use Rattle.boxes.specs.Bytes.{AllBytes}
 use Rattle.ptl.specs.declared.VvcPtlRecord.{VvcPtlRecord}
 use Rattle.ptl.proofs.Bounds.{Fits}
 use Rattle.ptl_record.specs.Write.{ptlFits}
 use Rattle.ptl_record.proofs.RoundTrip as P
 use Rattle.sps.specs.Sps.{parseSps}
-use Rattle.vps.specs.Vps.{vpsFirstPtl}
 use Rattle.sps.specs.declared.SpsHead.{SpsHead}
 use Rattle.sps.proofs.Bounds.{sps-unit-fits}
+use Rattle.vps.specs.Vps.{vpsFirstPtl}
 use Rattle.vps.proofs.Bounds.{vps-unit-fits}
-use Rattle.boxes.specs.Bytes.{AllBytes}
 
 writable : (m : ℕ) (r : VvcPtlRecord) → m ≤ 7 → Fits m r → P.Writable r
 unfolding ptlFits

@@ -7,15 +7,15 @@ use borrow.Author.Tests.{le-leb}
 use Rattle.parse.specs.Outcome.{accept}
 use Rattle.parse.specs.Parse.{value}
 use Rattle.boxes.specs.Parts.{held}
+use Rattle.boxes.specs.Bytes.{AllBytes}
 use Rattle.boxes.specs.declared.Span.{Span}
 use Rattle.unit_list.specs.Answers.{listUnits}
 use Rattle.unit_list.proofs.Encode.{UnitsRead}
+use Rattle.grouping.proofs.GroupedFits.{Every}
 use Rattle.compact.specs.Compact.{CompactParsed, compactRecord, oneArray, parsedWith, parseCompact}
 use Rattle.compact.proofs.Facts.{CompactFacts, compact-facts}
-use Rattle.grouping.proofs.GroupedFits.{Every}
 use Rattle.path.specs.Still.{unitsIn}
 use Rattle.path.proofs.Units.{every-of}
-use Rattle.boxes.specs.Bytes.{AllBytes}
 
 pub record Facts (us : List (List ℕ)) (read : CompactParsed) (list : List ℕ) : Type 0 where
   pub few : length us ≤ 33

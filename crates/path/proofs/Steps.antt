@@ -9,10 +9,13 @@ use lib.Dec.{eqb}
 use lib.ListN.{length, getD}
 use borrow.Author.Tests.{eqb-true}
 use Rattle.parse.specs.Outcome.{accept}
+use Rattle.boxes.specs.Bytes.{AllBytes}
 use Rattle.nal.specs.Header.{largestUnitType, typeOr31}
 use Rattle.nal.proofs.Checks.{Splittable}
 use Rattle.unit_list.specs.UnitList.{unitsOf, encode}
 use Rattle.split.specs.Stream.{annexB}
+use Rattle.grouping.specs.Grouping.{havingType, grouped}
+use Rattle.grouping.proofs.GroupedFits.{Every}
 use Rattle.compact.specs.Compact.{parseCompact}
 use Rattle.compact.specs.ItemData.{restore}
 use Rattle.compact.specs.declared.CompactVvcConfig.{CompactVvcConfig}
@@ -20,8 +23,6 @@ use Rattle.record_arrays.specs.Read.{holdsOne}
 use Rattle.full.specs.Read.{parseFull}
 use Rattle.full.specs.Write.{fullBytes, serializeFull}
 use Rattle.full.specs.declared.VvcConfig.{VvcConfig}
-use Rattle.grouping.specs.Grouping.{havingType, grouped}
-use Rattle.grouping.proofs.GroupedFits.{Every}
 use Rattle.expand.specs.Expand.{expandedHead, withList, expandUnits, toFull}
 use Rattle.expand.specs.declared.Picture.{Picture}
 use Rattle.expand.proofs.Expansion.{list-expanded}
@@ -32,7 +33,6 @@ use Rattle.path.proofs.Units.{every-of, every-at, one-of, type-small, c
 use Rattle.path.proofs.Record.{Facts, facts, is-read}
 use Rattle.path.proofs.Expansion.{Expansion, expansion, of-units}
 use Rattle.path.proofs.Carried.{Expanded, back, item, written, read-back, restored, assembles}
-use Rattle.boxes.specs.Bytes.{AllBytes}
 
 module _ (C S : List ℕ) (still : Still C S) where
   abbrev pub us : List (List ℕ)

@@ -10,6 +10,7 @@ use lib.Seq.{getD-at}
 use native.Mathlib.Decide.{decLe}
 use borrow.Author.Tests.{eqb-true}
 use Rattle.parse.specs.Logic.{if_then_else_}
+use Rattle.boxes.specs.Bytes.{AllBytes}
 use Rattle.nal.specs.Header.{largestUnitType, typeOr31}
 use Rattle.nal.proofs.StartCodes.{CodeAt}
 use Rattle.nal.proofs.Checks.{Splittable}
@@ -18,7 +19,6 @@ use Rattle.grouping.specs.Grouping.{havingType}
 use Rattle.grouping.specs.Order.{typeAt}
 use Rattle.grouping.proofs.GroupedFits.{Every}
 use Rattle.path.specs.Still.{Clean, AtMostOne}
-use Rattle.boxes.specs.Bytes.{AllBytes}
 
 -- what holds of unit k for every k holds of every unit, and conversely
 pub every-of : (P : List ℕ → Type 0) (us : List (List ℕ)) → ((k : ℕ) → k < length us → P (getD us k [])) → Every P us

@@ -11,19 +11,19 @@ use Rattle.unit_list.specs.UnitList.{arrayRest, array, unitList, decode, unitsO
 use Rattle.rbsp.specs.Rbsp.{drops, nextZeros, unescape, rbsp}
 use Rattle.bit_reader.specs.Bits.{bitsAt, u, skip, align, zerosBeforeOne, ue}
 use Rattle.ptl.specs.Ptl.{presentFlags, levels, withoutFlags, constraintBits, generalConstraintsInfo, constraintBytes, profileTierLevel}
+use Rattle.ptl_record.specs.Read.{octets, vvcPtlRecord}
+use Rattle.ptl_record.specs.Write.{withFlags, flagByte, levelBytes, subProfileBytes, ptlBytes, ptlFits}
 use Rattle.sps.specs.Sps.{window, spsHead, parseSps}
-use Rattle.vps.specs.Vps.{vpsPtl, vpsFirstPtl}
 use Rattle.sps.proofs.Examples.{headOfP}
+use Rattle.vps.specs.Vps.{vpsPtl, vpsFirstPtl}
+use Rattle.grouping.specs.Grouping.{havingType, without, firsts, grouped}
 use Rattle.compact.specs.Compact.{CompactParsed, atEnd, compactRecord, oneArray, parseCompact}
 use Rattle.compact.specs.ItemData.{restore}
 use Rattle.compact.specs.declared.CompactVvcConfig.{CompactVvcConfig}
-use Rattle.ptl_record.specs.Read.{octets, vvcPtlRecord}
-use Rattle.ptl_record.specs.Write.{withFlags, flagByte, levelBytes, subProfileBytes, ptlBytes, ptlFits}
-use Rattle.full.specs.Read.{FullParsed, headWithPtl, vvcHead, vvcRecord, parseFull}
 use Rattle.record_arrays.specs.Read.{recordArray}
-use Rattle.full.specs.Write.{ptlPart, headBytes, fullBytes, ptlPartFits, headFits, recordFits, writeFull, serializeFull}
 use Rattle.record_arrays.specs.Write.{arrayBytes, arraysBytes, unitsFit, arrayFits, arraysFit}
-use Rattle.grouping.specs.Grouping.{havingType, without, firsts, grouped}
+use Rattle.full.specs.Read.{FullParsed, headWithPtl, vvcHead, vvcRecord, parseFull}
+use Rattle.full.specs.Write.{ptlPart, headBytes, fullBytes, ptlPartFits, headFits, recordFits, writeFull, serializeFull}
 use Rattle.expand.specs.Expand.{multiLayerVps, ptlOfSets, expandUnits, toFull}
 
 -- an SPS and a PPS

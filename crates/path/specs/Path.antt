@@ -9,6 +9,7 @@ use Rattle.parse.specs.Outcome.{Outcome, accept, overlay, lentOutput, counted}
 use Rattle.boxes.specs.Parts.{held, nowhere}
 use Rattle.boxes.specs.declared.Span.{Span}
 use Rattle.split.specs.Stream.{annexB, splitStream}
+use Rattle.grouping.specs.Order.{GroupedAs}
 use Rattle.compact.specs.Compact.{parseCompact}
 use Rattle.compact.specs.ItemData.{restore}
 use Rattle.compact.specs.declared.CompactVvcConfig.{CompactVvcConfig}
@@ -17,7 +18,6 @@ use Rattle.full.specs.Write.{serializeFull}
 use Rattle.full.specs.declared.VvcConfig.{VvcConfig}
 use Rattle.expand.specs.Expand.{toFull}
 use Rattle.expand.specs.declared.Picture.{Picture}
-use Rattle.grouping.specs.Order.{GroupedAs}
 use Rattle.access_unit.specs.AccessUnit.{assemble}
 use Rattle.path.specs.Still.{unitsIn, Still}
 

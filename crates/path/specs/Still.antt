@@ -7,13 +7,13 @@ use lib.ListN.{length, getD}
 use Rattle.parse.specs.Outcome.{accept}
 use Rattle.parse.specs.Parse.{Parsed, value, refused}
 use Rattle.boxes.specs.Parts.{held}
+use Rattle.boxes.specs.Bytes.{AllBytes}
 use Rattle.boxes.specs.declared.Span.{Span}
+use Rattle.grouping.specs.Order.{typeAt}
 use Rattle.compact.specs.Compact.{CompactParsed, compactRecord, parseCompact}
 use Rattle.compact.specs.declared.CompactVvcConfig.{CompactVvcConfig}
 use Rattle.expand.specs.Expand.{FullHead, toFull}
 use Rattle.expand.specs.declared.Picture.{Picture}
-use Rattle.grouping.specs.Order.{typeAt}
-use Rattle.boxes.specs.Bytes.{AllBytes}
 
 -- u does not contain 00 00 01 and does not end in 00
 pub record Clean (u : List ℕ) : Type 0 where

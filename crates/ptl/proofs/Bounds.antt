@@ -9,9 +9,9 @@ use lib.ListN.{length, getD, take, drop, replicate, length-append, length-drop}
 use lib.Seq.{getD-drop, length-take-le}
 use Rattle.parse.specs.Logic.{if_then_else_}
 use Rattle.parse.specs.Parse.{value, Parser, give, times}
-use Rattle.bit_reader.specs.Bits.{u, isSet}
-use Rattle.rbsp.proofs.Below.{Below}
 use Rattle.parse.proofs.Binds.{first-read}
+use Rattle.rbsp.proofs.Below.{Below}
+use Rattle.bit_reader.specs.Bits.{u, isSet}
 use Rattle.bit_reader.proofs.Numbers.{u-read}
 use Rattle.ptl.specs.Ptl.{padded, presentFlags, levels, withoutFlags, generalConstraintsInfo, constraintBytes, profileTierLevel}
 use Rattle.ptl.specs.inner.Sections.{general, constraints, sublayers, subProfiles, ptlOfSections}

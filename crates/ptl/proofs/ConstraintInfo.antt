@@ -9,12 +9,12 @@ use lib.ListN.{length, getD, take, drop, set, length-drop}
 use lib.Seq.{length-take-le, take-suc, getD-drop}
 use Rattle.parse.specs.Logic.{if_then_else_}
 use Rattle.parse.specs.Parse.{Parsed, value, bind, give}
+use Rattle.parse.proofs.Binds.{first-read}
 use Rattle.bit_reader.specs.Bits.{u, isSet, skip, align}
 use Rattle.bit_reader.specs.inner.Answers.{parsed, numberIn, placeIn, partAfter}
 use Rattle.bit_reader.specs.declared.BitPosition.{BitPosition}
 use Rattle.bit_reader.specs.declared.BitsRead.{BitsRead}
 use Rattle.bit_reader.specs.declared.BitsRead.the-variants.{Value, Refused}
-use Rattle.parse.proofs.Binds.{first-read}
 use Rattle.bit_reader.proofs.Chain.{bind-number, bind-next, bind-part, bind-next-part, place-told}
 use Rattle.bit_reader.proofs.Numbers.{u-read, skip-read, align-read}
 use Rattle.ptl.specs.Ptl.{padded, withoutFlags, constraintBits, generalConstraintsInfo, constraintBytes}

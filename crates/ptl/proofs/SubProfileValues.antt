@@ -8,10 +8,10 @@ use native.Mathlib.Omega.{arith}
 use lib.ListN.{length, take, drop, set, replicate, length-set, take-append-drop}
 use lib.Seq.{take-suc-set, drop-set-lt, drop-drop, append-snoc, length-take-le}
 use Rattle.parse.specs.Parse.{Parsed, value, refused, bind, Parser, times}
+use Rattle.parse.proofs.Binds.{bind-bind, same-first}
 use Rattle.bit_reader.specs.Bits.{u}
 use Rattle.bit_reader.specs.inner.Answers.{parsed, numberIn, partAfter}
 use Rattle.bit_reader.specs.declared.BitsRead.{BitsRead}
-use Rattle.parse.proofs.Binds.{bind-bind, same-first}
 use Rattle.bit_reader.proofs.Chain.{bind-next}
 use Rattle.ptl.specs.Ptl.{padded}
 use Rattle.ptl.specs.inner.Sections.{subProfiles}

@@ -8,10 +8,10 @@ use lib.Dec.{ltb}
 use lib.ListN.{length, drop, set, replicate, length-set, length-append}
 use Rattle.parse.specs.Logic.{if_then_else_}
 use Rattle.parse.specs.Parse.{Parsed, value, refused, bind, Parser, give}
+use Rattle.parse.proofs.Binds.{bind-bind, first-read, same-first}
 use Rattle.bit_reader.specs.Bits.{u, isSet}
 use Rattle.bit_reader.specs.inner.Answers.{parsed, numberIn, partAfter}
 use Rattle.bit_reader.specs.declared.BitsRead.{BitsRead}
-use Rattle.parse.proofs.Binds.{bind-bind, first-read, same-first}
 use Rattle.bit_reader.proofs.Chain.{bind-next, part-in}
 use Rattle.ptl.specs.Ptl.{padded, presentFlags, levels}
 use Rattle.ptl.specs.inner.Sections.{sublayers}

@@ -3,26 +3,26 @@ use mathlib.Core.Path.{_≡_, refl, ap, sym, _∙_}
 use mathlib.Core.List.{List}
 use Prim.Native.Nat.{ℕ, _+_, _%_, _<_}
 use native.Mathlib.Omega.{arith}
-use Rattle.parse.specs.Parse.{Parsed, value, refused, bind}
 use Rattle.error.specs.declared.Refusal.{Refusal}
+use Rattle.parse.specs.Parse.{Parsed, value, refused, bind}
+use Rattle.parse.specs.inner.Answers.{orZeros}
+use Rattle.parse.proofs.Binds.{bind-bind, first-read, same-first}
 use Rattle.bit_reader.specs.Bits.{u}
 use Rattle.bit_reader.specs.inner.Answers.{parsed, placeIn, partAfter}
 use Rattle.bit_reader.specs.declared.BitPosition.{BitPosition}
 use Rattle.bit_reader.specs.declared.BitsRead.{BitsRead}
 use Rattle.bit_reader.specs.declared.BitsRead.the-variants.{Value, Refused}
-use Rattle.parse.proofs.Binds.{bind-bind, first-read, same-first}
 use Rattle.bit_reader.proofs.Chain.{bind-next-part, place-told}
 use Rattle.bit_reader.proofs.Numbers.{u-read}
 use Rattle.ptl.specs.Ptl.{profileTierLevel, zeroPtl, constraintBytes}
 use Rattle.ptl.specs.inner.Sections.{general, constraints, sublayers, subProfiles, ptlOfSections}
+use Rattle.ptl.specs.inner.Answers.{ptlBitsOf}
 use Rattle.ptl.specs.declared.VvcPtlRecord.{VvcPtlRecord}
 use Rattle.ptl.specs.declared.PtlBits.{PtlBits}
 use Rattle.ptl.specs.declared.bits.General.{General}
 use Rattle.ptl.specs.declared.constraints.Constraints.{Constraints}
 use Rattle.ptl.specs.declared.sublayers.Sublayers.{Sublayers}
 use Rattle.ptl.specs.declared.sub_profiles.SubProfiles.{SubProfiles}
-use Rattle.ptl.specs.inner.Answers.{ptlBitsOf}
-use Rattle.parse.specs.inner.Answers.{orZeros}
 
 -- one section after the other
 abbrev pub inSections : ℕ → List ℕ → ℕ → Parsed VvcPtlRecord

@@ -13,11 +13,11 @@ ghost use mathlib.Core.Path.{_≡_};
 ghost use Prim.Native.Nat.{_%_, _≤_, _^_};
 ghost use lib.ListN.{length};
 ghost use Rattle.parse.specs.Parse.{bind};
+ghost use Rattle.parse.specs.inner.Answers.{orZeros};
 ghost use Rattle.bit_reader.specs.inner.Answers.{parsed, placeIn, partAfter};
 ghost use Rattle.ptl.specs.Ptl.{profileTierLevel, zeroPtl};
 ghost use Rattle.ptl.specs.inner.Sections.{general, ptlOfSections};
 ghost use Rattle.ptl.specs.inner.Answers.{ptlBitsOf};
-ghost use Rattle.parse.specs.inner.Answers.{orZeros};
 
 // Profile, tier and level of the whole stream.
 pub struct General {

@@ -15,8 +15,8 @@ use Rattle.ptl.specs.Ptl.{padded, withoutFlags}
 use Rattle.ptl.specs.declared.VvcPtlRecord.{VvcPtlRecord}
 use Rattle.ptl.proofs.Arrays.{length-padded}
 use Rattle.ptl_record.specs.Write.{constraintInfo, withFlags, hasLevel, flagByte, levelBytes, levelPart, subProfileBytes, ptlBytes, ptlFits}
-use Rattle.ptl_record.specs.inner.Places.{oneLevel}
 use Rattle.ptl_record.specs.AsWritten.{upTo, levelOf, asWritten}
+use Rattle.ptl_record.specs.inner.Places.{oneLevel}
 use Rattle.ptl_record.proofs.Writing.{info-long, levels-split, fitting}
 
 module _ {A : Type 0} where

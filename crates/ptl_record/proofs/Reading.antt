@@ -13,11 +13,11 @@ use Rattle.parse.specs.Logic.{if_then_else_}
 use Rattle.parse.specs.Parse.{Parsed, value, refused, bind, give, times}
 use Rattle.boxes.specs.Bytes.{be, uint}
 use Rattle.boxes.proofs.Fields.{uint-there, uint-short, bytes-there, bytes-short}
+use Rattle.boxes.proofs.Numbers.{be-one}
 use Rattle.bit_reader.specs.Bits.{isSet}
 use Rattle.ptl.specs.Ptl.{padded, presentFlags, levels}
 use Rattle.ptl_record.specs.Read.{octets, vvcPtlRecord}
 use Rattle.ptl_record.specs.inner.Places.{words, levelsLen, levelIf, levelsAt, flagsAt, levelsStart, countPlace, ptlEnd, ptlFields}
-use Rattle.boxes.proofs.Numbers.{be-one}
 
 -- x is a value that ends at q where q is within the bytes, and refusal 1 where it is not
 pub record Reach {A : Type 0} (end : ℕ) (x : Parsed A) (a : A) (q : ℕ) : Type 0 where

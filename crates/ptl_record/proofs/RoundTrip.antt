@@ -9,20 +9,20 @@ use lib.ListN.{length, getD, take, drop, length-append}
 use lib.Seq.{length-take-le, getD-take, getD-set-same}
 use borrow.Author.Tests.{eq-eqb, ne-eqb, ltb-false}
 use Rattle.parse.specs.Parse.{value}
+use Rattle.parse.specs.Logic.{bit}
 use Rattle.bit_reader.specs.Bits.{isSet}
 use Rattle.ptl.specs.Ptl.{padded, presentFlags, withoutFlags}
 use Rattle.ptl.specs.declared.VvcPtlRecord.{VvcPtlRecord}
 use Rattle.ptl_record.specs.Read.{vvcPtlRecord}
 use Rattle.ptl_record.specs.Write.{constraintInfo, withFlags, hasLevel, flagByte, levelBytes}
 use Rattle.ptl_record.specs.Write.{levelPart, subProfileBytes, ptlBytes, ptlFits, frontBytes}
-use Rattle.ptl_record.specs.inner.Places.{words, levelsLen, levelsAt, flagsAt, levelsStart, countPlace, ptlEnd, ptlFields}
 use Rattle.ptl_record.specs.AsWritten.{upTo, levelOf, asWritten}
+use Rattle.ptl_record.specs.inner.Places.{words, levelsLen, levelsAt, flagsAt, levelsStart, countPlace, ptlEnd, ptlFields}
 use Rattle.ptl_record.proofs.Reading.{reads-after}
 use Rattle.ptl_record.proofs.Writing.{Fitting, fitting, flagged, with-first, info-long, length-withFlags, length-front, length-ptl}
 use Rattle.ptl_record.proofs.AsWritten.{Canonical, kept, bytes-again}
 use Rattle.ptl_record.proofs.Standing.{Stands, stands-left, stands-right, stands-between, stands-head, stands-take, bit-le}
 use Rattle.ptl_record.proofs.Standing.{isSet-bit, flags-cleared, flag-small, len-back, flags-back, levels-back, words-back}
-use Rattle.parse.specs.Logic.{bit}
 
 -- a PTL whose fields fit their places and whose arrays are as the struct has them
 pub record Writable (p : VvcPtlRecord) : Type 0 where

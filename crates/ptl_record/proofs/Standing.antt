@@ -14,8 +14,8 @@ use Rattle.bit_reader.specs.Bits.{isSet}
 use Rattle.ptl.specs.Ptl.{presentFlags, withoutFlags}
 use Rattle.ptl.specs.declared.VvcPtlRecord.{VvcPtlRecord}
 use Rattle.ptl_record.specs.Write.{withFlags, hasLevel, flagByte, levelBytes, subProfileBytes}
-use Rattle.ptl_record.specs.inner.Places.{words, levelsLen, levelIf, levelsAt, oneLevel}
 use Rattle.ptl_record.specs.AsWritten.{upTo, levelOf}
+use Rattle.ptl_record.specs.inner.Places.{words, levelsLen, levelIf, levelsAt, oneLevel}
 use Rattle.ptl_record.proofs.Writing.{levels-split}
 
 -- xs lies in s at place i

@@ -6,9 +6,9 @@ use native.Mathlib.Nat.{sub-zero}
 use native.Mathlib.Omega.{arith}
 use lib.ListN.{length, getD, set, replicate, length-replicate}
 use lib.Seq.{sets}
+use Rattle.parse.proofs.General.{sets-front}
 use Rattle.ptl.specs.Ptl.{padded, withoutFlags}
 use Rattle.ptl.proofs.Arrays.{drop-replicate}
-use Rattle.parse.proofs.General.{sets-front}
 
 module _ {A : Type 0} where
   pub padded-none : (N : ℕ) (z : A) → replicate N z ≡ padded N z []

@@ -10,13 +10,13 @@ ghost use mathlib.Core.Bool.{false};
 ghost use mathlib.Core.Path.{_≡_};
 ghost use Prim.Native.Nat.{_+_, _*_, _%_, _^_, _≤_, _<_};
 ghost use lib.ListN.{length, getD, take, drop};
-ghost use Rattle.parse.specs.Parse.{refused as refusedBy};
 ghost use Rattle.error.specs.Refusals.{numberOf};
-ghost use Rattle.ptl.specs.Ptl.{padded, presentFlags, withoutFlags, zeroPtl};
-ghost use Rattle.ptl_record.specs.inner.Answers.{ptlRecordOf};
-ghost use Rattle.ptl_record.specs.Read.{vvcPtlRecord};
-ghost use Rattle.ptl_record.specs.inner.Places.{words, levelsLen, levelIf, levelsAt, flagsAt, levelsStart, ptlEnd, ptlFields};
+ghost use Rattle.parse.specs.Parse.{refused as refusedBy};
 ghost use Rattle.parse.specs.inner.Answers.{orZeros};
+ghost use Rattle.ptl.specs.Ptl.{padded, presentFlags, withoutFlags, zeroPtl};
+ghost use Rattle.ptl_record.specs.Read.{vvcPtlRecord};
+ghost use Rattle.ptl_record.specs.inner.Answers.{ptlRecordOf};
+ghost use Rattle.ptl_record.specs.inner.Places.{words, levelsLen, levelIf, levelsAt, flagsAt, levelsStart, ptlEnd, ptlFields};
 
 // The levels of the sublayers with their flags, and the place after them.
 pub struct SublayerLevels {

@@ -6,11 +6,11 @@ ghost use mathlib.Core.Path.{_≡_};
 ghost use Prim.Native.Nat.{_+_, _*_, _≤_, _<_};
 ghost use lib.ListN.{length, take};
 ghost use lib.Seq.{sets};
+ghost use Rattle.parse.specs.Logic.{bit};
 ghost use Rattle.ptl_record.specs.Write.{constraintInfo, withFlags, hasLevel, flagByte, levelBytes};
 ghost use Rattle.ptl_record.specs.Write.{levelPart, subProfileBytes, ptlBytes, ptlFits, frontBytes};
 ghost use Rattle.ptl_record.specs.inner.Places.{oneLevel};
 ghost use Rattle.ptl_record_write.specs.inner.Places.{firstConstraintByte};
-ghost use Rattle.parse.specs.Logic.{bit};
 
 // Whether every field fits its place.
 pub fn ptl_fits(p: VvcPtlRecord) -> bool

@@ -4,8 +4,8 @@ use mathlib.Core.List.{List, [], _∷_}
 use lib.ListN.{getD, drop}
 use lib.Seq.{getD-drop}
 use Rattle.parse.specs.Logic.{if_then_else_}
-use Rattle.rbsp.specs.Rbsp.{drops, nextZeros, unescape, rbsp}
 use Rattle.parse.proofs.General.{if-elim}
+use Rattle.rbsp.specs.Rbsp.{drops, nextZeros, unescape, rbsp}
 
 abbrev pub Below : ℕ → List ℕ → Type 0
 Below b l = (i : ℕ) → getD l i 0 < b

@@ -8,8 +8,8 @@ use native.Mathlib.Omega.{arith}
 use lib.Dec.{eqb}
 use lib.ListN.{length, getD, drop, drop-of-length-le}
 use lib.Seq.{drop-cons}
-use Rattle.rbsp.specs.Rbsp.{drops, nextZeros, unescape}
 use Rattle.parse.proofs.General.{if-elim}
+use Rattle.rbsp.specs.Rbsp.{drops, nextZeros, unescape}
 
 -- the byte at i, after z zeros
 module _ (z i : ℕ) (l : List ℕ) (h : i < length l) where

@@ -10,18 +10,18 @@ use lib.Seq.{getD-at}
 use borrow.Author.Tests.{leb-true, eqb-true}
 use Rattle.parse.specs.Logic.{if_then_else_}
 use Rattle.parse.specs.Parse.{value, times, give}
+use Rattle.parse.proofs.Many.{times-nil, times-step}
+use Rattle.parse.proofs.General.{both-true}
 use Rattle.boxes.specs.Bytes.{toBe, uint, chunk, toChunk}
 use Rattle.boxes.specs.Parts.{held}
 use Rattle.boxes.specs.declared.Span.{Span}
 use Rattle.boxes.proofs.Numbers.{length-toBe, be-toBe-at, be-one}
-use Rattle.parse.proofs.Many.{times-nil, times-step}
 use Rattle.boxes.proofs.Fields.{uint-there, chunk-toChunk, held-toChunk}
 use Rattle.unit_list.specs.UnitList.{Array, largestType, encodeUnits, heldArray, heldArrays}
 use Rattle.unit_list.proofs.Arrays.{Sound, sound-none, sound-more}
 use Rattle.unit_list.proofs.Encode.{placedUnits, length-toChunk}
 use Rattle.record_arrays.specs.Read.{holdsOne, recordArray}
 use Rattle.record_arrays.specs.Write.{arrayBytes, arraysBytes, unitsFit, arrayFits, arraysFit}
-use Rattle.parse.proofs.General.{both-true}
 
 -- one byte after others
 pub byte-there : (s pre post : List ℕ) (b p : ℕ) → s ≡ pre ++ (b ∷ post) → length pre ≡ p → uint 1 s p ≡ value b (p + 1)

@@ -7,15 +7,15 @@ use lib.ListN.{length, getD, set, length-set}
 use lib.Seq.{sets}
 use Rattle.parse.specs.Outcome.{Outcome, accept, refuse, lentOutput}
 use Rattle.parse.specs.Parse.{Parsed, value, refused, times, outcome}
+use Rattle.parse.specs.inner.Stores.{Puts}
+use Rattle.parse.proofs.Output.{output-short, output-fits}
 use Rattle.boxes.specs.declared.Span.{Span}
 use Rattle.boxes.proofs.Fields.{uint-short}
-use Rattle.parse.proofs.Output.{output-short, output-fits}
 use Rattle.unit_list.specs.UnitList.{Array, encode, heldArrays}
 use Rattle.record_arrays.specs.Read.{recordArray}
 use Rattle.record_arrays_read.specs.inner.Arrays.{countedArrays, listGiven, arraysInList, roomTaken, storedBytes}
 use Rattle.record_arrays_read.proofs.Repeated.{RoomFound, room-found, room-refused}
 use Rattle.record_arrays_read.proofs.RecordArrays.{byte-read}
-use Rattle.parse.specs.inner.Stores.{Puts}
 
 module _ (s : List ℕ) (at : ℕ) where
   pub arrays-absent : length s ≤ at → listGiven s (countedArrays s at) ≡ refuse 1

@@ -8,11 +8,15 @@ use lib.ListN.{length, getD, take, length-append}
 use lib.Seq.{sets, length-sets, take-length}
 use Rattle.parse.specs.Logic.{if_then_else_}
 use Rattle.parse.specs.Parse.{Parsed, value, refused, bind, give, times, outcome}
+use Rattle.parse.specs.Outcome.{accept}
+use Rattle.parse.specs.inner.Stores.{Puts}
+use Rattle.parse.proofs.General.{sets-append, sets-before}
 use Rattle.boxes.specs.Bytes.{be, uint, chunk, toBe, toChunk}
 use Rattle.boxes.specs.Parts.{held}
 use Rattle.boxes.specs.declared.Span.{Span}
 use Rattle.boxes.proofs.Numbers.{length-toBe, be-one}
 use Rattle.boxes.proofs.Fields.{uint-there, uint-short, chunk-read}
+use Rattle.boxes.proofs.Spans.{held-long}
 use Rattle.unit_list.specs.UnitList.{Array, encodeUnits, encodeArray, encodeArrays}
 use Rattle.unit_list.specs.inner.Walk.{chunkStepped}
 use Rattle.unit_list.specs.declared.ChunkRead.{ChunkRead}
@@ -20,17 +24,13 @@ use Rattle.unit_list.specs.declared.ChunkRead.the-variants as C
 use Rattle.unit_list.proofs.Encode.{length-toChunk}
 use Rattle.unit_list.proofs.Steps.{chunk-bytes, chunk-refused}
 use Rattle.record_arrays.specs.Read.{holdsOne, recordArray}
+use Rattle.record_arrays.specs.inner.Counts.{countLen}
 use Rattle.record_arrays_read.specs.inner.Arrays.{arrayHead, arrayHeadOf, ArrayHeadFits, unitsInList}
 use Rattle.record_arrays_read.specs.inner.Arrays.{arrayInList, arraysInList, roomTaken, storedBytes, StoredAt}
 use Rattle.record_arrays_read.specs.declared.ArrayHead.{ArrayHead}
 use Rattle.record_arrays_read.specs.declared.ArrayHeadRead.{ArrayHeadRead}
 use Rattle.record_arrays_read.specs.declared.ArrayHeadRead.the-variants as A
 use Rattle.record_arrays_read.specs.declared.list.Stored.{Stored}
-use Rattle.record_arrays.specs.inner.Counts.{countLen}
-use Rattle.parse.proofs.General.{sets-append, sets-before}
-use Rattle.parse.specs.Outcome.{accept}
-use Rattle.parse.specs.inner.Stores.{Puts}
-use Rattle.boxes.proofs.Spans.{held-long}
 
 -- reading a byte that is there
 pub byte-read : (s : List ℕ) (p : ℕ) → p < length s → uint 1 s p ≡ value (getD s p 0) (p + 1)

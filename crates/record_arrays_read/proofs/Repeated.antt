@@ -7,16 +7,16 @@ use native.Mathlib.Omega.{arith}
 use lib.ListN.{length, length-append}
 use lib.Seq.{sets}
 use Rattle.parse.specs.Parse.{Parsed, value, refused, bind, Parser, times, outcome}
+use Rattle.parse.specs.Outcome.{Outcome, accept}
+use Rattle.parse.specs.inner.Walk.{more}
+use Rattle.parse.specs.inner.Stores.{bytesOf, Puts}
 use Rattle.parse.proofs.Many.{times-nil, times-step, times-bad}
+use Rattle.parse.proofs.Stores.{Putting, putting-start, putting-never, putting-end, putting-room, putting-again}
+use Rattle.parse.proofs.Binds.{outcome-more}
 use Rattle.record_arrays_read.specs.inner.Arrays.{listRoomOf, RoomFits, roomTaken, placeAfter, StoredAt}
 use Rattle.record_arrays_read.specs.declared.room.ListRoom.{ListRoom}
 use Rattle.record_arrays_read.specs.declared.room.ListRoom.the-variants as M
 use Rattle.record_arrays_read.specs.declared.list.Stored.{Stored}
-use Rattle.parse.specs.Outcome.{Outcome, accept}
-use Rattle.parse.specs.inner.Walk.{more}
-use Rattle.parse.specs.inner.Stores.{bytesOf, Puts}
-use Rattle.parse.proofs.Stores.{Putting, putting-start, putting-never, putting-end, putting-room, putting-again}
-use Rattle.parse.proofs.Binds.{outcome-more}
 
 -- what a measurement says
 module _ {A : Type 0} (f : List ℕ → A → List ℕ) (s : List ℕ) where

@@ -14,8 +14,8 @@ ghost use Rattle.parse.specs.Logic.{if_then_else_};
 ghost use Rattle.parse.specs.Outcome.{lentOutput};
 ghost use Rattle.boxes.specs.Bytes.{be};
 ghost use Rattle.record_arrays.specs.Read.{holdsOne};
-ghost use Rattle.record_arrays_read.specs.inner.Arrays.{arrayHead, arrayHeadOf, ArrayHeadFits, countedArrays, listGiven, listOf};
 ghost use Rattle.record_arrays.specs.inner.Counts.{countLen};
+ghost use Rattle.record_arrays_read.specs.inner.Arrays.{arrayHead, arrayHeadOf, ArrayHeadFits, countedArrays, listGiven, listOf};
 
 // The number of units of an array of the type, from the count at place `at`; 1 where there is no count.
 fn unit_count(record: &[u8], at: usize, unit_type: u8) -> usize

@@ -8,10 +8,10 @@ ghost use Prim.Native.Nat.{_+_, _≤_, _^_};
 ghost use lib.ListN.{length};
 ghost use lib.Seq.{sets};
 ghost use Rattle.parse.specs.Parse.{times, outcome};
+ghost use Rattle.parse.specs.inner.Stores.{Puts};
 ghost use Rattle.boxes.specs.Bytes.{chunk};
 ghost use Rattle.record_arrays.specs.Read.{recordArray};
 ghost use Rattle.record_arrays_read.specs.inner.Arrays.{unitsInList, arrayInList, arraysInList, storedBytes, StoredAt};
-ghost use Rattle.parse.specs.inner.Stores.{Puts};
 
 // The places where reading and storing continue: in the record and in the output.
 pub struct Stored {

@@ -7,10 +7,12 @@ use native.Mathlib.Omega.{arith}
 use lib.ListN.{length, length-append}
 use Rattle.parse.specs.Logic.{if_then_else_}
 use Rattle.parse.specs.Outcome.{Outcome, accept, refuse, andThen}
+use Rattle.parse.specs.inner.Walk.{more}
 use Rattle.boxes.specs.Bytes.{toBe, toChunk}
 use Rattle.boxes.specs.Parts.{held}
 use Rattle.boxes.specs.declared.Span.{Span}
 use Rattle.boxes.proofs.Numbers.{length-toBe}
+use Rattle.boxes.proofs.Spans.{held-long}
 use Rattle.unit_list.specs.UnitList.{Array, encodeUnits, heldArray, heldArrays}
 use Rattle.unit_list.specs.inner.Walk.{arrayUnitsFrom, unitsStepped, UnitStepFits, arraysFrom, arraysStepped, ArrayStepFits, Fits, Entered}
 use Rattle.unit_list.specs.declared.ListCursor.{ListCursor}
@@ -21,14 +23,12 @@ use Rattle.unit_list.specs.declared.ArrayStep.the-variants as A
 use Rattle.unit_list.proofs.Encode.{length-toChunk}
 use Rattle.record_arrays.specs.Read.{holdsOne}
 use Rattle.record_arrays.specs.Write.{arrayBytes, arraysBytes, unitsFit, arrayFits, arraysFit}
+use Rattle.record_arrays.specs.inner.Counts.{countLen}
 use Rattle.record_arrays_write.specs.inner.Measures.{joined, nothing, unitMeasure, arrayBy, unitsMeasure, arraysMeasure}
 use Rattle.record_arrays_write.specs.inner.Measures.{measuredBy, afterMeasured, arrayMeasured, Takes, ArrayWithin}
 use Rattle.record_arrays_write.specs.declared.measure.Measure.{Measure}
 use Rattle.record_arrays_write.specs.declared.measure.ArrayMeasured.{ArrayMeasured}
 use Rattle.record_arrays_write.specs.declared.measure.ArrayMeasured.the-variants as R
-use Rattle.record_arrays.specs.inner.Counts.{countLen}
-use Rattle.parse.specs.inner.Walk.{more}
-use Rattle.boxes.proofs.Spans.{held-long}
 
 and-yes : (b : Bool) → b && true ≡ b
 and-yes true = refl

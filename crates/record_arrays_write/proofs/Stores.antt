@@ -11,11 +11,16 @@ use lib.Seq.{sets, length-sets}
 use types.Run.{OneOf}
 use denote.Enum.Declared.{tagOf}
 use Rattle.parse.specs.Outcome.{Outcome, accept, refuse, andThen}
+use Rattle.parse.specs.inner.Walk.{more}
+use Rattle.parse.specs.inner.Stores.{Puts, bytesOf}
+use Rattle.parse.proofs.General.{sets-append}
+use Rattle.parse.proofs.Stores.{puts-found, Putting, putting-start, putting-never, putting-end, putting-room, putting-again}
 use Rattle.boxes.specs.Bytes.{toBe, toChunk}
 use Rattle.boxes.specs.Parts.{held}
 use Rattle.boxes.specs.declared.Span.{Span}
 use Rattle.unit_list.specs.UnitList.{Array, largestType, heldArray}
 use Rattle.unit_list.specs.inner.Walk.{arrayUnitsFrom, unitsStepped, UnitStepFits, arraysFrom, arraysStepped, ArrayStepFits, Fits}
+use Rattle.unit_list.specs.inner.Written.{unitBytes}
 use Rattle.unit_list.specs.declared.ListCursor.{ListCursor}
 use Rattle.unit_list.specs.declared.ListStep.{ListStep}
 use Rattle.unit_list.specs.declared.ListStep.the-variants as L
@@ -23,17 +28,12 @@ use Rattle.unit_list.specs.declared.ArrayStep.{ArrayStep}
 use Rattle.unit_list.specs.declared.ArrayStep.the-variants as A
 use Rattle.unit_list.proofs.ListStep as list-step
 use Rattle.unit_list.proofs.ArrayStep as array-step
+use Rattle.unit_list.proofs.StoredUnits.{Copying, copying-start, copying-never, copying-done, copying-room, copying-again}
 use Rattle.record_arrays.specs.Read.{holdsOne}
 use Rattle.record_arrays.specs.Write.{arrayBytes, arraysBytes}
 use Rattle.record_arrays_write.specs.inner.Measures.{unitsMeasure, measuredBy, countBytes, arrayInRecord, arraysInRecord}
 use Rattle.record_arrays_write.specs.declared.measure.Measure.{Measure}
 use Rattle.record_arrays_write.proofs.Measures.{ahead, units-next, entered, arrayWith}
-use Rattle.parse.specs.inner.Walk.{more}
-use Rattle.parse.specs.inner.Stores.{Puts, bytesOf}
-use Rattle.parse.proofs.General.{sets-append}
-use Rattle.parse.proofs.Stores.{puts-found, Putting, putting-start, putting-never, putting-end, putting-room, putting-again}
-use Rattle.unit_list.specs.inner.Written.{unitBytes}
-use Rattle.unit_list.proofs.StoredUnits.{Copying, copying-start, copying-never, copying-done, copying-room, copying-again}
 
 -- ---- the units of an array
 

@@ -11,11 +11,11 @@ ghost use mathlib.Core.Path.{_≡_};
 ghost use Prim.Native.Nat.{_+_, _≤_};
 ghost use lib.ListN.{length};
 ghost use lib.Seq.{sets};
+ghost use Rattle.parse.specs.inner.Stores.{Puts, bytesOf};
 ghost use Rattle.unit_list.specs.UnitList.{largestType};
 ghost use Rattle.unit_list.specs.inner.Walk.{Fits, arrayUnitsFrom, arraysFrom};
-ghost use Rattle.record_arrays_write.specs.inner.Measures.{countBytes, arrayInRecord, arraysInRecord};
-ghost use Rattle.parse.specs.inner.Stores.{Puts, bytesOf};
 ghost use Rattle.unit_list.specs.inner.Written.{unitBytes};
+ghost use Rattle.record_arrays_write.specs.inner.Measures.{countBytes, arrayInRecord, arraysInRecord};
 
 // Stores the units after a cursor, up to the end of its array, and returns the place after them.
 fn put_units(list: &[u8], c: ListCursor, out: &mut [u8], to: usize) -> usize

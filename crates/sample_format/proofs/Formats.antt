@@ -9,10 +9,10 @@ use mathlib.Core.Logic.{⊎-elim}
 use lib.ListN.{length}
 use types.Run.{OneOf}
 use denote.Enum.Declared.{tagOf}
-use Rattle.parse.specs.Logic.{if_then_else_}
-use Rattle.parse.specs.Outcome.{Outcome, accept, refuse, andThen, handsBack}
 use Rattle.error.specs.Refusals.{numberOf}
 use Rattle.error.specs.declared.Refusal.{Refusal}
+use Rattle.parse.specs.Logic.{if_then_else_}
+use Rattle.parse.specs.Outcome.{Outcome, accept, refuse, andThen, handsBack}
 use Rattle.boxes.specs.Parts.{held}
 use Rattle.boxes.specs.Places.{Place, inFirst, inSecond, placeOf, nth, placeFound, PlaceFits}
 use Rattle.boxes.specs.declared.Span.{Span}
@@ -20,10 +20,10 @@ use Rattle.boxes.specs.declared.UnitPlace.{UnitPlace}
 use Rattle.boxes.specs.declared.UnitPlace.the-variants as U
 use Rattle.boxes.proofs.UnitPlace.{the-type}
 use Rattle.unit_list.specs.UnitList.{Array, decode, unitsOfType}
-use Rattle.sps.specs.Sps.{parseSps, zeroSps}
 use Rattle.params.specs.Answers.{paramsReadOf}
-use Rattle.sps.specs.Answers.{spsOf, spsGiven}
 use Rattle.params.specs.declared.ParamsAnswer.the-variants as A
+use Rattle.sps.specs.Sps.{parseSps, zeroSps}
+use Rattle.sps.specs.Answers.{spsOf, spsGiven}
 use Rattle.sps.specs.declared.SpsHead.{SpsHead}
 use Rattle.sps.specs.declared.SpsRead.{SpsRead}
 use Rattle.full.specs.Answers.{depthOf, bitDepth, spsPlace}

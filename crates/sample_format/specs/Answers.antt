@@ -1,6 +1,6 @@
 -- The outcome that the answer of `sample_format` means (SCOPE 4.3).
-use Rattle.parse.specs.Outcome.{Outcome, accept, refuse}
 use Rattle.error.specs.Refusals.{numberOf}
+use Rattle.parse.specs.Outcome.{Outcome, accept, refuse}
 use Rattle.sample_format.specs.Format.{Format}
 use Rattle.sample_format.specs.declared.SampleFormat.{SampleFormat}
 use Rattle.sample_format.specs.declared.SampleFormat.the-variants as S

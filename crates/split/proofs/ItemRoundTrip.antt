@@ -13,8 +13,8 @@ use Rattle.boxes.specs.declared.Span.{Span}
 use Rattle.boxes.proofs.Numbers.{length-toBe}
 use Rattle.boxes.proofs.Fields.{chunk-read, chunk-toChunk, held-toChunk}
 use Rattle.split.specs.Item.{splitItem, toItem}
-use Rattle.split.proofs.Items.{left-more, left-end, items-left, split-lent}
 use Rattle.split.specs.inner.Walk.{itemUnitsFrom}
+use Rattle.split.proofs.Items.{left-more, left-end, items-left, split-lent}
 
 -- no unit is empty, and the length of each fits `size` bytes
 abbrev pub AllFit : ℕ → List (List ℕ) → Type 0

@@ -9,28 +9,28 @@ use native.Mathlib.Omega.{arith}
 use native.Mathlib.Decide.{decLe}
 use lib.ListN.{length}
 use borrow.Author.Tests.{le-leb, lt-leb, eq-eqb, ne-eqb, lt-ltb}
-use Rattle.parse.specs.Outcome.{Outcome, accept, refuse}
+use types.Run.{OneOf}
+use denote.Enum.Declared.{tagOf}
 use Rattle.error.specs.Refusals.{numberOf}
 use Rattle.error.specs.declared.Refusal.{Refusal}
+use Rattle.parse.specs.Outcome.{Outcome, accept, refuse}
 use Rattle.parse.specs.Parse.{Parsed, value, refused, many}
+use Rattle.parse.specs.inner.Walk.{more}
+use Rattle.parse.proofs.Many.{Advances, many-nil, many-bad, many-step, many-induction}
+use Rattle.parse.proofs.Binds.{outcome-more}
 use Rattle.boxes.specs.Bytes.{be, outside}
 use Rattle.boxes.specs.Walk.{countFound}
 use Rattle.boxes.specs.declared.Span.{Span}
 use Rattle.boxes.proofs.Walk.{total}
 use Rattle.boxes.proofs.Fields.{uint-there, uint-short, bytes-there, bytes-short}
-use Rattle.parse.proofs.Many.{Advances, many-nil, many-bad, many-step, many-induction}
+use Rattle.boxes.proofs.PrefixSizes.{not-outside}
 use Rattle.split.specs.Item.{itemUnit, itemUnits, splitItem}
 use Rattle.split.specs.Answers.{Next, nextOf, unitRead, itemStep, nextItemUnit}
+use Rattle.split.specs.inner.Walk.{itemUnitsFrom, UnitAhead, Onward}
 use Rattle.split.specs.declared.NextUnit.{NextUnit}
 use Rattle.split.specs.declared.NextUnit.the-variants as N
-use types.Run.{OneOf}
-use denote.Enum.Declared.{tagOf}
 use Rattle.split.proofs.NextUnit.{the-type}
 use Rattle.split.proofs.Spans.{Apart}
-use Rattle.split.specs.inner.Walk.{itemUnitsFrom, UnitAhead, Onward}
-use Rattle.parse.specs.inner.Walk.{more}
-use Rattle.parse.proofs.Binds.{outcome-more}
-use Rattle.boxes.proofs.PrefixSizes.{not-outside}
 
 -- ### the unit at a place
 

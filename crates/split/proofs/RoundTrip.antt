@@ -14,11 +14,11 @@ use Rattle.nal.proofs.StartCodes.{scan-none, scan-then-code, scan-then-four}
 use Rattle.nal.proofs.Checks.{Splittable}
 use Rattle.split.specs.Item.{itemUnits, toItem}
 use Rattle.split.specs.Stream.{trim, streamUnitsFrom, annexB}
+use Rattle.split.specs.inner.Walk.{itemUnitsFrom}
 use Rattle.split.proofs.Trim.{trim-zero, trim-whole}
 use Rattle.split.proofs.Streams.{scan-stays, units-scan, units-end, step-unit}
 use Rattle.split.proofs.Items.{items-left}
 use Rattle.split.proofs.ItemRoundTrip.{placed, made-left}
-use Rattle.split.specs.inner.Walk.{itemUnitsFrom}
 
 -- ### streams
 

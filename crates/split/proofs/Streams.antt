@@ -9,23 +9,23 @@ use native.Mathlib.Decide.{decLe}
 use lib.ListN.{length, take, drop, length-take, length-drop, drop-of-length-le}
 use lib.Seq.{drop-drop}
 use borrow.Author.Tests.{le-leb, lt-leb, eq-eqb, ne-eqb}
-use Rattle.parse.specs.Outcome.{Outcome, accept, refuse, lentInput}
-use Rattle.parse.specs.Parse.{value, many}
 use Rattle.error.specs.Refusals.{numberOf}
 use Rattle.error.specs.declared.Refusal.{Refusal}
+use Rattle.parse.specs.Outcome.{Outcome, accept, refuse, lentInput}
+use Rattle.parse.specs.Parse.{value, many}
+use Rattle.parse.specs.inner.Walk.{more}
+use Rattle.parse.proofs.Many.{Advances, many-nil, many-step, many-induction}
 use Rattle.boxes.specs.Places.{inFirst, placeFound}
 use Rattle.boxes.specs.declared.Span.{Span}
-use Rattle.parse.proofs.Many.{Advances, many-nil, many-step, many-induction}
 use Rattle.boxes.proofs.Places.{nth-here, nth-next}
 use Rattle.nal.specs.StartCode.{scan, startCodeFrom}
 use Rattle.nal.proofs.StartCodes.{scan-le, scan-found, scan-first, scan-skip, scan-hit, drop-code}
 use Rattle.split.specs.Stream.{trim, segment, nonEmpty, allRead, streamUnitsFrom, splitStream}
 use Rattle.split.specs.Answers.{Next, firstNext, nextOf, nextGiven}
+use Rattle.split.specs.inner.Walk.{UnitAhead}
 use Rattle.split.specs.declared.NextUnit.{NextUnit}
 use Rattle.split.specs.declared.NextUnit.the-variants as N
 use Rattle.split.proofs.Trim.{trim-le}
-use Rattle.split.specs.inner.Walk.{UnitAhead}
-use Rattle.parse.specs.inner.Walk.{more}
 
 scan-nil : scan [] ≡ 0
 unfolding scan

@@ -4,10 +4,10 @@ use mathlib.Core.Path.{_≡_, refl, sym, ap, _∙_}
 use mathlib.Core.List.{List, []}
 use native.Mathlib.Omega.{arith}
 use Rattle.parse.specs.Outcome.{Outcome, accept, refuse}
+use Rattle.parse.specs.inner.Walk.{more}
 use Rattle.boxes.specs.Walk.{countFound, found}
 use Rattle.boxes.specs.declared.Span.{Span}
 use Rattle.boxes.proofs.Walk.{plus, total, count-more, found-here, found-next}
-use Rattle.parse.specs.inner.Walk.{more}
 
 -- counting, with n counted before; t is the answer
 module _ (n : ℕ) (t : Outcome ℕ) (o : Outcome (List Span)) (whole : plus n (countFound o) ≡ t) where

@@ -4,16 +4,16 @@ use mathlib.Core.List.{List, [], _∷_}
 use mathlib.Core.Option.{Option, none, some}
 use lib.Dec.{leb}
 use lib.ListN.{length}
+use Rattle.error.specs.Refusals.{numberOf}
 use Rattle.parse.specs.Logic.{if_then_else_}
 use Rattle.parse.specs.Outcome.{Outcome, accept, refuse, lentInput}
 use Rattle.parse.specs.Parse.{Parsed, value, refused}
-use Rattle.error.specs.Refusals.{numberOf}
+use Rattle.boxes.specs.Bytes.{outside}
 use Rattle.boxes.specs.declared.Span.{Span}
 use Rattle.split.specs.Item.{itemUnit}
 use Rattle.split.specs.Stream.{streamUnitsFrom}
 use Rattle.split.specs.declared.NextUnit.{NextUnit}
 use Rattle.split.specs.declared.NextUnit.the-variants as N
-use Rattle.boxes.specs.Bytes.{outside}
 
 -- the next unit from a place on, and the place to continue from
 pub record Next : Type 0 where

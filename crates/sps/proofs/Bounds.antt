@@ -9,24 +9,24 @@ use lib.ListN.{drop}
 use borrow.Author.Tests.{ltb-false}
 use Rattle.parse.specs.Outcome.{accept}
 use Rattle.parse.specs.Parse.{value, bind, refuseIf}
+use Rattle.parse.proofs.Binds.{first-read}
 use Rattle.rbsp.specs.Rbsp.{rbsp}
+use Rattle.rbsp.proofs.Below.{Below, rbsp-below}
 use Rattle.bit_reader.specs.Bits.{u, isSet, ue}
 use Rattle.bit_reader.specs.inner.Answers.{parsed, placeIn, partAfter}
 use Rattle.bit_reader.specs.declared.BitPosition.{BitPosition}
 use Rattle.bit_reader.specs.declared.BitsRead.{BitsRead}
 use Rattle.bit_reader.specs.declared.BitsRead.the-variants.{Value, Refused}
-use Rattle.rbsp.proofs.Below.{Below, rbsp-below}
-use Rattle.parse.proofs.Binds.{first-read}
 use Rattle.bit_reader.proofs.Numbers.{u-read}
 use Rattle.ptl.specs.Ptl.{zeroPtl}
 use Rattle.ptl.specs.declared.VvcPtlRecord.{VvcPtlRecord}
 use Rattle.ptl.proofs.Bounds.{Fits, ptl-fits}
+use Rattle.params.proofs.Units.{accepted}
 use Rattle.sps.specs.Sps.{spsHead, parseSps}
 use Rattle.sps.specs.inner.Sections.{ids, ptlWhere, size, windowWhere, depth, spsHeadOf}
 use Rattle.sps.specs.declared.SpsHead.{SpsHead}
 use Rattle.sps.specs.declared.sections.SpsIds.{SpsIds}
 use Rattle.sps.proofs.SpsSections.{sps-sections}
-use Rattle.params.proofs.Units.{accepted}
 
 -- where there was no refusal its test failed
 passed-test : (b : Bool) (n : ℕ) (s : List ℕ) (p : ℕ) {a : Unit {0}} {q : ℕ} → refuseIf b n s p ≡ value a q → b ≡ false

@@ -8,8 +8,8 @@ use lib.ListN.{take}
 use Rattle.bit_reader.specs.Bits.{u, isSet}
 use Rattle.bit_reader.proofs.Numbers.{u-read}
 use Rattle.bit_reader.proofs.Looks.{LooksWithin, local-u, local-ue, local-give, local-more, local-if, local-refuse-if, local-bind, local-bind-of}
-use Rattle.ptl.proofs.Looks.{local-ptl}
 use Rattle.ptl.specs.Ptl.{zeroPtl}
+use Rattle.ptl.proofs.Looks.{local-ptl}
 use Rattle.sps.specs.Sps.{window, noWindow, spsHead}
 
 -- ---- the bits

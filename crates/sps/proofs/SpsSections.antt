@@ -5,8 +5,8 @@ use Prim.Native.Nat.{ℕ}
 use lib.Dec.{ltb}
 use Rattle.parse.specs.Logic.{if_then_else_}
 use Rattle.parse.specs.Parse.{value, bind, give, refuseIf}
-use Rattle.bit_reader.specs.Bits.{u, isSet, ue}
 use Rattle.parse.proofs.Binds.{same-first, into-section}
+use Rattle.bit_reader.specs.Bits.{u, isSet, ue}
 use Rattle.sps.specs.Sps.{spsHead}
 use Rattle.sps.specs.inner.Sections.{ids, ptlWhere, size, windowWhere, depth, spsHeadOf}
 

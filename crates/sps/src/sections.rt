@@ -12,15 +12,15 @@ use ptl::PtlBits;
 ghost use mathlib.Core.Path.{_≡_};
 ghost use Prim.Native.Nat.{_%_, _≤_};
 ghost use lib.ListN.{length};
+ghost use Rattle.error.specs.Refusals.{numberOf};
 ghost use Rattle.parse.specs.Outcome.{refuse};
 ghost use Rattle.parse.specs.Parse.{bind};
-ghost use Rattle.error.specs.Refusals.{numberOf};
 ghost use Rattle.rbsp.specs.Rbsp.{rbsp};
 ghost use Rattle.bit_reader.specs.inner.Answers.{parsed, placeIn, partAfter};
+ghost use Rattle.params.specs.inner.Answers.{readOr};
 ghost use Rattle.sps.specs.Sps.{window, spsHead, zeroSps};
 ghost use Rattle.sps.specs.Answers.{spsOf};
 ghost use Rattle.sps.specs.inner.Sections.{ids, ptlWhere, size, windowWhere, windowOf, depth, spsHeadOf};
-ghost use Rattle.params.specs.inner.Answers.{readOr};
 
 // The fields before the PTL.
 pub struct SpsIds {

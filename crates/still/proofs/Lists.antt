@@ -10,29 +10,29 @@ use lib.ListN.{length, getD, length-append, length-map}
 use Rattle.parse.specs.Logic.{if_then_else_}
 use Rattle.parse.specs.Outcome.{Outcome, accept, refuse, andThen}
 use Rattle.boxes.specs.Parts.{held}
+use Rattle.boxes.specs.Bytes.{AllBytes}
 use Rattle.nal.specs.Header.{largestUnitType, typeOr31}
 use Rattle.unit_list.specs.UnitList.{Array, unitsOf, encode}
 use Rattle.unit_list.specs.Answers.{listUnits}
 use Rattle.unit_list.proofs.Encode.{UnitsRead, held-encode, decode-encode, units-encode}
+use Rattle.grouping.specs.Grouping.{grouped}
+use Rattle.grouping.proofs.GroupedFits.{Every, units-long, grouped-sound, grouped-few, grouped-count, every-grouped, grouped-long}
 use Rattle.compact.specs.ItemData.{restore}
 use Rattle.compact.specs.declared.CompactVvcConfig.{CompactVvcConfig}
 use Rattle.compact.proofs.Facts.{CompactFacts, compact-facts}
 use Rattle.compact.proofs.OneArray.{list-long}
+use Rattle.record_arrays.specs.Write.{arraysBytes}
 use Rattle.full.specs.Read.{parseFull}
 use Rattle.full.specs.Write.{headBytes, fullBytes, recordFits, writeFull, serializeFull}
-use Rattle.record_arrays.specs.Write.{arraysBytes}
 use Rattle.full.specs.declared.VvcConfig.{VvcConfig}
 use Rattle.full.proofs.RecordRoundTrip.{Typed, headRead, read-after-write}
-use Rattle.grouping.specs.Grouping.{grouped}
 use Rattle.expand.specs.Expand.{FullHead, expandedHead, withList, expandUnits, toFull}
 use Rattle.expand.specs.declared.Picture.{Picture}
-use Rattle.grouping.proofs.GroupedFits.{Every, units-long, grouped-sound, grouped-few, grouped-count, every-grouped, grouped-long}
 use Rattle.access_unit.specs.AccessUnit.{accessUnit, assemble}
 use Rattle.path.proofs.Units.{every-of, type-small}
 use Rattle.path.proofs.Expansion.{Expansion, expansion, of-units}
 use Rattle.path.proofs.Lengths.{head-long, arrays-long}
 use Rattle.still.specs.inner.Steps.{ReadFrom, ExpandedFrom, Plain, streamExpanded}
-use Rattle.boxes.specs.Bytes.{AllBytes}
 
 -- what full write accepts is the bytes of the record
 pub written-bytes : (h : VvcConfig) (xs : List (Array (List ℕ))) (b : List ℕ) → writeFull h xs ≡ accept b → fullBytes h xs ≡ b

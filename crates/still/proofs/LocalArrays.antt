@@ -11,22 +11,22 @@ use lib.Seq.{take-at}
 use Rattle.parse.specs.Logic.{if_then_else_}
 use Rattle.parse.specs.Outcome.{Outcome, accept, refuse, andThen, lentOutput, counted, handsBack}
 use Rattle.parse.specs.Parse.{outcome}
-use Rattle.boxes.specs.Walk.{countFound}
-use Rattle.boxes.specs.declared.Span.{Span}
 use Rattle.parse.proofs.Lent.{lent-too-long, lent-within}
+use Rattle.parse.proofs.Output.{output-accepted, output-not-accepted}
+use Rattle.boxes.specs.Walk.{countFound}
+use Rattle.boxes.specs.Bytes.{AllBytes}
+use Rattle.boxes.specs.declared.Span.{Span}
 use Rattle.compact.specs.Compact.{CompactParsed, compactRecord, parsedWith, parseCompact}
 use Rattle.compact.specs.declared.CompactVvcConfig.{CompactVvcConfig}
 use Rattle.full.specs.Read.{zeroHead}
 use Rattle.full.specs.Write.{serializeFull}
 use Rattle.full.specs.declared.VvcConfig.{VvcConfig}
 use Rattle.expand.specs.Expand.{FullHead, toFull}
-use Rattle.expand.specs.declared.Picture.{Picture}
 use Rattle.expand.specs.Answers.{expandedGiven}
+use Rattle.expand.specs.declared.Picture.{Picture}
 use Rattle.still.specs.Stills.{stillRecord, streamWith, anyPicture, stillStream}
 use Rattle.still.specs.inner.Steps.{ReadFrom, ExpandedFrom, recordFrom, streamExpanded, streamFrom}
 use Rattle.still.proofs.Lists.{list-short, expanded-short, expanded-count}
-use Rattle.boxes.specs.Bytes.{AllBytes}
-use Rattle.parse.proofs.Output.{output-accepted, output-not-accepted}
 
 module _ {A : Type 0} (o : Outcome (A × List ℕ)) (out : List ℕ) (fits : (a : A) (b : List ℕ) → o ≡ accept (a, b) → length b ≤ length out) where
   -- the bytes that were accepted are at the front

@@ -10,24 +10,24 @@ use borrow.Author.Tests.{le-leb}
 use Rattle.parse.specs.Logic.{if_then_else_}
 use Rattle.parse.specs.Outcome.{Outcome, accept, refuse, andThen, lentInput}
 use Rattle.parse.specs.Steps.{orRefuse}
+use Rattle.boxes.specs.Bytes.{AllBytes}
 use Rattle.boxes.specs.declared.Span.{Span}
 use Rattle.unit_list.specs.UnitList.{Array, decode, heldArrays, encode}
 use Rattle.ptl.specs.declared.VvcPtlRecord.{VvcPtlRecord}
 use Rattle.sps.specs.Sps.{parseSps}
 use Rattle.sps.specs.declared.SpsHead.{SpsHead}
+use Rattle.grouping.specs.Grouping.{havingType, firstElement, grouped}
 use Rattle.compact.specs.Compact.{CompactParsed, parseCompact}
 use Rattle.compact.specs.ItemData.{restore}
 use Rattle.compact.specs.declared.CompactVvcConfig.{CompactVvcConfig}
 use Rattle.full.specs.Write.{ptlPartFits, headFits, fullBytes, recordFits, writeFull, serializeFull}
-use Rattle.grouping.specs.Grouping.{havingType, firstElement, grouped}
 use Rattle.expand.specs.Expand.{FullHead, multiLayerVps, ptlOfSets, expandedHead, withList, expandUnits, toFull}
 use Rattle.expand.specs.declared.Picture.{Picture}
-use Rattle.access_unit.specs.AccessUnit.{accessUnit, assemble}
 use Rattle.expand.proofs.Expansion.{list-expanded}
+use Rattle.access_unit.specs.AccessUnit.{accessUnit, assemble}
 use Rattle.still.specs.Stills.{streamWith, anyPicture, stillStream}
 use Rattle.still.specs.inner.Steps.{ReadFrom, streamExpanded}
 use Rattle.still.proofs.Lists.{Ready, facts, us, expanded, ready}
-use Rattle.boxes.specs.Bytes.{AllBytes}
 
 -- accepted or refused, without the value
 abbrev done : {A : Type 0} → Outcome A → Outcome (Unit {0})

@@ -9,10 +9,10 @@ use mathlib.Core.List.{List, [], _∷_}
 use lib.ListN.{length}
 use borrow.Author.Tests.{le-leb, lt-leb}
 use Rattle.parse.specs.Outcome.{Outcome, accept, refuse, andThen}
+use Rattle.parse.proofs.Lent.{lent-within}
 use Rattle.boxes.specs.Bytes.{toChunk}
 use Rattle.boxes.specs.Walk.{countFound}
 use Rattle.boxes.specs.declared.Span.{Span}
-use Rattle.parse.proofs.Lent.{lent-within}
 use Rattle.split.specs.Item.{splitItem}
 use Rattle.split.proofs.Items.{split-lent}
 use Rattle.split.proofs.RoundTrip.{split-one, held-one}

@@ -26,6 +26,7 @@ pub record TwoCalls (C S C′ S′ : List ℕ) (pic pic′ : Picture) (tols tols
 
 -- The claim, for any two stills that meet the premises and any targets, with chroma at most 3, depth at most 15 and any dimensions.
 abbrev pub WholeCalls : Type 0
-WholeCalls = (C S C′ S′ : List ℕ) → Still C S → Still C′ S′ → (pic pic′ : Picture) → pic .«chroma_format_idc» ≤ 3 → pic .«bit_depth» ≤ 15
-    → pic′ .«chroma_format_idc» ≤ 3 → pic′ .«bit_depth» ≤ 15
+WholeCalls =
+    (C S C′ S′ : List ℕ) → Still C S → Still C′ S′
+    → (pic pic′ : Picture) → pic .«chroma_format_idc» ≤ 3 → pic .«bit_depth» ≤ 15 → pic′ .«chroma_format_idc» ≤ 3 → pic′ .«bit_depth» ≤ 15
     → (tols tols′ : Option ℕ) → TwoCalls C S C′ S′ pic pic′ tols tols′

@@ -9,12 +9,12 @@ use lib.Dec.{leb}
 use lib.ListN.{length, take, drop, length-append, length-drop}
 use lib.Seq.{take-all, take-length}
 use borrow.Author.Tests.{lt-ltb, le-ltb}
+use Rattle.error.specs.declared.Written.{Written}
+use Rattle.error.specs.declared.Written.the-variants as W
 use Rattle.parse.specs.Logic.{if_then_else_}
 use Rattle.parse.specs.Outcome.{Outcome, accept, refuse, overlay, lentOutput, counted}
 use Rattle.parse.specs.Parse.{Parsed, value, refused}
 use Rattle.parse.specs.Answers.{writtenOf}
-use Rattle.error.specs.declared.Written.{Written}
-use Rattle.error.specs.declared.Written.the-variants as W
 use Rattle.boxes.specs.Bytes.{chunk}
 use Rattle.boxes.specs.Parts.{held}
 use Rattle.boxes.specs.declared.Span.{Span}

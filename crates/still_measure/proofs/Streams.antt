@@ -6,14 +6,14 @@ use mathlib.Core.Option.{none}
 use mathlib.Core.List.{List, [], _∷_, _++_, map, append-nil}
 use lib.ListN.{length, length-append, length-map}
 use borrow.Author.Tests.{ne-eqb, le-ltb}
-use Rattle.parse.specs.Outcome.{Outcome, accept, refuse, andThen}
 use Rattle.error.specs.Refusals.{numberOf}
 use Rattle.error.specs.declared.Refusal.{Refusal}
+use Rattle.parse.specs.Outcome.{Outcome, accept, refuse, andThen}
 use Rattle.parse.specs.Parse.{many, manyUpTo}
+use Rattle.parse.proofs.Lent.{lent-too-long, lent-within}
 use Rattle.boxes.specs.Bytes.{toChunk}
 use Rattle.boxes.specs.Parts.{held}
 use Rattle.boxes.specs.Walk.{countFound}
-use Rattle.parse.proofs.Lent.{lent-too-long, lent-within}
 use Rattle.split.specs.Item.{itemUnits, splitItem}
 use Rattle.split.specs.Stream.{annexB}
 use Rattle.compact.specs.ItemData.{stillUnit}

@@ -6,6 +6,7 @@ use mathlib.Core.Option.{none}
 use mathlib.Core.List.{List, [], _++_}
 use lib.ListN.{length, getD, set}
 use lib.Seq.{sets}
+use Rattle.parse.proofs.General.{sets-append}
 use Rattle.boxes.specs.Bytes.{toBe}
 use Rattle.nal.specs.Header.{nalHeader}
 use Rattle.compact.specs.ItemData.{stillUnit}
@@ -16,7 +17,6 @@ use Rattle.access_unit_annex_b.specs.inner.Stream.{PutsStream}
 use Rattle.access_unit_annex_b.proofs.Putting.{puts-stream}
 use Rattle.still_measure.specs.inner.Plain.{Listed}
 use Rattle.still_measure.proofs.Streams.{known, front, front-found, front-long, streamBytes}
-use Rattle.parse.proofs.General.{sets-append}
 
 -- start code, header and stored bytes make the unit in the stream
 pub picture-stored : (S out d e f g : List ℕ) (at : ℕ) (header : List ℕ) → header ≡ nalHeader 8 0 1 → d ≡ sets out at (toBe 4 1)

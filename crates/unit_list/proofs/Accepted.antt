@@ -9,10 +9,10 @@ use Rattle.parse.specs.Outcome.{accept, refuse}
 use Rattle.parse.specs.Parse.{Parsed, value, refused, many, outcomeOr}
 use Rattle.boxes.specs.Parts.{nowhere}
 use Rattle.boxes.specs.declared.Span.{Span}
+use Rattle.boxes.proofs.Spans.{spanLengths}
 use Rattle.unit_list.specs.UnitList.{Array, array, decode, unitsOf, heldArrays}
 use Rattle.unit_list.proofs.Arrays.{Sound, sound-none, sound-more, room, arrays-lie, arrays-sound}
 use Rattle.unit_list.proofs.Left.{decode-too-long, decode-versionless, decode-arrays}
-use Rattle.boxes.proofs.Spans.{spanLengths}
 
 pub room-lengths : (us : List Span) → room 4 us ≡ 4 * length us + spanLengths us
 unfolding room

@@ -9,14 +9,14 @@ use lib.Seq.{getD-take, length-take-le}
 use borrow.Author.Tests.{lt-ltb, le-ltb}
 use Rattle.parse.specs.Outcome.{accept, refuse, andThen}
 use Rattle.parse.specs.Parse.{Parsed, value, refused, bind, Parser, many, outcomeOr}
+use Rattle.parse.specs.inner.Walk.{more}
+use Rattle.parse.proofs.Many.{Advances, many-nil, many-bad, many-step, many-induction}
 use Rattle.boxes.specs.Bytes.{uint, chunk, inside}
 use Rattle.boxes.specs.Parts.{nowhere}
 use Rattle.boxes.specs.declared.Span.{Span}
-use Rattle.parse.proofs.Many.{Advances, many-nil, many-bad, many-step, many-induction}
 use Rattle.boxes.proofs.Fields.{uint-there, uint-short, chunk-read, chunk-advances}
-use Rattle.unit_list.specs.UnitList.{Array, array, arrayRest, largestType, unitsOf}
-use Rattle.parse.specs.inner.Walk.{more}
 use Rattle.boxes.proofs.Numbers.{be-one}
+use Rattle.unit_list.specs.UnitList.{Array, array, arrayRest, largestType, unitsOf}
 
 -- each array's complete and type are small
 pub data Sound {U : Type 0} : List (Array U) → Type 0 where

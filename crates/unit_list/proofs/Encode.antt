@@ -7,11 +7,11 @@ use lib.ListN.{length, getD, take, length-append}
 use lib.Seq.{take-at, getD-at}
 use Rattle.parse.specs.Outcome.{Outcome, accept}
 use Rattle.parse.specs.Parse.{value, many, outcomeOr}
+use Rattle.parse.proofs.Many.{many-nil, many-step}
 use Rattle.boxes.specs.Bytes.{toBe, chunk, toChunk}
 use Rattle.boxes.specs.Parts.{held}
 use Rattle.boxes.specs.declared.Span.{Span}
 use Rattle.boxes.proofs.Numbers.{length-toBe}
-use Rattle.parse.proofs.Many.{many-nil, many-step}
 use Rattle.boxes.proofs.Fields.{chunk-toChunk, held-toChunk, chunk-advances}
 use Rattle.unit_list.specs.UnitList.{Array, array, largestType, decode, unitsOf, heldArray}
 use Rattle.unit_list.specs.UnitList.{heldArrays, encodeUnits, encodeArray, encodeArrays, encode}

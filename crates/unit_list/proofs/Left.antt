@@ -6,9 +6,11 @@ use native.Mathlib.Omega.{arith}
 use lib.ListN.{length, getD, take, length-take}
 use borrow.Author.Tests.{le-leb, lt-leb, eq-eqb, ne-eqb}
 use Rattle.parse.specs.Outcome.{Outcome, accept, refuse, andThen}
+use Rattle.parse.specs.inner.Walk.{more}
 use Rattle.boxes.specs.Bytes.{chunk}
 use Rattle.boxes.specs.declared.Span.{Span}
 use Rattle.boxes.proofs.Fields.{uint-there, uint-short}
+use Rattle.boxes.proofs.Numbers.{be-one}
 use Rattle.unit_list.specs.UnitList.{Array, unitList, decode}
 use Rattle.unit_list.specs.inner.Walk.{typed, typedUnits, typedList, typedUnitsFrom, arrayUnitsFrom, arraysFrom, front}
 use Rattle.unit_list.specs.inner.Walk.{arraysStepped, unitsStepped, stepped, Fits, Entered, ArrayStepFits, UnitStepFits, StepFits}
@@ -18,8 +20,6 @@ use Rattle.unit_list.specs.declared.ListStep.the-variants as L
 use Rattle.unit_list.specs.declared.ArrayStep.{ArrayStep}
 use Rattle.unit_list.specs.declared.ArrayStep.the-variants as A
 use Rattle.unit_list.proofs.Arrays.{run-nil}
-use Rattle.parse.specs.inner.Walk.{more}
-use Rattle.boxes.proofs.Numbers.{be-one}
 
 -- the start: too long, another version or none, and after the version
 pub decode-too-long : (s : List ℕ) → 2 ^ 30 < length s → decode s ≡ refuse 23

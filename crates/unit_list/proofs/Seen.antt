@@ -6,11 +6,11 @@ use mathlib.Core.List.{List, [], _∷_, _++_}
 use native.Mathlib.Omega.{arith}
 use lib.Dec.{eqb}
 use lib.ListN.{length, getD, length-append}
-use Rattle.parse.specs.Logic.{if_then_else_}
-use Rattle.parse.specs.Outcome.{Outcome, accept, refuse}
 use Rattle.error.specs.declared.Counted.the-variants.{Count, Refused}
 use Rattle.error.specs.declared.Refusal.{Refusal}
 use Rattle.error.specs.declared.Refusal.the-variants.{UnitList}
+use Rattle.parse.specs.Logic.{if_then_else_}
+use Rattle.parse.specs.Outcome.{Outcome, accept, refuse}
 use Rattle.boxes.specs.Parts.{nowhere}
 use Rattle.boxes.specs.declared.Span.{Span}
 use Rattle.boxes.proofs.Walk.{after, after-nil, done-more, done-end, done-refused, done-last}

@@ -7,6 +7,7 @@ use lib.ListN.{length, getD, take}
 use lib.Seq.{take-length, length-take-le}
 use Rattle.parse.specs.Outcome.{accept, refuse}
 use Rattle.parse.specs.Parse.{Parsed, value, refused}
+use Rattle.parse.specs.inner.Walk.{more}
 use Rattle.boxes.specs.Bytes.{be, chunk}
 use Rattle.boxes.specs.declared.Span.{Span}
 use Rattle.boxes.proofs.Numbers.{be-take}
@@ -19,7 +20,6 @@ use Rattle.unit_list.specs.declared.ChunkRead.{ChunkRead}
 use Rattle.unit_list.specs.declared.ChunkRead.the-variants as C
 use Rattle.unit_list.proofs.Arrays.{IsRefused, run-nil, run-step, run-refused, array-no-chunk}
 use Rattle.unit_list.proofs.Arrays.{array-short, array-complete, array-type, arrays-step}
-use Rattle.parse.specs.inner.Walk.{more}
 
 -- a chunk before an end
 module _ (w : ℕ) (s : List ℕ) (p e : ℕ) (h : e ≤ length s) where

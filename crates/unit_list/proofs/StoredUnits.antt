@@ -12,10 +12,10 @@ use Rattle.parse.proofs.Stores.{Putting, putting-start, putting-never, putting-
 use Rattle.boxes.specs.Bytes.{toChunk}
 use Rattle.boxes.specs.Parts.{held}
 use Rattle.boxes.specs.declared.Span.{Span}
+use Rattle.boxes.proofs.Spans.{held-long}
 use Rattle.unit_list.specs.UnitList.{encodeUnits}
 use Rattle.unit_list.specs.inner.Written.{unitBytes}
 use Rattle.unit_list.proofs.Encode.{length-toChunk}
-use Rattle.boxes.proofs.Spans.{held-long}
 
 -- a unit inside s after its length, alone and before others
 module _ (w : ℕ) (s : List ℕ) (a : Span) (inside : a .start + a .len ≤ length s) where

@@ -8,9 +8,10 @@ use native.Mathlib.Omega.{arith}
 use lib.ListN.{length}
 use types.Run.{OneOf}
 use denote.Enum.Declared.{tagOf}
-use Rattle.parse.specs.Outcome.{Outcome, accept, refuse}
 use Rattle.error.specs.Refusals.{numberOf}
 use Rattle.error.specs.declared.Refusal.{Refusal}
+use Rattle.parse.specs.Outcome.{Outcome, accept, refuse}
+use Rattle.parse.specs.inner.Walk.{more}
 use Rattle.boxes.specs.declared.Span.{Span}
 use Rattle.unit_list.specs.UnitList.{decode}
 use Rattle.unit_list.specs.Answers.{listUnits}
@@ -25,7 +26,6 @@ use Rattle.unit_list.specs.declared.Wanted.{Wanted}
 use Rattle.unit_list.specs.declared.Wanted.the-variants.{Every}
 use Rattle.unit_list.proofs.ListStep.{the-type}
 use Rattle.unit_list.proofs.Units.{list-every}
-use Rattle.parse.specs.inner.Walk.{more}
 
 -- the first unit is wanted, or it is not
 module _ (w : Wanted) (x : TypedUnit) where

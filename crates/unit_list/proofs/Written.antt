@@ -5,9 +5,9 @@ use mathlib.Core.List.{List, [], _∷_, _++_}
 use native.Mathlib.Omega.{arith}
 use lib.ListN.{length, set}
 use lib.Seq.{sets}
+use Rattle.parse.proofs.General.{sets-append}
 use Rattle.boxes.specs.Bytes.{toBe, toChunk}
 use Rattle.boxes.proofs.Numbers.{length-toBe}
-use Rattle.parse.proofs.General.{sets-append}
 
 -- a number of w bytes, and bytes after it
 sets-after : (d : List ℕ) (p w n : ℕ) (u : List ℕ) → sets (sets d p (toBe w n)) (p + w) u ≡ sets d p (toBe w n ++ u)

@@ -8,10 +8,10 @@ use lib.Dec.{eqb}
 use lib.ListN.{drop}
 use Rattle.parse.specs.Outcome.{accept}
 use Rattle.parse.specs.Parse.{value, refuseIf}
-use Rattle.rbsp.specs.Rbsp.{rbsp}
-use Rattle.bit_reader.specs.Bits.{u, align}
-use Rattle.rbsp.proofs.Below.{Below, rbsp-below}
 use Rattle.parse.proofs.Binds.{first-read}
+use Rattle.rbsp.specs.Rbsp.{rbsp}
+use Rattle.rbsp.proofs.Below.{Below, rbsp-below}
+use Rattle.bit_reader.specs.Bits.{u, align}
 use Rattle.bit_reader.proofs.Numbers.{u-read}
 use Rattle.ptl.specs.declared.VvcPtlRecord.{VvcPtlRecord}
 use Rattle.ptl.proofs.Bounds.{Fits, ptl-fits}

@@ -6,11 +6,12 @@ use Prim.Native.Nat.{ℕ, _%_, _≤_}
 use native.Mathlib.Omega.{arith}
 use lib.Dec.{eqb}
 use Rattle.parse.specs.Parse.{Parsed, value, refused, bind, refuseIf, outcome}
+use Rattle.parse.specs.inner.Answers.{orZeros}
+use Rattle.parse.proofs.Binds.{first-read, into-section}
 use Rattle.bit_reader.specs.Bits.{u, align}
 use Rattle.bit_reader.specs.inner.Answers.{parsed, numberIn, placeIn, partAfter}
 use Rattle.bit_reader.specs.declared.BitsRead.{BitsRead}
 use Rattle.bit_reader.specs.declared.BitsRead.the-variants.{Value, Refused}
-use Rattle.parse.proofs.Binds.{first-read, into-section}
 use Rattle.bit_reader.proofs.Chain.{bind-number}
 use Rattle.bit_reader.proofs.Numbers.{u-read, align-read}
 use Rattle.ptl.specs.Ptl.{profileTierLevel, zeroPtl}
@@ -18,11 +19,10 @@ use Rattle.ptl.specs.inner.Answers as bits
 use Rattle.ptl.specs.declared.PtlBits.{PtlBits}
 use Rattle.ptl.specs.declared.VvcPtlRecord.{VvcPtlRecord}
 use Rattle.params.specs.Answers.{paramsReadOf}
+use Rattle.params.specs.inner.Answers.{readOr}
 use Rattle.params.specs.declared.ParamsAnswer.{ParamsAnswer}
 use Rattle.vps.specs.Vps.{vpsPtl}
-use Rattle.params.specs.inner.Answers.{readOr}
 use Rattle.vps.specs.inner.Front.{paramsAnswerOf, vpsFront}
-use Rattle.parse.specs.inner.Answers.{orZeros}
 
 -- the front and the PTL make up the VPS
 pub vps-sections : (s : List ℕ) (p : ℕ) → vpsPtl s p ≡ bind (vpsFront s p) (λ m q. profileTierLevel m s q)

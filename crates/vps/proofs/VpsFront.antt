@@ -8,9 +8,9 @@ use lib.Dec.{eqb}
 use lib.ListN.{length}
 use borrow.Author.Tests.{eq-eqb, ne-eqb}
 use denote.Ref.{RefT, now}
+use Rattle.error.specs.declared.Refusal.{Refusal}
 use Rattle.parse.specs.Logic.{if_then_else_}
 use Rattle.parse.specs.Parse.{Parsed, value, refused, bind, Parser, refuseIf}
-use Rattle.error.specs.declared.Refusal.{Refusal}
 use Rattle.bit_reader.specs.Bits.{u, skip, align}
 use Rattle.bit_reader.specs.inner.Answers.{parsed}
 use Rattle.bit_reader.specs.inner.Reader.{skipping, readerPlaceAfter, Stepped, AlignedFrom}

@@ -2,8 +2,8 @@
 use Prim.Native.Nat.{ℕ}
 use mathlib.Core.List.{List}
 use Rattle.parse.specs.Outcome.{Outcome, handsBack}
-use Rattle.ptl.specs.Ptl.{zeroPtl}
 use Rattle.bit_reader.specs.declared.BitsRead.the-variants as B
+use Rattle.ptl.specs.Ptl.{zeroPtl}
 use Rattle.ptl.specs.declared.VvcPtlRecord.{VvcPtlRecord}
 use Rattle.params.specs.Answers.{paramsReadOf}
 use Rattle.params.specs.declared.ParamsAnswer.the-variants as A

@@ -9,14 +9,14 @@ use params::ParamsAnswer;
 ghost use mathlib.Core.Path.{_≡_};
 ghost use Prim.Native.Nat.{_≤_};
 ghost use lib.ListN.{length};
-ghost use Rattle.parse.specs.Outcome.{refuse};
 ghost use Rattle.error.specs.Refusals.{numberOf};
+ghost use Rattle.parse.specs.Outcome.{refuse};
 ghost use Rattle.rbsp.specs.Rbsp.{rbsp};
 ghost use Rattle.bit_reader.specs.inner.Answers.{parsed};
 ghost use Rattle.ptl.specs.Ptl.{zeroPtl};
+ghost use Rattle.params.specs.inner.Answers.{readOr};
 ghost use Rattle.vps.specs.Vps.{vpsPtl};
 ghost use Rattle.vps.specs.Answers.{vpsPtlOf};
-ghost use Rattle.params.specs.inner.Answers.{readOr};
 ghost use Rattle.vps.specs.inner.Front.{paramsAnswerOf, vpsFront, frontOf};
 
 // A refusal, with all zeros beside it.

@@ -12,8 +12,9 @@ use borrow.Author.Tests.{le-leb, lt-leb}
 use Rattle.parse.specs.Logic.{if_then_else_}
 use Rattle.parse.specs.Outcome.{Outcome, accept, refuse, andThen, lentOutput, counted, handsBack}
 use Rattle.parse.specs.Parse.{Parsed, value, refused}
-use Rattle.boxes.specs.declared.Span.{Span}
 use Rattle.parse.proofs.Lent.{lent-too-long, lent-within}
+use Rattle.parse.proofs.Output.{OutputAccepted, output-accepted}
+use Rattle.boxes.specs.declared.Span.{Span}
 use Rattle.unit_list.specs.UnitList.{Array, encode, heldArrays}
 use Rattle.full.specs.Read.{FullParsed, fullParsed, vvcRecord, parseFull, zeroHead}
 use Rattle.full.specs.declared.VvcConfig.{VvcConfig}
@@ -25,7 +26,6 @@ use Rattle.access_unit.specs.AccessUnit.{assemble}
 use Rattle.vvcc_c.specs.Exports.{writtenAnswer, writtenGiven, readBeside, scratchFilled, streamBeside}
 use Rattle.vvcc_c.specs.declared.VvccWritten.{VvccWritten}
 use Rattle.vvcc_c.proofs.Given.{given-refused, given-target}
-use Rattle.parse.proofs.Output.{OutputAccepted, output-accepted}
 
 -- ### a result of bytes in lent memory, and a call that continues with it
 

@@ -1,13 +1,13 @@
 -- `access_unit_count` counts the units of the access unit.
 use mathlib.Core.Path.{_≡_, sym, ap, _∙_}
+use borrow.Author.Needs.{needs}
+use native.Mathlib.Omega.{arith}
 use Rattle.access_unit.specs.Answers.{tolsOf}
 use Rattle.access_unit.specs.inner.Gathered.{sizesAnswerOf}
 use Rattle.access_unit.specs.declared.sizes.Sizes.{Sizes}
 use Rattle.access_unit.specs.declared.sizes.SizesAnswer.the-variants.{Sized}
 use Rattle.access_unit.proofs.Gathering.{Known, known, unknown, known-small}
 use Rattle.access_unit.proofs.Answering.{count-known, count-unknown}
-use borrow.Author.Needs.{needs}
-use native.Mathlib.Omega.{arith}
 use Rattle.access_unit.proofs.access_unit_count.Statement.{statement}
 use Rattle.access_unit.proofs.access_unit_count.Tie as tie
 

@@ -5,15 +5,16 @@ use mathlib.Core.List.{List, [], _∷_, _++_, map}
 use mathlib.Core.Option.{Option}
 use lib.Dec.{eqb}
 use lib.ListN.{length}
+use Rattle.error.specs.Refusals.{numberOf}
 use Rattle.parse.specs.Logic.{if_then_else_}
 use Rattle.parse.specs.Outcome.{Outcome, accept, refuse, andThen, lentInput}
 use Rattle.parse.specs.Steps.{_>>=_}
-use Rattle.error.specs.Refusals.{numberOf}
 use Rattle.boxes.specs.Parts.{held}
 use Rattle.boxes.specs.declared.Span.{Span}
 use Rattle.unit_list.specs.Answers.{listUnits}
 use Rattle.split.specs.Item.{splitItem}
 use Rattle.split.specs.Stream.{annexB}
+use Rattle.split.specs.inner.Walk.{itemUnitsFrom}
 use Rattle.access_unit.specs.AccessUnit.{mayLead, keeps, leading, following, kept, Source, ofList, ofItem, heldIn, startCode}
 use Rattle.access_unit.specs.declared.sizes.UnitSum.{UnitSum}
 use Rattle.access_unit.specs.declared.sizes.Summed.{Summed}
@@ -21,7 +22,6 @@ use Rattle.access_unit.specs.declared.sizes.Summed.the-variants as S
 use Rattle.access_unit.specs.declared.sizes.Sizes.{Sizes}
 use Rattle.access_unit.specs.declared.sizes.SizesAnswer.{SizesAnswer}
 use Rattle.access_unit.specs.declared.sizes.SizesAnswer.the-variants as M
-use Rattle.split.specs.inner.Walk.{itemUnitsFrom}
 
 -- a prefix size, and a place from which the units of an item can be walked
 pub record Walks (size : ℕ) (item : List ℕ) (p : ℕ) : Type 0 where

@@ -1,17 +1,17 @@
 -- `access_unit_annex_b` writes the stream of the access unit, or returns the first refusal.
 use mathlib.Core.Path.{_≡_, sym, ap, _∙_}
 use lib.Seq.{sets}
+use borrow.Author.Needs.{needs}
+use native.Mathlib.Omega.{arith}
+use Rattle.parse.proofs.Output.{written-refused, written-short, written-fits}
 use Rattle.access_unit.specs.AccessUnit.{assemble}
 use Rattle.access_unit.specs.Answers.{tolsOf}
 use Rattle.access_unit.specs.inner.Gathered.{sizesAnswerOf}
 use Rattle.access_unit.specs.declared.sizes.Sizes.{Sizes}
 use Rattle.access_unit.specs.declared.sizes.SizesAnswer.the-variants.{Sized}
-use Rattle.parse.proofs.Output.{written-refused, written-short, written-fits}
 use Rattle.access_unit.proofs.Gathering.{Known, known, unknown, known-small}
 use Rattle.access_unit.proofs.Answering.{assemble-unknown, Assembled, assemble-known}
 use Rattle.access_unit_annex_b.proofs.Putting.{puts-stream}
-use borrow.Author.Needs.{needs}
-use native.Mathlib.Omega.{arith}
 use Rattle.access_unit_annex_b.proofs.access_unit_annex_b.Statement.{statement}
 use Rattle.access_unit_annex_b.proofs.access_unit_annex_b.Tie as tie
 

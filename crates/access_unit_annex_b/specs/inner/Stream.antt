@@ -6,11 +6,11 @@ use mathlib.Core.Option.{Option}
 use lib.ListN.{length, take, drop}
 use lib.Seq.{sets}
 use Rattle.parse.specs.Outcome.{Outcome, accept, andThen}
+use Rattle.parse.specs.inner.Stores.{bytesOf}
 use Rattle.boxes.specs.declared.Span.{Span}
 use Rattle.access_unit.specs.inner.Gathered.{Walks, keptLeft, Gathered, gather, sizesOf, bytesAt, gatheredBytes}
 use Rattle.access_unit.specs.declared.sizes.Sizes.{Sizes}
 use Rattle.access_unit_annex_b.specs.declared.stream.Places.{Places}
-use Rattle.parse.specs.inner.Stores.{bytesOf}
 
 -- the first n of the units found, and those after them
 abbrev pub firstUnits : ℕ → Outcome (List Span) → Outcome (List Span)

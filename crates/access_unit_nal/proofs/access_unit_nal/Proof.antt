@@ -1,10 +1,10 @@
 -- `access_unit_nal` returns the part of the list or of the item where unit k of the access unit lies.
 use mathlib.Core.Path.{subst}
+use borrow.Author.Needs.{needs}
 use Rattle.boxes.specs.Places.{PlaceFits}
 use Rattle.access_unit.specs.AccessUnit.{accessUnit}
 use Rattle.access_unit.specs.Answers.{tolsOf}
 use Rattle.access_unit_nal.proofs.Parts.{not-second, part-listed, part-kept}
-use borrow.Author.Needs.{needs}
 use Rattle.access_unit_nal.proofs.access_unit_nal.Statement.{statement}
 use Rattle.access_unit_nal.proofs.access_unit_nal.Tie as tie
 

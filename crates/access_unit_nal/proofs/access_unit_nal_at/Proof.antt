@@ -1,13 +1,13 @@
 -- `access_unit_nal_at` returns where unit k of the access unit lies.
 use mathlib.Core.Path.{ap, _∙_}
 use mathlib.Core.List.{List}
+use borrow.Author.Needs.{needs}
 use Rattle.parse.specs.Outcome.{Outcome}
 use Rattle.boxes.specs.Places.{placeFound}
 use Rattle.access_unit.specs.AccessUnit.{Source}
 use Rattle.access_unit.specs.Answers.{tolsOf}
 use Rattle.access_unit.proofs.Answering.{access-unit-is}
 use Rattle.access_unit_nal.specs.Answers.{sourcePlace}
-use borrow.Author.Needs.{needs}
 use Rattle.access_unit_nal.proofs.access_unit_nal_at.Statement.{statement}
 use Rattle.access_unit_nal.proofs.access_unit_nal_at.Tie as tie
 

@@ -5,8 +5,9 @@ use mathlib.Core.Logic.{_⊎_}
 use mathlib.Core.List.{List, []}
 use mathlib.Core.Option.{Option}
 use lib.ListN.{length}
-use Rattle.parse.specs.Outcome.{Outcome, accept, refuse}
 use Rattle.error.specs.Refusals.{numberOf}
+use Rattle.parse.specs.Outcome.{Outcome, accept, refuse}
+use Rattle.parse.specs.inner.Walk.{more}
 use Rattle.boxes.specs.declared.Span.{Span}
 use Rattle.split.specs.declared.NextUnit.{NextUnit}
 use Rattle.split.specs.declared.NextUnit.the-variants as N
@@ -14,7 +15,6 @@ use Rattle.access_unit.specs.inner.Gathered.{keptLeft}
 use Rattle.access_unit.specs.declared.sizes.Sizes.{Sizes}
 use Rattle.access_unit_nal.specs.declared.source.UnitNumber.{UnitNumber}
 use Rattle.access_unit_nal.specs.declared.source.UnitNumber.the-variants as K
-use Rattle.parse.specs.inner.Walk.{more}
 
 -- the kept units from a place on, by a step to the first of them
 abbrev pub keptStepped : ℕ → Option ℕ → List ℕ → NextUnit → Outcome (List Span)

@@ -1,9 +1,9 @@
 -- Internal: what the answers of reads say.
 use Prim.Native.Nat.{ℕ}
-use Rattle.parse.specs.Parse.{Parsed, value, refused, bind}
 use Rattle.error.specs.Refusals.{numberOf}
 use Rattle.error.specs.declared.Refusal.{Refusal}
 use Rattle.error.specs.declared.Refusal.the-variants.{BitsRunOut}
+use Rattle.parse.specs.Parse.{Parsed, value, refused, bind}
 use Rattle.bit_reader.specs.declared.BitsRead.{BitsRead}
 use Rattle.bit_reader.specs.declared.BitsRead.the-variants.{Value, Refused}
 

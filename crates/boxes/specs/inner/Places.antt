@@ -2,8 +2,8 @@
 use mathlib.Core.Option.{Option, none, some}
 use Rattle.parse.specs.Outcome.{Outcome, accept, refuse}
 use Rattle.boxes.specs.Parts.{nowhere}
-use Rattle.boxes.specs.declared.Span.{Span}
 use Rattle.boxes.specs.Places.{Place, inFirst, inSecond}
+use Rattle.boxes.specs.declared.Span.{Span}
 
 -- where the part lies; where there is no unit, it is the empty part, in the first slice
 abbrev pub lying : Outcome (Option Place) → Place

@@ -5,8 +5,8 @@ use mathlib.Core.List.{map}
 use native.Mathlib.Omega.{arith}
 use borrow.Author.Needs.{needs}
 use lib.Seq.{sets}
-use Rattle.boxes.specs.Parts.{held}
 use Rattle.parse.proofs.Output.{output-refused, output-short, output-fits}
+use Rattle.boxes.specs.Parts.{held}
 use Rattle.compact.specs.Compact.{oneArray, parseCompact, configOf}
 use Rattle.compact.specs.inner.Units.{recordUnits}
 use Rattle.compact.proofs.OneArray.{list-long}

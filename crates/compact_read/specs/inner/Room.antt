@@ -3,18 +3,18 @@ use Prim.Native.Nat.{ℕ, _+_, _%_, _^_, _≤_}
 use mathlib.Core.Path.{_≡_}
 use mathlib.Core.List.{List, [], map}
 use lib.ListN.{length, getD}
+use Rattle.error.specs.Refusals.{numberOf}
 use Rattle.parse.specs.Outcome.{Outcome, accept, refuse}
 use Rattle.parse.specs.Parse.{Parsed, value, refused}
-use Rattle.error.specs.Refusals.{numberOf}
 use Rattle.boxes.specs.Parts.{held}
 use Rattle.boxes.specs.declared.Span.{Span}
+use Rattle.unit_list.specs.inner.Written.{unitBytes}
 use Rattle.compact.specs.Compact.{oneArray, parseCompact}
 use Rattle.compact.specs.inner.Units.{recordUnits}
 use Rattle.compact_read.specs.declared.record_units.UnitsRoom.{UnitsRoom}
 use Rattle.compact_read.specs.declared.record_units.UnitsRoom.the-variants as R
 use Rattle.compact_read.specs.declared.record_units.RecordRoom.{RecordRoom}
 use Rattle.compact_read.specs.declared.record_units.RecordRoom.the-variants as M
-use Rattle.unit_list.specs.inner.Written.{unitBytes}
 
 -- n plus the bytes that the units read take in a list, and the place after them in the record
 abbrev pub measured : List ℕ → ℕ → Parsed (List Span) → Parsed ℕ

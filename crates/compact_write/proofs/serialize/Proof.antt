@@ -4,8 +4,8 @@ use mathlib.Core.Path.{ap, _∙_, subst}
 use mathlib.Core.List.{List}
 use borrow.Author.Needs.{needs}
 use Rattle.parse.specs.Outcome.{Outcome, lentOutput, counted}
-use Rattle.unit_list.specs.inner.Walk.{StartFits}
 use Rattle.parse.proofs.Output.{written-refused}
+use Rattle.unit_list.specs.inner.Walk.{StartFits}
 use Rattle.compact_write.proofs.ListUnits.{serialize-start, serialize-refused}
 use Rattle.compact_write.proofs.serialize.Statement.{statement}
 use Rattle.compact_write.proofs.serialize.Tie as tie

@@ -7,14 +7,14 @@ use lib.ListN.{length}
 use Rattle.parse.specs.Logic.{if_then_else_}
 use Rattle.parse.specs.Outcome.{Outcome, accept, refuse, andThen}
 use Rattle.boxes.specs.Parts.{held}
+use Rattle.boxes.specs.Bytes.{outside}
 use Rattle.boxes.specs.declared.Span.{Span}
+use Rattle.unit_list.specs.inner.Written.{unitBytes}
 use Rattle.compact.specs.Compact.{allAtMost, compactBytes}
 use Rattle.compact.specs.declared.CompactVvcConfig.{CompactVvcConfig}
 use Rattle.compact_write.specs.declared.list_units.RecordSum.{RecordSum}
 use Rattle.compact_write.specs.declared.list_units.ListSum.{ListSum}
 use Rattle.compact_write.specs.declared.list_units.ListSum.the-variants as L
-use Rattle.boxes.specs.Bytes.{outside}
-use Rattle.unit_list.specs.inner.Written.{unitBytes}
 
 -- a unit of len bytes added: count, bytes after a length of one byte, and whether every length fits one byte
 abbrev pub addingUnit : ℕ → RecordSum → RecordSum

@@ -1,7 +1,7 @@
 -- `cropped_size` is the size itself, or both sides cropped.
 use borrow.Author.Tests.{not-true, not-false}
-use Rattle.cropped_size.proofs.Cropping.{size-itself, size-inside}
 use borrow.Author.Needs.{needs}
+use Rattle.cropped_size.proofs.Cropping.{size-itself, size-inside}
 use Rattle.cropped_size.proofs.cropped_size.Statement.{statement}
 use Rattle.cropped_size.proofs.cropped_size.Tie as tie
 

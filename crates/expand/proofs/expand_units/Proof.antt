@@ -5,10 +5,10 @@ use mathlib.Core.List.{List}
 use borrow.Author.Needs.{needs}
 use Rattle.parse.specs.Outcome.{Outcome}
 use Rattle.ptl.specs.Ptl.{zeroPtl}
+use Rattle.grouping.specs.inner.Units.{unitsAt}
 use Rattle.full.specs.declared.VvcConfig.{VvcConfig}
 use Rattle.expand.specs.Expand.{FullHead}
 use Rattle.expand.specs.Answers.{expandedGiven}
-use Rattle.grouping.specs.inner.Units.{unitsAt}
 use Rattle.expand.specs.inner.ParameterSets.{withUnits, setsPtl}
 use Rattle.expand.proofs.SetsRead.{read-value, read-refusal, sets-read, sets-refused}
 use Rattle.expand.proofs.Expansion.{expanded-refused}

@@ -4,9 +4,9 @@ use native.Mathlib.Omega.{arith}
 use borrow.Author.Needs.{needs}
 use Rattle.parse.specs.Outcome.{Outcome}
 use Rattle.unit_list.specs.UnitList.{encode}
+use Rattle.grouping.specs.inner.Units.{unitsAt}
 use Rattle.full.specs.declared.VvcConfig.{VvcConfig}
 use Rattle.expand.specs.Expand.{FullHead}
-use Rattle.grouping.specs.inner.Units.{unitsAt}
 use Rattle.expand.proofs.Expansion.{expanded-short, expanded-fits}
 use Rattle.expand.proofs.put_expanded.Statement.{statement}
 use Rattle.expand.proofs.put_expanded.Tie as tie

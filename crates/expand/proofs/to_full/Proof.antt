@@ -4,10 +4,10 @@ use mathlib.Core.Path.{sym, ap, _∙_, subst}
 use mathlib.Core.List.{List}
 use borrow.Author.Needs.{needs}
 use Rattle.parse.specs.Outcome.{Outcome}
+use Rattle.grouping.specs.inner.Units.{startedUnits, StartReads}
 use Rattle.full.specs.declared.VvcConfig.{VvcConfig}
 use Rattle.expand.specs.Expand.{FullHead}
 use Rattle.expand.specs.Answers.{expandedGiven}
-use Rattle.grouping.specs.inner.Units.{startedUnits, StartReads}
 use Rattle.expand.proofs.Expansion.{expanded-refused, list-expanded, list-refused}
 use Rattle.expand.proofs.to_full.Statement.{statement}
 use Rattle.expand.proofs.to_full.Tie as tie

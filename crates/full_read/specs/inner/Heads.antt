@@ -1,8 +1,8 @@
 -- Internal: the head of a full record read, and the answer of the arrays joined with it.
 use Prim.Native.Nat.{ℕ}
+use Rattle.error.specs.Refusals.{numberOf}
 use Rattle.parse.specs.Outcome.{Outcome, accept, refuse}
 use Rattle.parse.specs.Parse.{Parsed, value, refused, Parser, _>>=_, give}
-use Rattle.error.specs.Refusals.{numberOf}
 use Rattle.boxes.specs.Bytes.{uint}
 use Rattle.ptl.specs.declared.VvcPtlRecord.{VvcPtlRecord}
 use Rattle.full.specs.Read.{FullParsed, zeroHead, headFields}

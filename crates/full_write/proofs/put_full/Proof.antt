@@ -1,8 +1,8 @@
 -- `put_full` returns 20 if the output is too short, else it stores the record part by part.
 use native.Mathlib.Omega.{arith}
 use borrow.Author.Needs.{needs}
-use Rattle.unit_list.specs.UnitList.{heldArrays}
 use Rattle.parse.proofs.Output.{written-short, written-fits}
+use Rattle.unit_list.specs.UnitList.{heldArrays}
 use Rattle.full.specs.Write.{fullBytes, serializeFull}
 use Rattle.full_write.proofs.Records.{head-room, arrays-put, record-stored}
 use Rattle.full_write.proofs.put_full.Statement.{statement}

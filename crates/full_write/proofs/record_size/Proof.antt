@@ -3,8 +3,8 @@ use Prim.Native.Nat.{ℕ}
 use mathlib.Core.Path.{sym, ap, subst, _∙_}
 use mathlib.Core.List.{List}
 use borrow.Author.Needs.{needs}
-use Rattle.parse.specs.Outcome.{Outcome, refuse}
 use Rattle.error.specs.Refusals.{numberOf}
+use Rattle.parse.specs.Outcome.{Outcome, refuse}
 use Rattle.unit_list.specs.inner.Walk.{StartFits, arraysStarted, arraysFrom}
 use Rattle.full_write.specs.inner.Record.{SizeOf}
 use Rattle.full_write.proofs.Records.{serialize-arrays}

@@ -4,8 +4,8 @@ use mathlib.Core.Path.{_≡_}
 use mathlib.Core.Bool.{true}
 use mathlib.Core.List.{List}
 use lib.ListN.{length}
-use Rattle.parse.specs.Outcome.{Outcome, accept, refuse, andThen}
 use Rattle.error.specs.Refusals.{numberOf}
+use Rattle.parse.specs.Outcome.{Outcome, accept, refuse, andThen}
 use Rattle.boxes.specs.declared.Span.{Span}
 use Rattle.unit_list.specs.UnitList.{Array, heldArrays}
 use Rattle.unit_list.specs.inner.Walk.{arraysFrom, Fits}

@@ -4,8 +4,8 @@ use mathlib.Core.Path.{_≡_}
 use mathlib.Core.List.{List, [], _∷_, map}
 use mathlib.Core.Option.{Option, none, some}
 use lib.ListN.{length}
-use Rattle.parse.specs.Outcome.{Outcome, accept, refuse, andThen}
 use Rattle.error.specs.Refusals.{numberOf}
+use Rattle.parse.specs.Outcome.{Outcome, accept, refuse, andThen}
 use Rattle.boxes.specs.Parts.{held}
 use Rattle.boxes.specs.declared.Span.{Span}
 use Rattle.nal.specs.Header.{largestUnitType, typeOr31}

@@ -4,10 +4,10 @@ use mathlib.Core.Path.{_≡_, sym, ap, _∙_, subst}
 use mathlib.Core.List.{List}
 use borrow.Author.Needs.{needs}
 use Rattle.parse.specs.Outcome.{Outcome, accept, lentOutput, counted}
+use Rattle.parse.proofs.Output.{written-refused}
 use Rattle.boxes.specs.Parts.{held}
 use Rattle.compact.specs.ItemData.{strip}
 use Rattle.item_data.specs.inner.Still.{payloadOf, PayloadFits}
-use Rattle.parse.proofs.Output.{written-refused}
 use Rattle.item_data.proofs.Stills.{strip-too-long, strip-copy, strip-unit}
 use Rattle.item_data.proofs.strip_item_data.Statement.{statement}
 use Rattle.item_data.proofs.strip_item_data.Tie as tie

@@ -5,10 +5,10 @@ use mathlib.Core.List.{List}
 use native.Mathlib.Omega.{arith}
 use mathlib.Core.Bool.{true, false}
 use lib.ListN.{length}
+use borrow.Author.Needs.{needs}
 use Rattle.parse.proofs.Lent.{lent-too-long, lent-within}
 use Rattle.nal.specs.StartCode.{endsInZero}
 use Rattle.nal.proofs.Checks.{unchecked-empty, unchecked-code, checked-end}
-use borrow.Author.Needs.{needs}
 use Rattle.nal.proofs.check_unit.Statement.{statement}
 use Rattle.nal.proofs.check_unit.Tie as tie
 

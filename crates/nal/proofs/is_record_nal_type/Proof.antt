@@ -1,8 +1,8 @@
 -- `is_record_nal_type` tells record kinds from the other kinds.
 use mathlib.Core.Path.{sym, ap, _∙_}
+use borrow.Author.Needs.{needs}
 use Rattle.nal.specs.Kinds.{isRecord}
 use Rattle.nal.proofs.UnitKinds.{not-record}
-use borrow.Author.Needs.{needs}
 use Rattle.nal.proofs.is_record_nal_type.Statement.{statement}
 use Rattle.nal.proofs.is_record_nal_type.Tie as tie
 

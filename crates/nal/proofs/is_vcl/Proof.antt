@@ -1,8 +1,8 @@
 -- `is_vcl` tells picture data from the other kinds.
 use mathlib.Core.Path.{sym, ap, _∙_}
+use borrow.Author.Needs.{needs}
 use Rattle.nal.specs.Kinds.{isPictureData}
 use Rattle.nal.proofs.UnitKinds.{not-picture}
-use borrow.Author.Needs.{needs}
 use Rattle.nal.proofs.is_vcl.Statement.{statement}
 use Rattle.nal.proofs.is_vcl.Tie as tie
 

@@ -1,7 +1,7 @@
 -- `opi_ols_idx` tests the length, and reads the payload.
 use mathlib.Core.Path.{_∙_}
-use Rattle.opi.proofs.Units.{opi-long, opi-short, opi-read}
 use borrow.Author.Needs.{needs}
+use Rattle.opi.proofs.Units.{opi-long, opi-short, opi-read}
 use Rattle.opi.proofs.opi_ols_idx.Statement.{statement}
 use Rattle.opi.proofs.opi_ols_idx.Tie as tie
 

@@ -1,6 +1,6 @@
 -- Internal: what the answers of this crate say.
-use Rattle.parse.specs.Parse.{Parsed, value, refused}
 use Rattle.error.specs.Refusals.{numberOf}
+use Rattle.parse.specs.Parse.{Parsed, value, refused}
 use Rattle.ptl.specs.declared.VvcPtlRecord.{VvcPtlRecord}
 use Rattle.ptl_record.specs.declared.PtlRecordAnswer.{PtlRecordAnswer}
 use Rattle.ptl_record.specs.declared.PtlRecordAnswer.the-variants as A

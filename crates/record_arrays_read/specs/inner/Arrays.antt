@@ -4,13 +4,15 @@ use mathlib.Core.Path.{_≡_}
 use mathlib.Core.List.{List}
 use lib.ListN.{length}
 use lib.Seq.{sets}
+use Rattle.error.specs.Refusals.{numberOf}
 use Rattle.parse.specs.Logic.{if_then_else_}
 use Rattle.parse.specs.Outcome.{Outcome, accept, refuse}
 use Rattle.parse.specs.Parse.{Parsed, value, refused, Parser, _>>=_, give, times, outcome}
-use Rattle.error.specs.Refusals.{numberOf}
+use Rattle.parse.specs.inner.Stores.{bytesOf}
 use Rattle.boxes.specs.Bytes.{uint}
 use Rattle.boxes.specs.declared.Span.{Span}
 use Rattle.unit_list.specs.UnitList.{Array, listWidth, heldArray, heldArrays, encodeArray, encodeArrays, encode}
+use Rattle.unit_list.specs.inner.Written.{unitBytes}
 use Rattle.record_arrays.specs.Read.{holdsOne, recordArray}
 use Rattle.record_arrays_read.specs.declared.ArrayHead.{ArrayHead}
 use Rattle.record_arrays_read.specs.declared.ArrayHeadRead.{ArrayHeadRead}
@@ -20,8 +22,6 @@ use Rattle.record_arrays_read.specs.declared.ListRead.the-variants as L
 use Rattle.record_arrays_read.specs.declared.room.ListRoom.{ListRoom}
 use Rattle.record_arrays_read.specs.declared.room.ListRoom.the-variants as M
 use Rattle.record_arrays_read.specs.declared.list.Stored.{Stored}
-use Rattle.parse.specs.inner.Stores.{bytesOf}
-use Rattle.unit_list.specs.inner.Written.{unitBytes}
 
 -- num_of_arrays and the arrays
 unfoldable pub countedArrays : Parser (List (Array Span))

@@ -15,12 +15,12 @@ use Rattle.unit_list.specs.inner.Walk.{arraysFrom, Fits}
 use Rattle.unit_list.specs.declared.ListCursor.{ListCursor}
 use Rattle.record_arrays.specs.Read.{holdsOne}
 use Rattle.record_arrays.specs.Write.{arrayBytes, arraysBytes, unitsFit, arraysFit}
+use Rattle.record_arrays.specs.inner.Counts.{countLen}
 use Rattle.record_arrays_write.specs.declared.measure.Measure.{Measure}
 use Rattle.record_arrays_write.specs.declared.measure.RecordMeasure.{RecordMeasure}
 use Rattle.record_arrays_write.specs.declared.measure.RecordMeasure.the-variants as M
 use Rattle.record_arrays_write.specs.declared.measure.ArrayMeasured.{ArrayMeasured}
 use Rattle.record_arrays_write.specs.declared.measure.ArrayMeasured.the-variants as A
-use Rattle.record_arrays.specs.inner.Counts.{countLen}
 
 -- the sum of two measures
 abbrev pub joined : Measure → Measure → Measure

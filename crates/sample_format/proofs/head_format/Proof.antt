@@ -1,6 +1,6 @@
 -- `head_format` returns the format of the head, or the refusal of its bit depth.
-use Rattle.sample_format.proofs.Formats.{head-given, head-refused}
 use borrow.Author.Needs.{needs}
+use Rattle.sample_format.proofs.Formats.{head-given, head-refused}
 use Rattle.sample_format.proofs.head_format.Statement.{statement}
 use Rattle.sample_format.proofs.head_format.Tie as tie
 

@@ -1,9 +1,9 @@
 -- `sample_format` returns the format of the head or that of the first SPS.
 use mathlib.Core.Path.{ap, _∙_}
 use denote.Ref.{now}
+use borrow.Author.Needs.{needs}
 use Rattle.sample_format.specs.Format.{spsFormatOf}
 use Rattle.sample_format.proofs.Formats.{list-refused, list-head, list-none, list-first, first-inside}
-use borrow.Author.Needs.{needs}
 use Rattle.sample_format.proofs.sample_format.Statement.{statement}
 use Rattle.sample_format.proofs.sample_format.Tie as tie
 

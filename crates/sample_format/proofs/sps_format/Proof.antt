@@ -1,7 +1,7 @@
 -- `sps_format` returns the format of an SPS, or its refusal.
 use denote.Ref.{now}
-use Rattle.sample_format.proofs.Formats.{sps-read, sps-refused}
 use borrow.Author.Needs.{needs}
+use Rattle.sample_format.proofs.Formats.{sps-read, sps-refused}
 use Rattle.sample_format.proofs.sps_format.Statement.{statement}
 use Rattle.sample_format.proofs.sps_format.Tie as tie
 

@@ -3,11 +3,11 @@ use Prim.Native.Nat.{ℕ}
 use mathlib.Core.Path.{_≡_, sym, ap, _∙_}
 use native.Mathlib.Omega.{arith}
 use borrow.Author.Needs.{needs}
+use Rattle.boxes.proofs.PrefixSizes.{size-inside}
 use Rattle.split.specs.Answers.{itemStep}
 use Rattle.split.proofs.Items.{step-end, next-too-long, next-outside, next-step}
 use Rattle.split.proofs.next_item_unit.Statement.{statement}
 use Rattle.split.proofs.next_item_unit.Tie as tie
-use Rattle.boxes.proofs.PrefixSizes.{size-inside}
 
 returns : tie.Need-returns
 returns c =

@@ -4,10 +4,10 @@ use mathlib.Core.Path.{_≡_, sym, ap, _∙_}
 use native.Mathlib.Omega.{arith}
 use borrow.Author.Needs.{needs}
 use Rattle.boxes.specs.Walk.{countFound}
+use Rattle.boxes.proofs.PrefixSizes.{size-inside}
 use Rattle.split.proofs.Items.{split-too-long, split-lent, items-outside, items-left}
 use Rattle.split.proofs.split_length_prefixed_count.Statement.{statement}
 use Rattle.split.proofs.split_length_prefixed_count.Tie as tie
-use Rattle.boxes.proofs.PrefixSizes.{size-inside}
 
 returns : tie.Need-returns
 returns c =

@@ -1,11 +1,11 @@
 -- `answer` writes the stream, which lies in the output, or the refusal.
-use Rattle.still_main.specs.Input.{inputStream}
-use Rattle.still_main.proofs.Inputs.{answer-within}
 use Prim.Native.Nat.{_≤_}
 use mathlib.Core.Path.{sym}
 use lib.ListN.{length}
 use lib.Seq.{length-take-le}
 use borrow.Author.Needs.{needs}
+use Rattle.still_main.specs.Input.{inputStream}
+use Rattle.still_main.proofs.Inputs.{answer-within}
 use Rattle.still_main.proofs.answer.Statement.{statement}
 use Rattle.still_main.proofs.answer.Tie as tie
 

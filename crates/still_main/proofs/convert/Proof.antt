@@ -1,12 +1,12 @@
 -- `convert` writes the stream, which lies in the output, to a file, or reports the refusal.
-use Rattle.still_main.proofs.Inputs.{answer-within}
-use Rattle.still.specs.Stills.{stillStream}
 use Prim.Native.Nat.{_≤_}
 use mathlib.Core.Path.{sym}
 use mathlib.Core.Option.{none}
 use lib.ListN.{length}
 use lib.Seq.{length-take-le}
 use borrow.Author.Needs.{needs}
+use Rattle.still.specs.Stills.{stillStream}
+use Rattle.still_main.proofs.Inputs.{answer-within}
 use Rattle.still_main.proofs.convert.Statement.{statement}
 use Rattle.still_main.proofs.convert.Tie as tie
 

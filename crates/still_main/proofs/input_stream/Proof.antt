@@ -1,14 +1,14 @@
 -- `input_stream` takes the input apart and returns the stream of its still.
-use Rattle.unit_list.specs.inner.Walk.{chunkStepped}
-use Rattle.parse.proofs.Output.{written-refused}
-use Rattle.still.proofs.LocalArrays.{given-as}
-use Rattle.still_main.specs.Input.{inputStream}
-use Rattle.still_main.proofs.Inputs.{input-too-long, inside, input-cut, input-given}
 use Prim.Native.Nat.{_+_, _≤_}
 use mathlib.Core.Path.{sym, ap, _∙_}
 use native.Mathlib.Omega.{arith}
 use lib.ListN.{length}
 use borrow.Author.Needs.{needs}
+use Rattle.parse.proofs.Output.{written-refused}
+use Rattle.unit_list.specs.inner.Walk.{chunkStepped}
+use Rattle.still.proofs.LocalArrays.{given-as}
+use Rattle.still_main.specs.Input.{inputStream}
+use Rattle.still_main.proofs.Inputs.{input-too-long, inside, input-cut, input-given}
 use Rattle.still_main.proofs.input_stream.Statement.{statement}
 use Rattle.still_main.proofs.input_stream.Tie as tie
 

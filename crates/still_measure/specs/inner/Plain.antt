@@ -4,8 +4,8 @@ use mathlib.Core.Path.{_≡_}
 use mathlib.Core.List.{List, []}
 use mathlib.Core.Option.{none}
 use lib.ListN.{length}
-use Rattle.parse.specs.Outcome.{accept, refuse}
 use Rattle.error.specs.Refusals.{numberOf}
+use Rattle.parse.specs.Outcome.{accept, refuse}
 use Rattle.boxes.specs.Bytes.{toChunk}
 use Rattle.boxes.specs.declared.Span.{Span}
 use Rattle.unit_list.specs.Answers.{listUnits}

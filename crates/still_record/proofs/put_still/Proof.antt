@@ -2,9 +2,9 @@
 use native.Mathlib.Omega.{arith}
 use mathlib.Core.Path.{sym, ap, _∙_}
 use borrow.Author.Needs.{needs}
+use Rattle.parse.proofs.Output.{written-refused}
 use Rattle.expand.specs.Answers.{expandAnswerOf}
 use Rattle.expand.specs.declared.ExpandAnswer.{ExpandAnswer}
-use Rattle.parse.proofs.Output.{written-refused}
 use Rattle.still.specs.inner.Steps.{recordFrom}
 use Rattle.still.proofs.LocalArrays.{Expanded, was-expanded, not-expanded, given-as, record-expanded, record-unexpanded}
 use Rattle.still_record.proofs.put_still.Statement.{statement}

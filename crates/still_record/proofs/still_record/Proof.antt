@@ -2,14 +2,14 @@
 use native.Mathlib.Omega.{arith}
 use mathlib.Core.Path.{sym, ap, _∙_}
 use borrow.Author.Needs.{needs}
+use Rattle.parse.proofs.Output.{written-refused}
+use Rattle.boxes.specs.Bytes.{AllBytes}
 use Rattle.compact.specs.Answers.{compactOf}
 use Rattle.compact.specs.declared.CompactRead.{CompactRead}
-use Rattle.parse.proofs.Output.{written-refused}
 use Rattle.still.specs.Stills.{stillRecord}
 use Rattle.still.proofs.LocalArrays.{Read, was-read, not-read, given-as, record-read, record-unread}
 use Rattle.still_record.proofs.still_record.Statement.{statement}
 use Rattle.still_record.proofs.still_record.Tie as tie
-use Rattle.boxes.specs.Bytes.{AllBytes}
 
 -- Earlier places of the function, each seen from a later one.
 abbrev start : (c : tie.After-parse) → tie.Start

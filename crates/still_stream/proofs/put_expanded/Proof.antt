@@ -1,13 +1,13 @@
 -- `put_expanded` returns the refusal of full write or restore, else it writes the stream of the item.
 use mathlib.Core.Path.{sym, ap, _∙_}
+use borrow.Author.Needs.{needs}
 use Rattle.parse.specs.Answers.{countOf}
-use Rattle.access_unit.specs.Answers.{tolsOf}
 use Rattle.parse.proofs.Output.{written-refused}
+use Rattle.access_unit.specs.Answers.{tolsOf}
 use Rattle.still.specs.inner.Steps.{streamExpanded}
 use Rattle.still.proofs.Lists.{ready}
 use Rattle.still.proofs.LocalArrays.{given-as}
 use Rattle.still.proofs.Steps.{stream-refused, stream-layers, stream-plain, plain-item}
-use borrow.Author.Needs.{needs}
 use Rattle.still_stream.proofs.put_expanded.Statement.{statement}
 use Rattle.still_stream.proofs.put_expanded.Tie as tie
 

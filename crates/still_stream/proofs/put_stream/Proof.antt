@@ -1,14 +1,14 @@
 -- `put_stream` expands into a local array that is long enough, and writes the stream of the result.
 use native.Mathlib.Omega.{arith}
 use mathlib.Core.Path.{sym, ap, _∙_}
+use borrow.Author.Needs.{needs}
+use Rattle.parse.proofs.Output.{written-refused}
 use Rattle.expand.specs.Answers.{expandAnswerOf}
 use Rattle.expand.specs.declared.ExpandAnswer.{ExpandAnswer}
 use Rattle.access_unit.specs.Answers.{tolsOf}
-use Rattle.parse.proofs.Output.{written-refused}
 use Rattle.still.specs.Stills.{anyPicture}
 use Rattle.still.specs.inner.Steps.{streamFrom}
 use Rattle.still.proofs.LocalArrays.{Expanded, was-expanded, not-expanded, given-as, stream-expanded, stream-unexpanded}
-use borrow.Author.Needs.{needs}
 use Rattle.still_stream.proofs.put_stream.Statement.{statement}
 use Rattle.still_stream.proofs.put_stream.Tie as tie
 

@@ -2,16 +2,16 @@
 -- result.
 use native.Mathlib.Omega.{arith}
 use mathlib.Core.Path.{sym, ap, _∙_}
+use borrow.Author.Needs.{needs}
+use Rattle.parse.proofs.Output.{written-refused}
+use Rattle.boxes.specs.Bytes.{AllBytes}
 use Rattle.compact.specs.Answers.{compactOf}
 use Rattle.compact.specs.declared.CompactRead.{CompactRead}
 use Rattle.access_unit.specs.Answers.{tolsOf}
-use Rattle.parse.proofs.Output.{written-refused}
 use Rattle.still.specs.Stills.{stillStream}
 use Rattle.still.proofs.LocalArrays.{Read, was-read, not-read, given-as, stream-too-long, stream-read, stream-unread}
-use borrow.Author.Needs.{needs}
 use Rattle.still_stream.proofs.still_stream.Statement.{statement}
 use Rattle.still_stream.proofs.still_stream.Tie as tie
-use Rattle.boxes.specs.Bytes.{AllBytes}
 
 -- Earlier places of the function, each seen from a later one.
 abbrev start : (c : tie.After-list) → tie.Start

@@ -3,9 +3,10 @@ use Prim.Native.Nat.{ℕ, _+_, _^_, _≤_}
 use mathlib.Core.Path.{_≡_}
 use mathlib.Core.List.{List, [], _∷_, _++_}
 use lib.ListN.{length, take}
+use Rattle.error.specs.Refusals.{numberOf}
 use Rattle.parse.specs.Outcome.{Outcome, accept, refuse, andThen}
 use Rattle.parse.specs.Parse.{Parsed, value, refused, many, outcomeOr}
-use Rattle.error.specs.Refusals.{numberOf}
+use Rattle.parse.specs.inner.Walk.{more}
 use Rattle.boxes.specs.Bytes.{chunk}
 use Rattle.boxes.specs.declared.Span.{Span}
 use Rattle.unit_list.specs.UnitList.{Array, array, largestType, listWidth, decode}
@@ -18,7 +19,6 @@ use Rattle.unit_list.specs.declared.ArrayStep.{ArrayStep}
 use Rattle.unit_list.specs.declared.ArrayStep.the-variants as A
 use Rattle.unit_list.specs.declared.ChunkRead.{ChunkRead}
 use Rattle.unit_list.specs.declared.ChunkRead.the-variants as C
-use Rattle.parse.specs.inner.Walk.{more}
 
 -- where a unit lies, and the type of its array
 pub record TypedUnit : Type 0 where

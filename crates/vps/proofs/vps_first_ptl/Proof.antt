@@ -1,10 +1,10 @@
 -- `vps_first_ptl` tests the length and the type, and reads the payload.
 use mathlib.Core.Path.{sym, _∙_}
 use native.Mathlib.Omega.{arith}
-use Rattle.ptl.specs.Ptl.{zeroPtl}
-use Rattle.vps.specs.Vps.{vpsPtl, vpsFirstPtl}
-use Rattle.params.proofs.Units.{unit-header, unit-long, unit-other, unit-read}
 use borrow.Author.Needs.{needs}
+use Rattle.ptl.specs.Ptl.{zeroPtl}
+use Rattle.params.proofs.Units.{unit-header, unit-long, unit-other, unit-read}
+use Rattle.vps.specs.Vps.{vpsPtl, vpsFirstPtl}
 use Rattle.vps.proofs.vps_first_ptl.Statement.{statement}
 use Rattle.vps.proofs.vps_first_ptl.Tie as tie
 

@@ -1,14 +1,14 @@
 -- Internal: the fields of a VPS before its PTL.
-use Rattle.bit_reader.specs.declared.BitsRead.{BitsRead}
-use Rattle.bit_reader.specs.declared.BitsRead.the-variants as B
-use Rattle.params.specs.declared.ParamsAnswer.{ParamsAnswer}
-use Rattle.params.specs.declared.ParamsAnswer.the-variants as A
 use mathlib.Core.Bool.{not}
 use Prim.Native.Nat.{ℕ}
 use lib.Dec.{eqb}
 use Rattle.parse.specs.Logic.{if_then_else_}
 use Rattle.parse.specs.Parse.{Parsed, value, refused, bind, Parser, _>>=_, _>>_, give, refuseIf}
 use Rattle.bit_reader.specs.Bits.{u, align}
+use Rattle.bit_reader.specs.declared.BitsRead.{BitsRead}
+use Rattle.bit_reader.specs.declared.BitsRead.the-variants as B
+use Rattle.params.specs.declared.ParamsAnswer.{ParamsAnswer}
+use Rattle.params.specs.declared.ParamsAnswer.the-variants as A
 
 -- the answer of a PTL's last read, without its number and the position
 abbrev pub paramsAnswerOf : BitsRead → ParamsAnswer

@@ -1,10 +1,10 @@
 -- `kept::agrees_with` compares an operating point with the target, if there is one.
 use mathlib.Core.Path.{sym, ap}
 use mathlib.Core.Option.{some}
+use borrow.Author.Needs.{needs}
 use Rattle.access_unit.specs.AccessUnit.{agrees}
 use Rattle.access_unit.specs.Answers.{tolsOf}
 use Rattle.access_unit.specs.declared.Target.{Target}
-use borrow.Author.Needs.{needs}
 use Rattle.access_unit.proofs.kept.agrees_with.Statement.{statement}
 use Rattle.access_unit.proofs.kept.agrees_with.Tie as tie
 

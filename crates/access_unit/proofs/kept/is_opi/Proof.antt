@@ -1,8 +1,8 @@
 -- `kept::is_opi` returns whether a kind is that of OPI units.
 use mathlib.Core.Path.{sym, ap}
+use borrow.Author.Needs.{needs}
 use Rattle.nal.specs.Kinds.{isRecordOf}
 use Rattle.nal.proofs.UnitKinds.{not-record}
-use borrow.Author.Needs.{needs}
 use Rattle.access_unit.proofs.kept.is_opi.Statement.{statement}
 use Rattle.access_unit.proofs.kept.is_opi.Tie as tie
 

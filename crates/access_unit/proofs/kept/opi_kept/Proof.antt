@@ -1,7 +1,7 @@
 -- `kept::opi_kept` returns whether an OPI unit of the item is kept.
 use mathlib.Core.Path.{_∙_}
-use Rattle.access_unit.proofs.Targets.{keeps-present, keeps-absent, keeps-never}
 use borrow.Author.Needs.{needs}
+use Rattle.access_unit.proofs.Targets.{keeps-present, keeps-absent, keeps-never}
 use Rattle.access_unit.proofs.kept.opi_kept.Statement.{statement}
 use Rattle.access_unit.proofs.kept.opi_kept.Tie as tie
 

@@ -1,6 +1,6 @@
 -- `kept::target_of` returns the target.
-use Rattle.access_unit.proofs.Targets.{target-caller, target-head, target-none}
 use borrow.Author.Needs.{needs}
+use Rattle.access_unit.proofs.Targets.{target-caller, target-head, target-none}
 use Rattle.access_unit.proofs.kept.target_of.Statement.{statement}
 use Rattle.access_unit.proofs.kept.target_of.Tie as tie
 

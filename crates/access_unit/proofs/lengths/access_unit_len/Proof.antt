@@ -1,13 +1,13 @@
 -- `lengths::access_unit_len` returns the length of the stream of the access unit.
 use mathlib.Core.Path.{_≡_, sym, ap, _∙_}
+use borrow.Author.Needs.{needs}
+use native.Mathlib.Omega.{arith}
 use Rattle.access_unit.specs.Answers.{tolsOf}
 use Rattle.access_unit.specs.inner.Gathered.{sizesAnswerOf}
 use Rattle.access_unit.specs.declared.sizes.Sizes.{Sizes}
 use Rattle.access_unit.specs.declared.sizes.SizesAnswer.the-variants.{Sized}
 use Rattle.access_unit.proofs.Gathering.{Known, known, unknown, known-small}
 use Rattle.access_unit.proofs.Answering.{length-known, length-unknown}
-use borrow.Author.Needs.{needs}
-use native.Mathlib.Omega.{arith}
 use Rattle.access_unit.proofs.lengths.access_unit_len.Statement.{statement}
 use Rattle.access_unit.proofs.lengths.access_unit_len.Tie as tie
 

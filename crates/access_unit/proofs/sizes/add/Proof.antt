@@ -1,8 +1,8 @@
 -- `sizes::add` adds one unit.
 use mathlib.Core.Logic.{⊎-elim}
-use Rattle.access_unit.proofs.Sums.{add-leads, add-last, add-after}
 use borrow.Author.Needs.{needs}
 use borrow.Author.Tests.{eqb-true, eqb-false}
+use Rattle.access_unit.proofs.Sums.{add-leads, add-last, add-after}
 use Rattle.access_unit.proofs.sizes.add.Statement.{statement}
 use Rattle.access_unit.proofs.sizes.add.Tie as tie
 

@@ -1,14 +1,14 @@
 -- `sizes::item_sum` sums the kept units of an item. Invariant: the sum is that of the units passed, and those left follow them.
 use Prim.Native.Nat.{_-_, _≤_}
 use lib.ListN.{length}
+use borrow.Author.Needs.{needs}
+use native.Mathlib.Omega.{arith}
 use Rattle.split.proofs.Items.{Turn, found-unit, found-end, found-refusal}
 use Rattle.access_unit.specs.Answers.{tolsOf}
 use Rattle.access_unit.specs.inner.Gathered.{keptLeft, itemSum}
 use Rattle.access_unit.proofs.KeptUnits.{over-end, over-refused}
 use Rattle.access_unit.proofs.Sums.{Summing, summing-start, summing-small, summing-kept}
 use Rattle.access_unit.proofs.Sums.{summing-end, summing-refused, item-sum-none, leading-le}
-use borrow.Author.Needs.{needs}
-use native.Mathlib.Omega.{arith}
 use Rattle.access_unit.proofs.sizes.item_sum.Statement.{statement}
 use Rattle.access_unit.proofs.sizes.item_sum.Tie as tie
 

@@ -1,11 +1,11 @@
 -- `sizes::list_sum` sums the units of a list.
 use mathlib.Core.Path.{ap, _∙_}
 use mathlib.Core.List.{List}
+use borrow.Author.Needs.{needs}
 use Rattle.parse.specs.Outcome.{Outcome, accept, andThen}
 use Rattle.boxes.specs.declared.Span.{Span}
-use Rattle.access_unit.specs.inner.Gathered.{listSum}
 use Rattle.unit_list.proofs.Turns.{start-fits, start-units, start-refused}
-use borrow.Author.Needs.{needs}
+use Rattle.access_unit.specs.inner.Gathered.{listSum}
 use Rattle.access_unit.proofs.sizes.list_sum.Statement.{statement}
 use Rattle.access_unit.proofs.sizes.list_sum.Tie as tie
 

@@ -2,14 +2,14 @@
 use Prim.Native.Nat.{_≤_, _^_}
 use mathlib.Core.Path.{_≡_, sym, ap, _∙_}
 use lib.ListN.{length}
+use borrow.Author.Needs.{needs}
+use native.Mathlib.Omega.{arith}
 use Rattle.parse.specs.Outcome.{Outcome, accept, andThen}
 use Rattle.access_unit.specs.Answers.{tolsOf}
 use Rattle.access_unit.specs.inner.Gathered.{summedOf, Gathered, sizesOf}
 use Rattle.access_unit.specs.declared.sizes.UnitSum.{UnitSum}
 use Rattle.access_unit.specs.declared.sizes.Summed.the-variants.{Sum}
 use Rattle.access_unit.proofs.Gathering.{gather-too-long, gather-list, Listed, gather-listed}
-use borrow.Author.Needs.{needs}
-use native.Mathlib.Omega.{arith}
 use Rattle.access_unit.proofs.sizes.measure.Statement.{statement}
 use Rattle.access_unit.proofs.sizes.measure.Tie as tie
 

@@ -1,18 +1,18 @@
 -- `sizes::measure_item` measures an access unit whose list is measured, or returns the first refusal.
 use Prim.Native.Nat.{_+_, _≤_, _^_}
 use mathlib.Core.Path.{_≡_, sym, ap, _∙_}
+use borrow.Author.Needs.{needs}
+use native.Mathlib.Omega.{arith}
 use Rattle.parse.specs.Outcome.{accept, andThen}
+use Rattle.boxes.proofs.PrefixSizes.{size-inside}
 use Rattle.access_unit.specs.Answers.{tolsOf}
 use Rattle.access_unit.specs.inner.Gathered.{keptLeft, itemSum, summedOf, bothSums, sizesWith}
 use Rattle.access_unit.specs.declared.sizes.UnitSum.{UnitSum}
 use Rattle.access_unit.specs.declared.sizes.Summed.{Summed}
 use Rattle.access_unit.specs.declared.sizes.Summed.the-variants.{Sum}
 use Rattle.access_unit.proofs.Gathering.{sizes-outside, sizes-left, item-sum-few, sums-none, sums-some}
-use borrow.Author.Needs.{needs}
-use native.Mathlib.Omega.{arith}
 use Rattle.access_unit.proofs.sizes.measure_item.Statement.{statement}
 use Rattle.access_unit.proofs.sizes.measure_item.Tie as tie
-use Rattle.boxes.proofs.PrefixSizes.{size-inside}
 
 -- Earlier places of the function, each seen from a later one.
 abbrev start : (c : tie.After-item-sum) → tie.Start

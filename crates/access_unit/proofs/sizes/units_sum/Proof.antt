@@ -2,14 +2,14 @@
 use Prim.Native.Nat.{_-_}
 use mathlib.Core.Bool.{false}
 use lib.ListN.{length}
-use Rattle.unit_list.specs.inner.Walk.{Fits}
-use Rattle.unit_list.specs.inner.Find.{unitsLeft}
-use Rattle.access_unit.specs.inner.Gathered.{listSum}
-use Rattle.unit_list.proofs.Turns.{ListTurn, list-found, list-end, list-malformed}
-use Rattle.access_unit.proofs.Sums.{Summing, summing-start, summing-small, summing-more}
-use Rattle.access_unit.proofs.Sums.{summing-end, summing-refused, list-sum-none, list-sum-more}
 use borrow.Author.Needs.{needs}
 use native.Mathlib.Omega.{arith}
+use Rattle.unit_list.specs.inner.Walk.{Fits}
+use Rattle.unit_list.specs.inner.Find.{unitsLeft}
+use Rattle.unit_list.proofs.Turns.{ListTurn, list-found, list-end, list-malformed}
+use Rattle.access_unit.specs.inner.Gathered.{listSum}
+use Rattle.access_unit.proofs.Sums.{Summing, summing-start, summing-small, summing-more}
+use Rattle.access_unit.proofs.Sums.{summing-end, summing-refused, list-sum-none, list-sum-more}
 use Rattle.access_unit.proofs.sizes.units_sum.Statement.{statement}
 use Rattle.access_unit.proofs.sizes.units_sum.Tie as tie
 

@@ -2,14 +2,14 @@
 use Prim.Native.Nat.{_+_, _-_, _≤_}
 use mathlib.Core.Path.{sym, _∙_}
 use lib.ListN.{length}
+use borrow.Author.Needs.{needs}
+use native.Mathlib.Omega.{arith}
 use Rattle.split.proofs.Items.{Turn, found-unit, found-none}
 use Rattle.access_unit.specs.Answers.{tolsOf}
 use Rattle.access_unit.specs.inner.Gathered.{keptLeft}
-use Rattle.access_unit_annex_b.specs.inner.Stream.{firstUnits, restUnits}
 use Rattle.access_unit.proofs.KeptUnits.{over-kept, over-dropped, over-nothing}
+use Rattle.access_unit_annex_b.specs.inner.Stream.{firstUnits, restUnits}
 use Rattle.access_unit_annex_b.proofs.Storing.{FirstLeft, first-start, first-end, first-room, first-more, first-on, first-some}
-use borrow.Author.Needs.{needs}
-use native.Mathlib.Omega.{arith}
 use Rattle.access_unit_annex_b.proofs.stream.put_kept.Statement.{statement}
 use Rattle.access_unit_annex_b.proofs.stream.put_kept.Tie as tie
 

@@ -1,9 +1,9 @@
 -- `stream::put_stream` stores the stream of an access unit: leading units, the list's units, the rest.
-use Rattle.access_unit.specs.Answers.{tolsOf}
-use Rattle.unit_list.proofs.Turns.{start-fits, start-units, start-refused}
-use Rattle.access_unit_annex_b.proofs.Putting.{puts-listable, lead-le, puts-leading, puts-listed, puts-following, put-whole}
 use borrow.Author.Needs.{needs}
 use native.Mathlib.Omega.{arith}
+use Rattle.unit_list.proofs.Turns.{start-fits, start-units, start-refused}
+use Rattle.access_unit.specs.Answers.{tolsOf}
+use Rattle.access_unit_annex_b.proofs.Putting.{puts-listable, lead-le, puts-leading, puts-listed, puts-following, put-whole}
 use Rattle.access_unit_annex_b.proofs.stream.put_stream.Statement.{statement}
 use Rattle.access_unit_annex_b.proofs.stream.put_stream.Tie as tie
 

@@ -1,13 +1,13 @@
 -- `stream::put_unit` stores a start code and a unit after it.
 use mathlib.Core.Path.{ap, _∙_}
-use Rattle.boxes.specs.Parts.{held}
 use lib.ListN.{length}
-use Rattle.access_unit_annex_b.proofs.Storing.{unit-stored}
 use borrow.Author.Needs.{needs}
 use native.Mathlib.Omega.{arith}
+use Rattle.boxes.specs.Parts.{held}
+use Rattle.boxes.proofs.Spans.{held-long}
+use Rattle.access_unit_annex_b.proofs.Storing.{unit-stored}
 use Rattle.access_unit_annex_b.proofs.stream.put_unit.Statement.{statement}
 use Rattle.access_unit_annex_b.proofs.stream.put_unit.Tie as tie
-use Rattle.boxes.proofs.Spans.{held-long}
 
 part-requires : tie.Need-part-requires
 part-requires c κs = search needs

@@ -1,15 +1,15 @@
 -- `stream::put_units` stores the units of a list after a cursor. Invariant: those stored and those left are the whole.
 use Prim.Native.Nat.{_-_}
 use lib.ListN.{length}
+use borrow.Author.Needs.{needs}
+use native.Mathlib.Omega.{arith}
+use Rattle.parse.proofs.Stores.{putting-start}
 use Rattle.unit_list.specs.inner.Walk.{Fits}
 use Rattle.unit_list.specs.inner.Find.{unitsLeft}
 use Rattle.unit_list.proofs.Turns.{ListTurn, list-found, list-none}
 use Rattle.access_unit_annex_b.proofs.Storing.{Remaining, remaining-room, remaining-more, remaining-end}
-use borrow.Author.Needs.{needs}
-use native.Mathlib.Omega.{arith}
 use Rattle.access_unit_annex_b.proofs.stream.put_units.Statement.{statement}
 use Rattle.access_unit_annex_b.proofs.stream.put_units.Tie as tie
-use Rattle.parse.proofs.Stores.{putting-start}
 
 abbrev Inv-loop : tie.InvT-loop
 Inv-loop list out₀ to here₀ end₀ out here end =

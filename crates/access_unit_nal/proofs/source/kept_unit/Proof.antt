@@ -2,14 +2,14 @@
 use Prim.Native.Nat.{_-_, _≤_, _<_}
 use mathlib.Core.Path.{_≡_, refl, ap}
 use lib.ListN.{length}
+use borrow.Author.Needs.{needs}
+use native.Mathlib.Omega.{arith}
 use Rattle.boxes.specs.Walk.{found}
 use Rattle.boxes.proofs.Walk.{total}
 use Rattle.split.proofs.Walks.{find-here, find-on}
 use Rattle.access_unit.specs.Answers.{tolsOf}
 use Rattle.access_unit.specs.inner.Gathered.{keptLeft}
 use Rattle.access_unit_nal.proofs.KeptWalk.{KeptTurn, kept-found, kept-none}
-use borrow.Author.Needs.{needs}
-use native.Mathlib.Omega.{arith}
 use Rattle.access_unit_nal.proofs.source.kept_unit.Statement.{statement}
 use Rattle.access_unit_nal.proofs.source.kept_unit.Tie as tie
 

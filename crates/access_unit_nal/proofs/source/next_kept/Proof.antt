@@ -2,14 +2,14 @@
 use Prim.Native.Nat.{_-_, _≤_}
 use mathlib.Core.Path.{_≡_, refl, sym, _∙_}
 use lib.ListN.{length}
-use Rattle.access_unit.specs.Answers.{tolsOf}
-use Rattle.access_unit.specs.inner.Gathered.{keptLeft}
-use Rattle.split.specs.declared.NextUnit.the-variants.{Unit}
-use Rattle.split.proofs.Items.{Turn, found-unit, found-onward}
-use Rattle.access_unit_nal.proofs.KeptWalk.{onward-earlier, over-none}
-use Rattle.access_unit.proofs.KeptUnits.{over-kept, over-dropped}
 use borrow.Author.Needs.{needs}
 use native.Mathlib.Omega.{arith}
+use Rattle.split.specs.declared.NextUnit.the-variants.{Unit}
+use Rattle.split.proofs.Items.{Turn, found-unit, found-onward}
+use Rattle.access_unit.specs.Answers.{tolsOf}
+use Rattle.access_unit.specs.inner.Gathered.{keptLeft}
+use Rattle.access_unit.proofs.KeptUnits.{over-kept, over-dropped}
+use Rattle.access_unit_nal.proofs.KeptWalk.{onward-earlier, over-none}
 use Rattle.access_unit_nal.proofs.source.next_kept.Statement.{statement}
 use Rattle.access_unit_nal.proofs.source.next_kept.Tie as tie
 

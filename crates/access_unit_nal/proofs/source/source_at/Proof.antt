@@ -1,6 +1,7 @@
 -- `source::source_at` returns where unit k of the access unit lies, by its number among the kept units or the list's.
 use Prim.Native.Nat.{ℕ}
 use mathlib.Core.Path.{refl, sym, ap, _∙_, subst}
+use borrow.Author.Needs.{needs}
 use Rattle.boxes.specs.Places.{inFirst, placeFound}
 use Rattle.boxes.proofs.Places.{fits-more}
 use Rattle.unit_list.specs.Answers.{listUnits}
@@ -9,7 +10,6 @@ use Rattle.access_unit.specs.inner.Gathered.{sizesAnswerOf}
 use Rattle.access_unit.proofs.Gathering.{Known, known, unknown}
 use Rattle.access_unit_nal.specs.inner.Kept.{Numbered}
 use Rattle.access_unit_nal.proofs.Sources.{source-unknown, has-kept, at-listed, at-past, KeptAt, kept-number}
-use borrow.Author.Needs.{needs}
 use Rattle.access_unit_nal.proofs.source.source_at.Statement.{statement}
 use Rattle.access_unit_nal.proofs.source.source_at.Tie as tie
 

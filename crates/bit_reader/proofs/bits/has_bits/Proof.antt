@@ -5,9 +5,9 @@ use mathlib.Core.Path.{sym}
 use native.Mathlib.Omega.{arith}
 use lib.ListN.{length}
 use borrow.Author.Needs.{needs}
+use Rattle.parse.proofs.General.{leb-same}
 use Rattle.bit_reader.proofs.bits.has_bits.Statement.{statement}
 use Rattle.bit_reader.proofs.bits.has_bits.Tie as tie
-use Rattle.parse.proofs.General.{leb-same}
 
 mul-total : tie.Need-mul-total
 mul-total c = search needs

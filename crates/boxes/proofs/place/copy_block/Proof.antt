@@ -1,8 +1,8 @@
 -- `place::copy_block` leaves the source's bytes from the place on: the front of the block holds them.
 use Prim.Native.Nat.{_-_}
 use native.Mathlib.Omega.{arith}
-use Rattle.boxes.proofs.Sets.{sets-by-block}
 use borrow.Author.Needs.{needs}
+use Rattle.boxes.proofs.Sets.{sets-by-block}
 use Rattle.boxes.proofs.place.copy_block.Statement.{statement}
 use Rattle.boxes.proofs.place.copy_block.Tie as tie
 

@@ -1,9 +1,9 @@
 -- `place::number` is the number of the bytes from the place on. The loop's invariant: `n` is the number of the first `k` of them.
-use Rattle.boxes.specs.Bytes.{be}
 use Prim.Native.Nat.{_-_, _^_, _≤_, _<_}
 use mathlib.Core.Path.{_≡_}
 use native.Mathlib.Omega.{arith}
 use borrow.Author.Needs.{needs}
+use Rattle.boxes.specs.Bytes.{be}
 use Rattle.boxes.proofs.Numbers.{be-more, below-more, below-four}
 use Rattle.boxes.proofs.place.number.Statement.{statement}
 use Rattle.boxes.proofs.place.number.Tie as tie

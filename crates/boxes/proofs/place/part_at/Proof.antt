@@ -3,11 +3,11 @@ use mathlib.Core.Path.{sym, ap, subst}
 use borrow.Author.Needs.{needs}
 use Rattle.boxes.specs.Parts.{PartOf}
 use Rattle.boxes.specs.Places.{placeOf, PlaceFits}
+use Rattle.boxes.specs.inner.Places.{lying, spanInFirst}
 use Rattle.boxes.specs.declared.UnitPlace.{UnitPlace}
 use Rattle.boxes.proofs.Places.{not-first}
 use Rattle.boxes.proofs.place.part_at.Statement.{statement}
 use Rattle.boxes.proofs.place.part_at.Tie as tie
-use Rattle.boxes.specs.inner.Places.{lying, spanInFirst}
 
 enum-known-unit : tie.Need-enum-known-unit
 enum-known-unit c = search needs

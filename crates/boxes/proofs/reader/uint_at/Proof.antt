@@ -5,10 +5,10 @@ use mathlib.Core.Logic.{⊎-elim}
 use native.Mathlib.Omega.{arith}
 use lib.ListN.{length}
 use borrow.Author.Tests.{ltb-true, ltb-false}
+use borrow.Author.Needs.{needs}
 use Rattle.boxes.specs.Bytes.{be}
 use Rattle.boxes.proofs.Numbers.{below-four}
 use Rattle.boxes.proofs.Fields.{field-too-long, field-short, field-there}
-use borrow.Author.Needs.{needs}
 use Rattle.boxes.proofs.reader.uint_at.Statement.{statement}
 use Rattle.boxes.proofs.reader.uint_at.Tie as tie
 

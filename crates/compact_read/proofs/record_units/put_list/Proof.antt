@@ -5,9 +5,9 @@ use native.Mathlib.Omega.{arith}
 use borrow.Author.Needs.{needs}
 use lib.ListN.{length}
 use Rattle.parse.specs.Parse.{outcome}
-use Rattle.compact.specs.inner.Units.{recordUnits}
 use Rattle.parse.proofs.Stores.{put-room, puts-on}
 use Rattle.unit_list.specs.inner.Written.{unitBytes}
+use Rattle.compact.specs.inner.Units.{recordUnits}
 use Rattle.compact_read.proofs.RecordUnits.{list-stored}
 use Rattle.compact_read.proofs.record_units.put_list.Statement.{statement}
 use Rattle.compact_read.proofs.record_units.put_list.Tie as tie

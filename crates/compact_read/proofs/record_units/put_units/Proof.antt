@@ -9,8 +9,8 @@ use Rattle.parse.specs.Outcome.{Outcome}
 use Rattle.parse.specs.Parse.{times, outcome}
 use Rattle.boxes.specs.Bytes.{chunk}
 use Rattle.boxes.specs.declared.Span.{Span}
-use Rattle.compact.specs.inner.Units.{recordUnits}
 use Rattle.unit_list.proofs.StoredUnits.{Copying, copying-start, copying-never, copying-end, copying-room, copying-again}
+use Rattle.compact.specs.inner.Units.{recordUnits}
 use Rattle.compact_read.proofs.RecordUnits.{Turn, turn, turn-short, times-done}
 use Rattle.compact_read.proofs.record_units.put_units.Statement.{statement}
 use Rattle.compact_read.proofs.record_units.put_units.Tie as tie

@@ -3,9 +3,9 @@ use mathlib.Core.Path.{sym, ap, _∙_, subst}
 use native.Mathlib.Omega.{arith}
 use borrow.Author.Needs.{needs}
 use Rattle.parse.specs.Answers.{countOf}
+use Rattle.parse.proofs.Output.{written-refused, written-short, written-fits}
 use Rattle.unit_list.specs.inner.Find.{unitsLeft}
 use Rattle.compact_write.specs.inner.Sums.{sumOf, SumFits, compactRecordOf}
-use Rattle.parse.proofs.Output.{written-refused, written-short, written-fits}
 use Rattle.compact_write.proofs.ListUnits.{Sum, sum-of, sum-refused, Long, long-of, record-refused, record-given, record-room, record-copies}
 use Rattle.compact_write.proofs.list_units.put_compact.Statement.{statement}
 use Rattle.compact_write.proofs.list_units.put_compact.Tie as tie

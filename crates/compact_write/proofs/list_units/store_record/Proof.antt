@@ -1,12 +1,12 @@
 -- `list_units::store_record` writes the first byte and the units at the front of the output.
 use borrow.Author.Needs.{needs}
-use Rattle.unit_list.specs.inner.Find.{unitsLeft}
+use Rattle.parse.specs.inner.Stores.{bytesOf}
 use Rattle.parse.proofs.Stores.{puts-on}
+use Rattle.unit_list.specs.inner.Find.{unitsLeft}
+use Rattle.unit_list.specs.inner.Written.{unitBytes}
 use Rattle.compact_write.proofs.ListUnits.{record-stored}
 use Rattle.compact_write.proofs.list_units.store_record.Statement.{statement}
 use Rattle.compact_write.proofs.list_units.store_record.Tie as tie
-use Rattle.parse.specs.inner.Stores.{bytesOf}
-use Rattle.unit_list.specs.inner.Written.{unitBytes}
 
 -- Where the function starts, seen from a later place.
 abbrev start : (c : tie.After-put) → tie.Start

@@ -1,6 +1,6 @@
 -- `cropped_side` subtracts the bounded product from the side.
-use Rattle.cropped_size.proofs.Cropping.{side-gone, side-left}
 use borrow.Author.Needs.{needs}
+use Rattle.cropped_size.proofs.Cropping.{side-gone, side-left}
 use Rattle.cropped_size.proofs.cropped.cropped_side.Statement.{statement}
 use Rattle.cropped_size.proofs.cropped.cropped_side.Tie as tie
 

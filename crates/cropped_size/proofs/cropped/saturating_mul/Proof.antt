@@ -1,7 +1,7 @@
 -- `saturating_mul` bounds the product, which fits 64 bits.
 use native.Mathlib.Omega.{arith}
-use Rattle.cropped_size.proofs.Cropping.{product-fits}
 use borrow.Author.Needs.{needs}
+use Rattle.cropped_size.proofs.Cropping.{product-fits}
 use Rattle.cropped_size.proofs.cropped.saturating_mul.Statement.{statement}
 use Rattle.cropped_size.proofs.cropped.saturating_mul.Tie as tie
 

@@ -4,11 +4,11 @@ use mathlib.Core.Path.{sym, ap, _∙_}
 use native.Mathlib.Omega.{arith}
 use lib.ListN.{length}
 use borrow.Author.Needs.{needs}
+use Rattle.parse.specs.inner.Answers.{orZeros}
+use Rattle.full.specs.Read.{zeroHead}
 use Rattle.full_read.proofs.Heads.{head-none, head-three, head-with-ptl, head-plain}
 use Rattle.full_read.proofs.head.read_head.Statement.{statement}
 use Rattle.full_read.proofs.head.read_head.Tie as tie
-use Rattle.full.specs.Read.{zeroHead}
-use Rattle.parse.specs.inner.Answers.{orZeros}
 
 refused-requires : tie.Need-refused-requires
 refused-requires c κs = search needs

@@ -6,12 +6,12 @@ use mathlib.Core.Logic.{⊎-elim}
 use native.Mathlib.Omega.{arith}
 use lib.ListN.{length}
 use borrow.Author.Needs.{needs}
+use Rattle.parse.specs.inner.Answers.{orZeros}
 use Rattle.boxes.specs.Bytes.{be}
+use Rattle.full.specs.Read.{zeroHead}
 use Rattle.full_read.proofs.Heads.{reads-sizes}
 use Rattle.full_read.proofs.head.read_sizes.Statement.{statement}
 use Rattle.full_read.proofs.head.read_sizes.Tie as tie
-use Rattle.full.specs.Read.{zeroHead}
-use Rattle.parse.specs.inner.Answers.{orZeros}
 
 sub-if2 : tie.Need-sub-if2
 sub-if2 c = search needs

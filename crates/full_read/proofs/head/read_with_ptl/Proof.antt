@@ -4,11 +4,11 @@ use mathlib.Core.Path.{sym, ap, _∙_}
 use native.Mathlib.Omega.{arith}
 use lib.ListN.{length}
 use borrow.Author.Needs.{needs}
+use Rattle.parse.specs.inner.Answers.{orZeros}
+use Rattle.full.specs.Read.{zeroHead}
 use Rattle.full_read.proofs.Heads.{reads-no-ptl, ptl-read, ptl-refused}
 use Rattle.full_read.proofs.head.read_with_ptl.Statement.{statement}
 use Rattle.full_read.proofs.head.read_with_ptl.Tie as tie
-use Rattle.full.specs.Read.{zeroHead}
-use Rattle.parse.specs.inner.Answers.{orZeros}
 
 -- Where the function starts, seen from a later place.
 abbrev start : (c : tie.After-read-ptl) → tie.Start

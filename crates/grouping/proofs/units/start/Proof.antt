@@ -2,8 +2,8 @@
 use mathlib.Core.Path.{ap, _∙_, subst}
 use borrow.Author.Needs.{needs}
 use Rattle.unit_list.specs.inner.Walk.{StartFits}
-use Rattle.grouping.specs.inner.Units.{heldUnits}
 use Rattle.unit_list.proofs.Turns.{start-units, start-refused}
+use Rattle.grouping.specs.inner.Units.{heldUnits}
 use Rattle.grouping.proofs.units.start.Statement.{statement}
 use Rattle.grouping.proofs.units.start.Tie as tie
 

@@ -4,11 +4,11 @@ use mathlib.Core.Path.{_≡_, sym, ap, _∙_}
 use native.Mathlib.Omega.{arith}
 use borrow.Author.Needs.{needs}
 use Rattle.boxes.specs.Walk.{countFound}
+use Rattle.boxes.proofs.PrefixSizes.{size-inside}
 use Rattle.compact.specs.ItemData.{stillUnit}
 use Rattle.item_data.proofs.Stills.{prefixed-outside, prefixed-long, prefixed-length}
 use Rattle.item_data.proofs.lengths.still_len.Statement.{statement}
 use Rattle.item_data.proofs.lengths.still_len.Tie as tie
-use Rattle.boxes.proofs.PrefixSizes.{size-inside}
 
 -- the prefix size is 1 to 4
 sized : (c : tie.Else1) → (1 ≤ c .before .before .before .args .length-size) × (c .before .before .before .args .length-size ≤ 4)

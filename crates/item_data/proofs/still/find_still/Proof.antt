@@ -5,15 +5,15 @@ use mathlib.Core.List.{[]}
 use native.Mathlib.Omega.{arith}
 use borrow.Author.Needs.{needs}
 use Rattle.parse.specs.Outcome.{accept}
+use Rattle.parse.specs.inner.Walk.{more}
+use Rattle.boxes.proofs.PrefixSizes.{size-inside}
 use Rattle.split.specs.Item.{itemUnits}
+use Rattle.split.specs.inner.Walk.{itemUnitsFrom}
 use Rattle.split.proofs.Items.{Turn, found-unit, found-none, items-outside, items-left, left-end}
 use Rattle.compact.specs.ItemData.{onlyStill}
 use Rattle.item_data.proofs.Stills.{none-still, more-after}
 use Rattle.item_data.proofs.still.find_still.Statement.{statement}
 use Rattle.item_data.proofs.still.find_still.Tie as tie
-use Rattle.split.specs.inner.Walk.{itemUnitsFrom}
-use Rattle.parse.specs.inner.Walk.{more}
-use Rattle.boxes.proofs.PrefixSizes.{size-inside}
 
 -- Earlier places of the function, each seen from a later one.
 abbrev start : (c : tie.After-wide) → tie.Start

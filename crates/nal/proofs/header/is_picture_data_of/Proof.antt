@@ -1,10 +1,10 @@
 -- `header::is_picture_data_of` tells whether a type is picture data and the one asked for.
 use mathlib.Core.Path.{sym, ap, _∙_}
-use Rattle.nal.proofs.UnitKinds.{not-picture}
 use borrow.Author.Needs.{needs}
+use Rattle.nal.specs.inner.Kinds.{isPictureDataOf}
+use Rattle.nal.proofs.UnitKinds.{not-picture}
 use Rattle.nal.proofs.header.is_picture_data_of.Statement.{statement}
 use Rattle.nal.proofs.header.is_picture_data_of.Tie as tie
-use Rattle.nal.specs.inner.Kinds.{isPictureDataOf}
 
 unit-kind-requires : tie.Need-unit-kind-requires
 unit-kind-requires c κs = search needs

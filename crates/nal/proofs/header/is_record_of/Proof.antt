@@ -1,8 +1,8 @@
 -- `header::is_record_of` tells whether a type is a record kind and the one asked for.
 use mathlib.Core.Path.{sym, ap, _∙_}
+use borrow.Author.Needs.{needs}
 use Rattle.nal.specs.Kinds.{isRecordOf}
 use Rattle.nal.proofs.UnitKinds.{not-record}
-use borrow.Author.Needs.{needs}
 use Rattle.nal.proofs.header.is_record_of.Statement.{statement}
 use Rattle.nal.proofs.header.is_record_of.Tie as tie
 

@@ -3,8 +3,8 @@ use Prim.Native.Nat.{ℕ}
 use mathlib.Core.Path.{sym}
 use mathlib.Core.List.{List}
 use native.Mathlib.Omega.{arith}
-use Rattle.nal.proofs.Headers.{type-absent, type-present}
 use borrow.Author.Needs.{needs}
+use Rattle.nal.proofs.Headers.{type-absent, type-present}
 use Rattle.nal.proofs.header.type_or_31.Statement.{statement}
 use Rattle.nal.proofs.header.type_or_31.Tie as tie
 

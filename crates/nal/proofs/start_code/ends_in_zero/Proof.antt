@@ -1,8 +1,8 @@
 -- `start_code::ends_in_zero` tells whether the last byte is 00.
 use mathlib.Core.Path.{sym}
 use native.Mathlib.Omega.{arith}
-use Rattle.nal.proofs.Checks.{ends-none, ends-last}
 use borrow.Author.Needs.{needs}
+use Rattle.nal.proofs.Checks.{ends-none, ends-last}
 use Rattle.nal.proofs.start_code.ends_in_zero.Statement.{statement}
 use Rattle.nal.proofs.start_code.ends_in_zero.Tie as tie
 

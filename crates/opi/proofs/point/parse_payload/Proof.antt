@@ -3,12 +3,12 @@ use Prim.Native.Nat.{ℕ}
 use mathlib.Core.Path.{ap, sym, _∙_}
 use native.Mathlib.Omega.{arith}
 use lib.ListN.{length-replicate}
-use Rattle.rbsp.proofs.Filling.{front-count}
-use Rattle.parse.specs.Outcome.{accept}
-use Rattle.opi.specs.Opi.{whereRead, opiPoint}
-use Rattle.params.proofs.Look.{enough}
-use Rattle.opi.proofs.Look.{opi-looks}
 use borrow.Author.Needs.{needs}
+use Rattle.parse.specs.Outcome.{accept}
+use Rattle.rbsp.proofs.Filling.{front-count}
+use Rattle.params.proofs.Look.{enough}
+use Rattle.opi.specs.Opi.{whereRead, opiPoint}
+use Rattle.opi.proofs.Look.{opi-looks}
 use Rattle.opi.proofs.point.parse_payload.Statement.{statement}
 use Rattle.opi.proofs.point.parse_payload.Tie as tie
 

@@ -64,6 +64,7 @@ use Rattle.bit_reader.proofs.reader.BitReader.ue.Symbol.{name as #ue}
 use Rattle.bit_reader.proofs.reader.BitReader.ue.Met as ue-thm
 use Rattle.opi.specs.Opi.{whereRead, opiPoint}
 use Rattle.opi.specs.Answers.{olsIdxOf}
+use Rattle.opi.specs.inner.Point.{pointOf}
 use Rattle.opi.specs.declared.OlsIdx.{OlsIdx}
 use Rattle.opi.proofs.OlsIdx as Result
 use Rattle.opi.proofs.OlsIdx.Laws as Result′
@@ -76,7 +77,6 @@ use Rattle.opi.proofs.point.parse_rbsp.Key.{name as #parse-rbsp}
 use Rattle.opi.proofs.point.parse_rbsp as f
 use Rattle.opi.proofs.point.parse_rbsp.Statement as stated
 use Rattle.opi.proofs.point.parse_rbsp.Code as code
-use Rattle.opi.specs.inner.Point.{pointOf}
 
 abbrev stayed : Stays (f.ended .signature .params) (f.ended .kept)
 stayed = (stay-none-slice (0 ∷ []) tt (plain (λ _. u8)) yes, tt)

@@ -1,8 +1,8 @@
 -- `point_of` returns what the definition makes of the answers: by cases, five of them.
 use mathlib.Core.Path.{ap, sym}
+use borrow.Author.Needs.{needs}
 use Rattle.parse.specs.Outcome.{accept}
 use Rattle.opi.proofs.OperatingPoint.{no-flag, no-second, unset, no-code, there}
-use borrow.Author.Needs.{needs}
 use Rattle.opi.proofs.point.point_of.Statement.{statement}
 use Rattle.opi.proofs.point.point_of.Tie as tie
 

@@ -1,7 +1,7 @@
 -- `parse_ptl` returns profile_tier_level( 1, s ): its sections one after another, or zeros where one is refused.
 use native.Mathlib.Omega.{arith}
-use Rattle.ptl.proofs.Whole.{whole-refused, whole-read, general-place}
 use borrow.Author.Needs.{needs}
+use Rattle.ptl.proofs.Whole.{whole-refused, whole-read, general-place}
 use Rattle.ptl.proofs.bits.parse_ptl.Statement.{statement}
 use Rattle.ptl.proofs.bits.parse_ptl.Tie as tie
 

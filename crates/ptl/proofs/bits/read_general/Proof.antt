@@ -1,9 +1,9 @@
 -- `read_general` returns the section: three reads one after another.
 use mathlib.Core.Path.{sym, _∙_}
 use native.Mathlib.Omega.{arith}
+use borrow.Author.Needs.{needs}
 use Rattle.bit_reader.proofs.Chain.{bind-next, number-low-after}
 use Rattle.ptl.specs.inner.Sections.{general}
-use borrow.Author.Needs.{needs}
 use Rattle.ptl.proofs.bits.read_general.Statement.{statement}
 use Rattle.ptl.proofs.bits.read_general.Tie as tie
 

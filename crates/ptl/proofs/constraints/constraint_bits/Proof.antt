@@ -1,6 +1,6 @@
 -- `constraint_bits` passes over the bits that the definition passes over.
-use Rattle.ptl.proofs.ConstraintInfo.{bits-after}
 use borrow.Author.Needs.{needs}
+use Rattle.ptl.proofs.ConstraintInfo.{bits-after}
 use Rattle.ptl.proofs.constraints.constraint_bits.Statement.{statement}
 use Rattle.ptl.proofs.constraints.constraint_bits.Tie as tie
 

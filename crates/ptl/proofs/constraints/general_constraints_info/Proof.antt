@@ -1,7 +1,7 @@
 -- `general_constraints_info` ends where the definition does: at a whole byte.
 use native.Mathlib.Omega.{arith}
-use Rattle.ptl.proofs.ConstraintInfo.{info-after, announced-place}
 use borrow.Author.Needs.{needs}
+use Rattle.ptl.proofs.ConstraintInfo.{info-after, announced-place}
 use Rattle.ptl.proofs.constraints.general_constraints_info.Statement.{statement}
 use Rattle.ptl.proofs.constraints.general_constraints_info.Tie as tie
 

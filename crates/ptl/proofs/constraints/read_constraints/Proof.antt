@@ -1,12 +1,12 @@
 -- `read_constraints` returns the section: the two flags, and the bytes between the two aligned positions.
 use mathlib.Core.Path.{ap, refl, sym, _∙_}
 use native.Mathlib.Omega.{arith}
+use borrow.Author.Needs.{needs}
 use Rattle.parse.specs.Parse.{value}
 use Rattle.bit_reader.specs.inner.Answers.{numberIn, placeIn}
 use Rattle.bit_reader.proofs.Chain.{bind-value, part-refused}
 use Rattle.ptl.specs.declared.constraints.Constraints.{Constraints}
 use Rattle.ptl.proofs.ConstraintInfo.{FlagsAndInfo, constraints-after, Run, run-of, held-bytes}
-use borrow.Author.Needs.{needs}
 use Rattle.ptl.proofs.constraints.read_constraints.Statement.{statement}
 use Rattle.ptl.proofs.constraints.read_constraints.Tie as tie
 

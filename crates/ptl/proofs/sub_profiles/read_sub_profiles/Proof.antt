@@ -1,9 +1,9 @@
 -- `read_sub_profiles` returns the section: the count, then as many values.
 use mathlib.Core.Path.{_∙_}
 use native.Mathlib.Omega.{arith}
+use borrow.Author.Needs.{needs}
 use Rattle.bit_reader.proofs.Chain.{number-low-after}
 use Rattle.ptl.proofs.SubProfileValues.{profiles-after}
-use borrow.Author.Needs.{needs}
 use Rattle.ptl.proofs.sub_profiles.read_sub_profiles.Statement.{statement}
 use Rattle.ptl.proofs.sub_profiles.read_sub_profiles.Tie as tie
 

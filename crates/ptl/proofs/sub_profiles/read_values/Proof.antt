@@ -1,9 +1,9 @@
 -- `read_values` reads the values one after another: k of them are at the front of the array.
 use Prim.Native.Nat.{_-_}
 use native.Mathlib.Omega.{arith}
+use borrow.Author.Needs.{needs}
 use Rattle.bit_reader.specs.Bits.{u}
 use Rattle.ptl.proofs.SubProfileValues.{Going, going-start, going-on, going-end}
-use borrow.Author.Needs.{needs}
 use Rattle.ptl.proofs.sub_profiles.read_values.Statement.{statement}
 use Rattle.ptl.proofs.sub_profiles.read_values.Tie as tie
 

@@ -1,8 +1,8 @@
 -- `present_flags` takes the flags from the top of the byte: those of the sublayers still to come are in what is left of it.
 use Prim.Native.Nat.{_+_, _-_, _≤_}
 use native.Mathlib.Omega.{arith}
-use Rattle.ptl.proofs.SublayerLevels.{Flagged, flags-start, flags-on, flags-end}
 use borrow.Author.Needs.{needs}
+use Rattle.ptl.proofs.SublayerLevels.{Flagged, flags-start, flags-on, flags-end}
 use Rattle.ptl.proofs.sublayers.present_flags.Statement.{statement}
 use Rattle.ptl.proofs.sublayers.present_flags.Tie as tie
 

@@ -1,10 +1,10 @@
 -- `read_levels` reads the levels from the highest down: those still to be read come before those stored.
 use Prim.Native.Nat.{_+_, _-_, _/_, _≤_}
 use native.Mathlib.Omega.{arith}
+use borrow.Author.Needs.{needs}
 use Rattle.bit_reader.specs.Bits.{u, isSet}
 use Rattle.bit_reader.proofs.Chain.{number-low-if}
 use Rattle.ptl.proofs.SublayerLevels.{Levelled, levels-start, levels-on, levels-end}
-use borrow.Author.Needs.{needs}
 use Rattle.ptl.proofs.sublayers.read_levels.Statement.{statement}
 use Rattle.ptl.proofs.sublayers.read_levels.Tie as tie
 

@@ -1,9 +1,9 @@
 -- `read_sublayers` returns the section: the byte of flags, then the levels that they announce.
 use native.Mathlib.Omega.{arith}
 use lib.Dec.{ltb}
+use borrow.Author.Needs.{needs}
 use Rattle.bit_reader.proofs.Chain.{number-low-if}
 use Rattle.ptl.proofs.SublayerLevels.{sublayers-after}
-use borrow.Author.Needs.{needs}
 use Rattle.ptl.proofs.sublayers.read_sublayers.Statement.{statement}
 use Rattle.ptl.proofs.sublayers.read_sublayers.Tie as tie
 

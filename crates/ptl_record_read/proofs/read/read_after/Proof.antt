@@ -1,16 +1,16 @@
 -- `read_after` reads the fields where their end is within the bytes, else refuses with 1.
-use Rattle.ptl_record.specs.Read.{vvcPtlRecord}
-use Rattle.ptl_record.specs.inner.Places.{flagsAt, ptlFields}
-use Rattle.ptl_record.proofs.Reading.{Reach, reads-after}
 use Prim.Native.Nat.{_+_, _*_, _<_}
 use mathlib.Core.Path.{sym, ap, _∙_}
 use native.Mathlib.Omega.{arith}
 use lib.ListN.{length}
 use borrow.Author.Needs.{needs}
-use Rattle.ptl_record_read.proofs.read.read_after.Statement.{statement}
-use Rattle.ptl_record_read.proofs.read.read_after.Tie as tie
 use Rattle.parse.specs.inner.Answers.{orZeros}
 use Rattle.ptl.specs.Ptl.{zeroPtl}
+use Rattle.ptl_record.specs.Read.{vvcPtlRecord}
+use Rattle.ptl_record.specs.inner.Places.{flagsAt, ptlFields}
+use Rattle.ptl_record.proofs.Reading.{Reach, reads-after}
+use Rattle.ptl_record_read.proofs.read.read_after.Statement.{statement}
+use Rattle.ptl_record_read.proofs.read.read_after.Tie as tie
 
 add-after : tie.Need-add-after
 add-after c = search needs

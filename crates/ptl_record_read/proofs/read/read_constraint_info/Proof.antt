@@ -1,11 +1,11 @@
 -- `read_constraint_info` returns the constraint bytes, the flags of the first set to 0.
 use lib.ListN.{length-take, length, drop}
-use Rattle.ptl.specs.Ptl.{padded}
-use Rattle.ptl_record_read.proofs.Arrays.{padded-sets, without-flags}
 use Prim.Native.Nat.{_≤_}
 use mathlib.Core.Path.{ap, _∙_}
 use native.Mathlib.Omega.{arith}
 use borrow.Author.Needs.{needs}
+use Rattle.ptl.specs.Ptl.{padded}
+use Rattle.ptl_record_read.proofs.Arrays.{padded-sets, without-flags}
 use Rattle.ptl_record_read.proofs.read.read_constraint_info.Statement.{statement}
 use Rattle.ptl_record_read.proofs.read.read_constraint_info.Tie as tie
 

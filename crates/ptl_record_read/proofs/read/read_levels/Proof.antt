@@ -1,11 +1,11 @@
 -- `read_levels` returns the flags and the levels: the loop fills both arrays from the highest sublayer down.
-use Rattle.ptl.specs.Ptl.{presentFlags}
-use Rattle.ptl_record.specs.inner.Places.{levelsLen, levelsAt}
-use Rattle.ptl_record_read.proofs.Places.{Filled, filled-none, filled-more}
 use Prim.Native.Nat.{suc, _-_}
 use mathlib.Core.Path.{_≡_}
 use native.Mathlib.Omega.{arith}
 use borrow.Author.Needs.{needs}
+use Rattle.ptl.specs.Ptl.{presentFlags}
+use Rattle.ptl_record.specs.inner.Places.{levelsLen, levelsAt}
+use Rattle.ptl_record_read.proofs.Places.{Filled, filled-none, filled-more}
 use Rattle.ptl_record_read.proofs.read.read_levels.Statement.{statement}
 use Rattle.ptl_record_read.proofs.read.read_levels.Tie as tie
 

@@ -1,14 +1,14 @@
 -- `read_ptl` reads the record: the first byte decides on refusals 1 and 2, and `read_after` does the rest.
-use Rattle.ptl_record.proofs.Reading.{reads-none, reads-zero}
 use Prim.Native.Nat.{_%_, _<_}
 use mathlib.Core.Path.{_≡_, sym, ap, _∙_}
 use native.Mathlib.Omega.{arith}
 use lib.ListN.{length, getD}
 use borrow.Author.Needs.{needs}
-use Rattle.ptl_record_read.proofs.read.read_ptl.Statement.{statement}
-use Rattle.ptl_record_read.proofs.read.read_ptl.Tie as tie
 use Rattle.parse.specs.inner.Answers.{orZeros}
 use Rattle.ptl.specs.Ptl.{zeroPtl}
+use Rattle.ptl_record.proofs.Reading.{reads-none, reads-zero}
+use Rattle.ptl_record_read.proofs.read.read_ptl.Statement.{statement}
+use Rattle.ptl_record_read.proofs.read.read_ptl.Tie as tie
 
 refused-requires : tie.Need-refused-requires
 refused-requires c κs = search needs

@@ -1,12 +1,12 @@
 -- `read_sub_profiles` returns the sub-profiles: the loop stores one number in each turn.
-use Rattle.ptl.specs.Ptl.{padded}
-use Rattle.ptl_record.specs.inner.Places.{words}
-use Rattle.ptl_record_read.proofs.Arrays.{padded-none}
-use Rattle.ptl_record_read.proofs.Places.{words-store}
 use Prim.Native.Nat.{_-_, _≤_, _<_}
 use mathlib.Core.Path.{_≡_}
 use native.Mathlib.Omega.{arith}
 use borrow.Author.Needs.{needs}
+use Rattle.ptl.specs.Ptl.{padded}
+use Rattle.ptl_record.specs.inner.Places.{words}
+use Rattle.ptl_record_read.proofs.Arrays.{padded-none}
+use Rattle.ptl_record_read.proofs.Places.{words-store}
 use Rattle.ptl_record_read.proofs.read.read_sub_profiles.Statement.{statement}
 use Rattle.ptl_record_read.proofs.read.read_sub_profiles.Tie as tie
 

@@ -1,10 +1,10 @@
 -- `flag_byte` returns the byte of flags: the loop shifts them in from the top.
-use Rattle.ptl_record.specs.Write.{flagByte}
-use Rattle.ptl_record_write.proofs.Stores.{flag-more}
 use Prim.Native.Nat.{_-_, _≤_, _<_}
 use mathlib.Core.Path.{_≡_}
 use native.Mathlib.Omega.{arith}
 use borrow.Author.Needs.{needs}
+use Rattle.ptl_record.specs.Write.{flagByte}
+use Rattle.ptl_record_write.proofs.Stores.{flag-more}
 use Rattle.ptl_record_write.proofs.write.flag_byte.Statement.{statement}
 use Rattle.ptl_record_write.proofs.write.flag_byte.Tie as tie
 

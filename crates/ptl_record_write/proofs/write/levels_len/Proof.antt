@@ -1,11 +1,11 @@
 -- `levels_len` counts the levels that are written.
-use Rattle.ptl_record.specs.Write.{levelBytes}
-use Rattle.ptl_record_write.proofs.Stores.{levels-counted}
 use Prim.Native.Nat.{_-_, _≤_}
 use mathlib.Core.Path.{_≡_}
 use native.Mathlib.Omega.{arith}
 use borrow.Author.Needs.{needs}
 use lib.ListN.{length}
+use Rattle.ptl_record.specs.Write.{levelBytes}
+use Rattle.ptl_record_write.proofs.Stores.{levels-counted}
 use Rattle.ptl_record_write.proofs.write.levels_len.Statement.{statement}
 use Rattle.ptl_record_write.proofs.write.levels_len.Tie as tie
 

@@ -1,9 +1,9 @@
 -- `ptl_len` returns the length of the record: the sum of those of its fields.
-use Rattle.ptl_record.proofs.Writing.{fitting, length-front, length-ptl}
 use mathlib.Core.Path.{_≡_}
 use native.Mathlib.Omega.{arith}
 use lib.ListN.{length}
 use borrow.Author.Needs.{needs}
+use Rattle.ptl_record.proofs.Writing.{fitting, length-front, length-ptl}
 use Rattle.ptl_record_write.proofs.write.ptl_len.Statement.{statement}
 use Rattle.ptl_record_write.proofs.write.ptl_len.Tie as tie
 

@@ -1,8 +1,8 @@
 -- `put_front` stores the bytes before the levels, one after another.
-use Rattle.ptl_record.proofs.Writing.{length-front}
-use Rattle.ptl_record_write.proofs.Stores.{front-stored}
 use native.Mathlib.Omega.{arith}
 use borrow.Author.Needs.{needs}
+use Rattle.ptl_record.proofs.Writing.{length-front}
+use Rattle.ptl_record_write.proofs.Stores.{front-stored}
 use Rattle.ptl_record_write.proofs.write.put_front.Statement.{statement}
 use Rattle.ptl_record_write.proofs.write.put_front.Tie as tie
 

@@ -3,8 +3,8 @@ use mathlib.Core.Path.{_≡_}
 use native.Mathlib.Nat.{sub-zero}
 use native.Mathlib.Omega.{arith}
 use lib.ListN.{length, length-set}
-use Rattle.ptl_record_write.proofs.Stores.{info-stored}
 use borrow.Author.Needs.{needs}
+use Rattle.ptl_record_write.proofs.Stores.{info-stored}
 use Rattle.ptl_record_write.proofs.write.put_info.Statement.{statement}
 use Rattle.ptl_record_write.proofs.write.put_info.Tie as tie
 

@@ -1,12 +1,12 @@
 -- `put_levels` stores the levels from the highest sublayer down.
-use Rattle.ptl_record.specs.Write.{levelBytes}
-use Rattle.ptl_record_write.proofs.Stores.{levels-more, levels-longer}
 use lib.Seq.{sets, length-sets}
 use Prim.Native.Nat.{suc, _+_, _-_, _≤_}
 use mathlib.Core.Path.{_≡_, sym, ap, _∙_}
 use native.Mathlib.Omega.{arith}
 use borrow.Author.Needs.{needs}
 use lib.ListN.{length}
+use Rattle.ptl_record.specs.Write.{levelBytes}
+use Rattle.ptl_record_write.proofs.Stores.{levels-more, levels-longer}
 use Rattle.ptl_record_write.proofs.write.put_levels.Statement.{statement}
 use Rattle.ptl_record_write.proofs.write.put_levels.Tie as tie
 

@@ -1,13 +1,13 @@
 -- `put_ptl` stores the fields of the record, one after another.
-use Rattle.ptl_record.proofs.Writing.{fitting, length-ptl, part-few}
-use Rattle.ptl_record_write.proofs.Stores.{ptl-stored}
-use Rattle.ptl_record.specs.Write.{levelPart, ptlBytes, frontBytes}
 use Prim.Native.Nat.{_+_, _*_, _≤_}
 use mathlib.Core.Path.{_≡_, ap, _∙_}
 use lib.Seq.{length-sets}
 use native.Mathlib.Omega.{arith}
 use lib.ListN.{length, length-set}
 use borrow.Author.Needs.{needs}
+use Rattle.ptl_record.specs.Write.{levelPart, ptlBytes, frontBytes}
+use Rattle.ptl_record.proofs.Writing.{fitting, length-ptl, part-few}
+use Rattle.ptl_record_write.proofs.Stores.{ptl-stored}
 use Rattle.ptl_record_write.proofs.write.put_ptl.Statement.{statement}
 use Rattle.ptl_record_write.proofs.write.put_ptl.Tie as tie
 

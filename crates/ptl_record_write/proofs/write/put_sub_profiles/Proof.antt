@@ -1,12 +1,12 @@
 -- `put_sub_profiles` stores one sub-profile in each turn.
-use Rattle.ptl_record.specs.Write.{subProfileBytes}
-use Rattle.ptl_record_write.proofs.Stores.{subs-more}
 use lib.Seq.{sets, length-sets}
 use Prim.Native.Nat.{_-_, _≤_, _<_}
 use mathlib.Core.Path.{_≡_, ap, _∙_}
 use native.Mathlib.Omega.{arith}
 use borrow.Author.Needs.{needs}
 use lib.ListN.{length, take}
+use Rattle.ptl_record.specs.Write.{subProfileBytes}
+use Rattle.ptl_record_write.proofs.Stores.{subs-more}
 use Rattle.ptl_record_write.proofs.write.put_sub_profiles.Statement.{statement}
 use Rattle.ptl_record_write.proofs.write.put_sub_profiles.Tie as tie
 

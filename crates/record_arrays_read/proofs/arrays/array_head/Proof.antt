@@ -4,10 +4,10 @@ use mathlib.Core.Path.{_≡_, sym, ap, _∙_}
 use native.Mathlib.Omega.{arith}
 use borrow.Author.Needs.{needs}
 use lib.ListN.{length, getD}
+use Rattle.record_arrays.specs.inner.Counts.{countLen}
 use Rattle.record_arrays_read.proofs.RecordArrays.{array-none, array-short, array-headed}
 use Rattle.record_arrays_read.proofs.arrays.array_head.Statement.{statement}
 use Rattle.record_arrays_read.proofs.arrays.array_head.Tie as tie
-use Rattle.record_arrays.specs.inner.Counts.{countLen}
 
 -- Where the function starts, seen from a later place.
 abbrev start : (c : tie.After-count-len) → tie.Start

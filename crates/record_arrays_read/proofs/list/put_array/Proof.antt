@@ -3,10 +3,10 @@ use Prim.Native.Nat.{ℕ}
 use mathlib.Core.Path.{_≡_, ap}
 use native.Mathlib.Omega.{arith}
 use borrow.Author.Needs.{needs}
+use Rattle.parse.specs.Parse.{outcome}
 use Rattle.record_arrays_read.proofs.RecordArrays.{HeadAt, head-short, head-at, array-refused, stores-units, head-room, stored-array}
 use Rattle.record_arrays_read.proofs.list.put_array.Statement.{statement}
 use Rattle.record_arrays_read.proofs.list.put_array.Tie as tie
-use Rattle.parse.specs.Parse.{outcome}
 
 -- Earlier places of the function, each seen from a later one.
 abbrev start : (c : tie.After-known-told) → tie.Start

@@ -3,13 +3,13 @@ use mathlib.Core.Path.{sym, ap, refl, _∙_}
 use native.Mathlib.Omega.{arith}
 use borrow.Author.Needs.{needs}
 use lib.ListN.{length}
+use Rattle.parse.proofs.Stores.{put-room}
 use Rattle.boxes.proofs.Numbers.{length-toBe}
 use Rattle.unit_list.specs.inner.Walk.{arrayUnitsFrom}
 use Rattle.record_arrays_write.specs.inner.Measures.{measureOf, countBytes}
 use Rattle.record_arrays_write.proofs.Stores.{count-none, count-two, count-never}
 use Rattle.record_arrays_write.proofs.put.put_count.Statement.{statement}
 use Rattle.record_arrays_write.proofs.put.put_count.Tie as tie
-use Rattle.parse.proofs.Stores.{put-room}
 
 -- Where the function starts, seen from a later place.
 abbrev start : (c : tie.After-measure-units) → tie.Start

@@ -6,11 +6,11 @@ use borrow.Author.Needs.{needs}
 use lib.ListN.{length}
 use Rattle.boxes.specs.Walk.{countFound}
 use Rattle.boxes.proofs.Walk.{plus, plus-zero}
+use Rattle.split.specs.inner.Walk.{itemUnitsFrom}
 use Rattle.split.proofs.Walks.{count-on, count-end, count-refused}
 use Rattle.split.proofs.Items.{Turn, found-unit, found-end, found-refusal}
 use Rattle.split.proofs.walk.item_count.Statement.{statement}
 use Rattle.split.proofs.walk.item_count.Tie as tie
-use Rattle.split.specs.inner.Walk.{itemUnitsFrom}
 
 abbrev Inv-walk : tie.InvT-walk
 Inv-walk item size at₀ n₀ at n =

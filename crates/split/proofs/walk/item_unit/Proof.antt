@@ -6,11 +6,11 @@ use borrow.Author.Needs.{needs}
 use lib.ListN.{length}
 use Rattle.boxes.specs.Walk.{found}
 use Rattle.boxes.proofs.Walk.{total, total-count}
+use Rattle.split.specs.inner.Walk.{itemUnitsFrom}
 use Rattle.split.proofs.Walks.{find-here, find-on}
 use Rattle.split.proofs.Items.{Turn, found-unit, found-none}
 use Rattle.split.proofs.walk.item_unit.Statement.{statement}
 use Rattle.split.proofs.walk.item_unit.Tie as tie
-use Rattle.split.specs.inner.Walk.{itemUnitsFrom}
 
 abbrev Inv-walk : tie.InvT-walk
 Inv-walk item size k at₀ skip₀ at skip =

@@ -1,9 +1,9 @@
 -- `parse_nal` tests the length and the type, and reads the payload.
 use mathlib.Core.Path.{sym, _∙_}
 use native.Mathlib.Omega.{arith}
-use Rattle.sps.specs.Sps.{spsHead, zeroSps, parseSps}
-use Rattle.params.proofs.Units.{unit-header, unit-long, unit-other, unit-read}
 use borrow.Author.Needs.{needs}
+use Rattle.params.proofs.Units.{unit-header, unit-long, unit-other, unit-read}
+use Rattle.sps.specs.Sps.{spsHead, zeroSps, parseSps}
 use Rattle.sps.proofs.SpsHead.parse_nal.Statement.{statement}
 use Rattle.sps.proofs.SpsHead.parse_nal.Tie as tie
 

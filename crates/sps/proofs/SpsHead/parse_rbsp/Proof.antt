@@ -4,12 +4,12 @@ use native.Mathlib.Omega.{arith}
 use lib.ListN.{length, take}
 use lib.Seq.{length-take-le}
 use borrow.Author.Tests.{le-leb, lt-leb}
+use borrow.Author.Needs.{needs}
+use Rattle.params.specs.inner.Answers.{readOr}
 use Rattle.sps.specs.Sps.{zeroSps, parseSpsRbsp}
 use Rattle.sps.proofs.Look.{sps-looks}
-use borrow.Author.Needs.{needs}
 use Rattle.sps.proofs.SpsHead.parse_rbsp.Statement.{statement}
 use Rattle.sps.proofs.SpsHead.parse_rbsp.Tie as tie
-use Rattle.params.specs.inner.Answers.{readOr}
 
 no-sps-requires : tie.Need-no-sps-requires
 no-sps-requires c κs = search needs

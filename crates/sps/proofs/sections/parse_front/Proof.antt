@@ -1,16 +1,16 @@
 -- `parse_front` reads the five sections one after another, and they make up the head.
 use mathlib.Core.Path.{_≡_, ap, refl, sym, _∙_}
+use borrow.Author.Needs.{needs}
 use Rattle.parse.specs.Parse.{value, bind}
 use Rattle.bit_reader.specs.inner.Answers.{parsed, numberIn}
 use Rattle.bit_reader.proofs.Chain.{bind-next, bind-refused, bind-part, bind-next-part}
+use Rattle.params.specs.inner.Answers.{readOr}
 use Rattle.sps.specs.Sps.{spsHead, zeroSps}
 use Rattle.sps.specs.inner.Sections.{windowOf, spsHeadOf}
 use Rattle.sps.proofs.Bounds.{ids-place, depth-after}
 use Rattle.sps.proofs.SpsSections.{sps-sections}
-use borrow.Author.Needs.{needs}
 use Rattle.sps.proofs.sections.parse_front.Statement.{statement}
 use Rattle.sps.proofs.sections.parse_front.Tie as tie
-use Rattle.params.specs.inner.Answers.{readOr}
 
 read-ids-requires : tie.Need-read-ids-requires
 read-ids-requires c κs = search needs

@@ -3,14 +3,14 @@ use Prim.Native.Nat.{ℕ}
 use mathlib.Core.Path.{ap, sym, _∙_}
 use native.Mathlib.Omega.{arith}
 use lib.ListN.{length-replicate}
-use Rattle.rbsp.proofs.Filling.{front-count}
-use Rattle.sps.specs.Sps.{spsHead, zeroSps}
-use Rattle.params.proofs.Look.{enough}
-use Rattle.sps.proofs.Look.{sps-looks}
 use borrow.Author.Needs.{needs}
+use Rattle.rbsp.proofs.Filling.{front-count}
+use Rattle.params.specs.inner.Answers.{readOr}
+use Rattle.params.proofs.Look.{enough}
+use Rattle.sps.specs.Sps.{spsHead, zeroSps}
+use Rattle.sps.proofs.Look.{sps-looks}
 use Rattle.sps.proofs.sections.parse_payload.Statement.{statement}
 use Rattle.sps.proofs.sections.parse_payload.Tie as tie
-use Rattle.params.specs.inner.Answers.{readOr}
 
 slice-aggregate-fill-rbsp : tie.Need-slice-aggregate-fill-rbsp
 slice-aggregate-fill-rbsp c = search needs

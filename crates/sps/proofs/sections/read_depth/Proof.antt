@@ -1,8 +1,8 @@
 -- `read_depth` returns the answer of the section: by cases.
 use mathlib.Core.Path.{sym, _∙_}
 use native.Mathlib.Omega.{arith}
-use Rattle.sps.proofs.Depth.{depth-subpictures, depth-deep, depth-fine}
 use borrow.Author.Needs.{needs}
+use Rattle.sps.proofs.Depth.{depth-subpictures, depth-deep, depth-fine}
 use Rattle.sps.proofs.sections.read_depth.Statement.{statement}
 use Rattle.sps.proofs.sections.read_depth.Tie as tie
 

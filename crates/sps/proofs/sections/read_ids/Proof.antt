@@ -1,9 +1,9 @@
 -- `read_ids` reads the six fields one after another.
 use mathlib.Core.Path.{sym, _∙_}
 use native.Mathlib.Omega.{arith}
+use borrow.Author.Needs.{needs}
 use Rattle.bit_reader.proofs.Chain.{bind-number, bind-next, number-low, number-low-after}
 use Rattle.sps.specs.inner.Sections.{ids}
-use borrow.Author.Needs.{needs}
 use Rattle.sps.proofs.sections.read_ids.Statement.{statement}
 use Rattle.sps.proofs.sections.read_ids.Tie as tie
 

@@ -1,8 +1,8 @@
 -- `read_offsets` reads the four codes one after another.
 use mathlib.Core.Path.{sym, _∙_}
+use borrow.Author.Needs.{needs}
 use Rattle.bit_reader.proofs.Chain.{bind-next}
 use Rattle.sps.specs.Sps.{window}
-use borrow.Author.Needs.{needs}
 use Rattle.sps.proofs.sections.read_offsets.Statement.{statement}
 use Rattle.sps.proofs.sections.read_offsets.Tie as tie
 

@@ -1,8 +1,8 @@
 -- `read_size` reads the six fields one after another.
 use mathlib.Core.Path.{sym, _∙_}
+use borrow.Author.Needs.{needs}
 use Rattle.bit_reader.proofs.Chain.{bind-next}
 use Rattle.sps.specs.inner.Sections.{size}
-use borrow.Author.Needs.{needs}
 use Rattle.sps.proofs.sections.read_size.Statement.{statement}
 use Rattle.sps.proofs.sections.read_size.Tie as tie
 

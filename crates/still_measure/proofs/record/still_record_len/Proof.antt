@@ -2,13 +2,13 @@
 use native.Mathlib.Omega.{arith}
 use mathlib.Core.Path.{sym, ap, _∙_}
 use borrow.Author.Needs.{needs}
+use Rattle.boxes.specs.Bytes.{AllBytes}
 use Rattle.compact.specs.Answers.{compactOf}
 use Rattle.compact.specs.declared.CompactRead.{CompactRead}
 use Rattle.still.specs.Stills.{stillRecord}
 use Rattle.still.proofs.LocalArrays.{Read, was-read, not-read, counted-as, counted-refused, record-read, record-unread}
 use Rattle.still_measure.proofs.record.still_record_len.Statement.{statement}
 use Rattle.still_measure.proofs.record.still_record_len.Tie as tie
-use Rattle.boxes.specs.Bytes.{AllBytes}
 
 slice-aggregate-parse : tie.Need-slice-aggregate-parse
 slice-aggregate-parse c = search needs

@@ -1,11 +1,11 @@
 -- `expanded_len` returns the refusal of full write or restore, else the length of the stream.
 use mathlib.Core.Path.{sym, ap, _∙_}
+use borrow.Author.Needs.{needs}
 use Rattle.parse.specs.Answers.{countOf}
 use Rattle.access_unit.specs.Answers.{tolsOf}
 use Rattle.still.proofs.Lists.{ready}
 use Rattle.still.proofs.LocalArrays.{counted-as, counted-refused}
 use Rattle.still.proofs.Steps.{stream-refused, stream-layers, stream-plain, plain-item}
-use borrow.Author.Needs.{needs}
 use Rattle.still_measure.proofs.stream.expanded_len.Statement.{statement}
 use Rattle.still_measure.proofs.stream.expanded_len.Tie as tie
 

@@ -1,9 +1,9 @@
 -- `plain_len` adds the unit of the stored bytes to the stream of the list, or returns the refusal of the item.
 use native.Mathlib.Omega.{arith}
+use borrow.Author.Needs.{needs}
 use Rattle.still.proofs.LocalArrays.{counted-refused}
 use Rattle.still_measure.specs.inner.Plain.{Listed}
 use Rattle.still_measure.proofs.Streams.{sized-listed, sized-refused, listed-small, stream-counted}
-use borrow.Author.Needs.{needs}
 use Rattle.still_measure.proofs.stream.plain_len.Statement.{statement}
 use Rattle.still_measure.proofs.stream.plain_len.Tie as tie
 

@@ -1,7 +1,7 @@
 -- `plain_sizes` refuses an item that is too long, and measures the list without it.
 use native.Mathlib.Omega.{arith}
-use Rattle.still_measure.proofs.Streams.{plain-too-long, plain-measured}
 use borrow.Author.Needs.{needs}
+use Rattle.still_measure.proofs.Streams.{plain-too-long, plain-measured}
 use Rattle.still_measure.proofs.stream.plain_sizes.Statement.{statement}
 use Rattle.still_measure.proofs.stream.plain_sizes.Tie as tie
 

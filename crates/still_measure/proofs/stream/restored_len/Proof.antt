@@ -1,8 +1,8 @@
 -- `restored_len` returns the length of the item if the record has a length, or the first refusal.
 use mathlib.Core.Path.{sym, ap, _∙_}
+use borrow.Author.Needs.{needs}
 use Rattle.parse.specs.Answers.{countOf}
 use Rattle.still.proofs.Steps.{item-counted, item-refused}
-use borrow.Author.Needs.{needs}
 use Rattle.still_measure.proofs.stream.restored_len.Statement.{statement}
 use Rattle.still_measure.proofs.stream.restored_len.Tie as tie
 

@@ -1,13 +1,13 @@
 -- `stream_len` expands into a local array that is long enough, and measures the stream of the result.
 use native.Mathlib.Omega.{arith}
 use mathlib.Core.Path.{sym, ap, _∙_}
+use borrow.Author.Needs.{needs}
 use Rattle.expand.specs.Answers.{expandAnswerOf}
 use Rattle.expand.specs.declared.ExpandAnswer.{ExpandAnswer}
 use Rattle.access_unit.specs.Answers.{tolsOf}
 use Rattle.still.specs.Stills.{anyPicture}
 use Rattle.still.specs.inner.Steps.{streamFrom}
 use Rattle.still.proofs.LocalArrays.{Expanded, was-expanded, not-expanded, counted-as, counted-refused, stream-expanded, stream-unexpanded}
-use borrow.Author.Needs.{needs}
 use Rattle.still_measure.proofs.stream.stream_len.Statement.{statement}
 use Rattle.still_measure.proofs.stream.stream_len.Tie as tie
 

@@ -1,6 +1,6 @@
 -- `put_picture` stores the start code, the header and the stored bytes, one after the other.
-use Rattle.still_plain.proofs.Storing.{picture-stored}
 use borrow.Author.Needs.{needs}
+use Rattle.still_plain.proofs.Storing.{picture-stored}
 use Rattle.still_plain.proofs.plain.put_picture.Statement.{statement}
 use Rattle.still_plain.proofs.plain.put_picture.Tie as tie
 

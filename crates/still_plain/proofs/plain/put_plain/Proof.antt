@@ -1,9 +1,9 @@
 -- `put_plain` writes the stream of the list and the stored bytes, or returns the refusal of the item.
+use borrow.Author.Needs.{needs}
 use Rattle.parse.proofs.Output.{written-refused}
 use Rattle.still.specs.inner.Steps.{plainStream}
 use Rattle.still.proofs.LocalArrays.{given-as}
 use Rattle.still_measure.proofs.Streams.{sized-listed, sized-refused}
-use borrow.Author.Needs.{needs}
 use Rattle.still_plain.proofs.plain.put_plain.Statement.{statement}
 use Rattle.still_plain.proofs.plain.put_plain.Tie as tie
 

@@ -1,10 +1,10 @@
 -- `put_sized` stores the stream of the list and then the unit of the stored bytes, if the output has room for both.
 use native.Mathlib.Omega.{arith}
+use borrow.Author.Needs.{needs}
 use Rattle.parse.proofs.Output.{written-short, written-fits}
 use Rattle.still.specs.inner.Steps.{unitsStream}
 use Rattle.still_measure.proofs.Streams.{listed-small, stream-given, stream-long}
 use Rattle.still_plain.proofs.Storing.{puts-front, stream-stored}
-use borrow.Author.Needs.{needs}
 use Rattle.still_plain.proofs.plain.put_sized.Statement.{statement}
 use Rattle.still_plain.proofs.plain.put_sized.Tie as tie
 

@@ -7,9 +7,9 @@ use lib.ListN.{length}
 use lib.Seq.{sets}
 use borrow.Author.Needs.{needs}
 use Rattle.boxes.specs.Bytes.{toChunk}
+use Rattle.boxes.proofs.Spans.{held-long}
 use Rattle.unit_list.proofs.write.put_unit.Statement.{statement}
 use Rattle.unit_list.proofs.write.put_unit.Tie as tie
-use Rattle.boxes.proofs.Spans.{held-long}
 
 part-requires : tie.Need-part-requires
 part-requires c κs = search needs

@@ -69,6 +69,7 @@ use Rattle.bit_reader.proofs.reader.BitReader.align.Met as align-thm
 use Rattle.bit_reader.proofs.reader.BitReader.bit_position.Symbol as position-def
 use Rattle.bit_reader.proofs.reader.BitReader.bit_position.Symbol.{name as #position}
 use Rattle.bit_reader.proofs.reader.BitReader.bit_position.Met as position-thm
+use Rattle.vps.specs.inner.Front.{vpsFront, frontOf}
 use Rattle.vps.proofs.VpsFront.{near, front-through}
 use Rattle.vps.proofs.first_ptl.front_of as decide
 use Rattle.vps.proofs.first_ptl.front_of.Symbol as decide-def
@@ -78,7 +79,6 @@ use Rattle.vps.proofs.first_ptl.front.Key.{name as #front}
 use Rattle.vps.proofs.first_ptl.front as f
 use Rattle.vps.proofs.first_ptl.front.Statement as stated
 use Rattle.vps.proofs.first_ptl.front.Code as code
-use Rattle.vps.specs.inner.Front.{vpsFront, frontOf}
 
 abbrev stayed : Stays (f.ended .signature .params) (f.ended .kept)
 stayed = (stay-none-slice (0 ∷ []) tt (plain (λ _. u8)) yes, tt)

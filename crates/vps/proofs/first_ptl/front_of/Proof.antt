@@ -1,6 +1,6 @@
 -- `front_of` returns what the definition makes of the answers: by cases, six of them.
-use Rattle.vps.proofs.VpsFront.{several, no-layer, in-front}
 use borrow.Author.Needs.{needs}
+use Rattle.vps.proofs.VpsFront.{several, no-layer, in-front}
 use Rattle.vps.proofs.first_ptl.front_of.Statement.{statement}
 use Rattle.vps.proofs.first_ptl.front_of.Tie as tie
 

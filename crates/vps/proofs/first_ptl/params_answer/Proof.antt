@@ -1,9 +1,9 @@
 -- `params_answer` leaves the position out: by cases.
 use mathlib.Core.Path.{sym, ap}
 use borrow.Author.Needs.{needs}
+use Rattle.vps.specs.inner.Front.{paramsAnswerOf}
 use Rattle.vps.proofs.first_ptl.params_answer.Statement.{statement}
 use Rattle.vps.proofs.first_ptl.params_answer.Tie as tie
-use Rattle.vps.specs.inner.Front.{paramsAnswerOf}
 
 enum-told : tie.Need-enum-told
 enum-told c = search needs

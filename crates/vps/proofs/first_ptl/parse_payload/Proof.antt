@@ -3,15 +3,15 @@ use Prim.Native.Nat.{ℕ}
 use mathlib.Core.Path.{ap, sym, _∙_}
 use native.Mathlib.Omega.{arith}
 use lib.ListN.{length-replicate}
+use borrow.Author.Needs.{needs}
 use Rattle.rbsp.proofs.Filling.{front-count}
 use Rattle.ptl.specs.Ptl.{zeroPtl}
-use Rattle.vps.specs.Vps.{vpsPtl}
+use Rattle.params.specs.inner.Answers.{readOr}
 use Rattle.params.proofs.Look.{enough}
+use Rattle.vps.specs.Vps.{vpsPtl}
 use Rattle.vps.proofs.Look.{vps-looks}
-use borrow.Author.Needs.{needs}
 use Rattle.vps.proofs.first_ptl.parse_payload.Statement.{statement}
 use Rattle.vps.proofs.first_ptl.parse_payload.Tie as tie
-use Rattle.params.specs.inner.Answers.{readOr}
 
 slice-aggregate-fill-rbsp : tie.Need-slice-aggregate-fill-rbsp
 slice-aggregate-fill-rbsp c = search needs

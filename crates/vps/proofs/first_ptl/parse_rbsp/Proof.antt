@@ -1,7 +1,7 @@
 -- `parse_rbsp` of a VPS reads what comes before the PTL, and the PTL after it.
 use native.Mathlib.Omega.{arith}
-use Rattle.vps.proofs.FirstPtl.{front-answer, ptl-answered}
 use borrow.Author.Needs.{needs}
+use Rattle.vps.proofs.FirstPtl.{front-answer, ptl-answered}
 use Rattle.vps.proofs.first_ptl.parse_rbsp.Statement.{statement}
 use Rattle.vps.proofs.first_ptl.parse_rbsp.Tie as tie
 

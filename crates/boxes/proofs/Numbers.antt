@@ -6,7 +6,7 @@ use native.Mathlib.Omega.{arith}
 use native.Mathlib.Numerals.{add-one}
 use lib.ListN.{length, getD, take, length-append}
 use lib.Seq.{getD-append-add, getD-at, getD-take}
-use Rattle.boxes.specs.Bytes.{be, toBe}
+use Rattle.boxes.specs.Bytes.{be, toBe, AllBytes}
 
 -- one byte more
 pub be-more : (s : List ℕ) (p w : ℕ) → be s p (w + 1) ≡ be s p w * 256 + getD s (p + w) 0
@@ -59,7 +59,7 @@ be-toBe-at s w n t h =
     rw e (be-after s (toBe w n ++ t) 0 w ∙ be-toBe w n t h)
 
 -- w bytes make a number below 256 ^ w
-pub be-below : (s : List ℕ) (p w : ℕ) → ((i : ℕ) → getD s i 0 < 256) → be s p w < 256 ^ w
+pub be-below : (s : List ℕ) (p w : ℕ) → AllBytes s → be s p w < 256 ^ w
 unfolding be
 be-below s p zero b = omega arith
 be-below s p (suc w) b = let a = be-below s p w b in omega (arith, b (p + w))

@@ -10,7 +10,7 @@ use lib.Seq.{getD-take, getD-drop, drop-cons, drop-drop}
 use borrow.Author.Tests.{le-leb, eq-eqb, ne-eqb}
 use Rattle.parse.specs.Outcome.{accept, refuse}
 use Rattle.parse.specs.Parse.{Parsed, value, refused, bind, times}
-use Rattle.boxes.specs.Bytes.{toBe, chunk, toChunk}
+use Rattle.boxes.specs.Bytes.{toBe, chunk, toChunk, AllBytes}
 use Rattle.boxes.specs.Parts.{held}
 use Rattle.boxes.specs.declared.Span.{Span}
 use Rattle.boxes.proofs.Fields.{Chunk, chunk-read}
@@ -29,10 +29,6 @@ use Rattle.compact.specs.declared.CompactVvcConfig.{CompactVvcConfig}
 use Rattle.compact.proofs.OneArray.{list-long}
 use Rattle.compact.proofs.RecordRead.{times-length, parse-too-long, parse-empty, parse-short, parse-over, parse-given, record-given}
 use Rattle.compact.proofs.RecordBytes.{bytes-given}
-
--- every element is a byte
-abbrev pub AllBytes : List ℕ → Type 0
-AllBytes s = (i : ℕ) → getD s i 0 < 256
 
 bytes-take : (n : ℕ) (s : List ℕ) → AllBytes s → AllBytes (take n s)
 bytes-take n s h i =

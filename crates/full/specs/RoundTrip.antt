@@ -5,6 +5,7 @@ use mathlib.Core.Bool.{Bool, true, false}
 use mathlib.Core.List.{List}
 use lib.ListN.{length, getD}
 use Rattle.parse.specs.Outcome.{accept}
+use Rattle.boxes.specs.Bytes.{AllBytes}
 use Rattle.ptl.specs.declared.VvcPtlRecord.{VvcPtlRecord}
 use Rattle.ptl_record.specs.AsWritten.{asWritten}
 use Rattle.full.specs.Read.{plainHead, parseFull}
@@ -61,5 +62,5 @@ headRead h = readBack (h .«ptl_present_flag») h (asWritten (h .«native_ptl»)
 -- the head `headRead h`, and consumes all bytes. No record that is written is longer than 2^30 bytes, so 23 cannot occur.
 abbrev pub ReadAfterSerialize : Type 0
 ReadAfterSerialize =
-    (h : VvcConfig) → Typed h → (list : List ℕ) → ((i : ℕ) → getD list i 0 < 256) → (b : List ℕ) → serializeFull h list ≡ accept b
+    (h : VvcConfig) → Typed h → (list : List ℕ) → AllBytes list → (b : List ℕ) → serializeFull h list ≡ accept b
     → parseFull b ≡ accept (record { head = headRead h; consumed = length b; listLength = length list }, list)

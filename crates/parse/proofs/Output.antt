@@ -1,4 +1,4 @@
--- Laws of lent output: what a call gives and leaves on a refusal, where the result is too long (20), and where it fits.
+-- Laws of lent output: what a call returns and leaves on a refusal, where the result is too long (20), and where it fits.
 use Prim.Native.Nat.{ℕ, _≤_, _<_}
 use mathlib.Core.Path.{_≡_, ap, refl, _∙_}
 use mathlib.Core.List.{List}

@@ -8,6 +8,8 @@ use mathlib.Core.List.{List}
 use lib.Dec.{leb}
 use lib.ListN.{length, take, drop, length-append}
 use lib.Seq.{take-at}
+use Rattle.error.specs.Refusals.{numberOf}
+use Rattle.error.specs.declared.Refusal.{Refusal}
 use Rattle.parse.specs.Logic.{if_then_else_}
 use Rattle.parse.specs.Outcome.{Outcome, accept, refuse, andThen, lentOutput, counted, handsBack}
 use Rattle.parse.specs.Parse.{outcome}
@@ -17,13 +19,19 @@ use Rattle.boxes.specs.Walk.{countFound}
 use Rattle.boxes.specs.Bytes.{AllBytes}
 use Rattle.boxes.specs.declared.Span.{Span}
 use Rattle.compact.specs.Compact.{CompactParsed, compactRecord, parsedWith, parseCompact}
+use Rattle.compact.specs.Answers.{compactOf}
 use Rattle.compact.specs.declared.CompactVvcConfig.{CompactVvcConfig}
+use Rattle.compact.specs.declared.CompactRead.{CompactRead}
+use Rattle.compact.specs.declared.CompactRead.the-variants as R
 use Rattle.full.specs.Read.{zeroHead}
 use Rattle.full.specs.Write.{serializeFull}
 use Rattle.full.specs.declared.VvcConfig.{VvcConfig}
 use Rattle.expand.specs.Expand.{FullHead, toFull}
-use Rattle.expand.specs.Answers.{expandedGiven}
+use Rattle.expand.specs.Answers.{expandedGiven, expandAnswerOf, expandedOf}
 use Rattle.expand.specs.declared.Picture.{Picture}
+use Rattle.expand.specs.declared.ExpandAnswer.{ExpandAnswer}
+use Rattle.expand.specs.declared.Expanded as E
+use Rattle.expand.specs.declared.ExpandAnswer.the-variants as A
 use Rattle.still.specs.Stills.{stillRecord, streamWith, anyPicture, stillStream}
 use Rattle.still.specs.inner.Steps.{ReadFrom, ExpandedFrom, recordFrom, streamExpanded, streamFrom}
 use Rattle.still.proofs.Lists.{list-short, expanded-short, expanded-count}
@@ -44,7 +52,7 @@ module _ {A : Type 0} (o : Outcome (A × List ℕ)) (out : List ℕ) (fits : (a 
         bytes = b;
         given = r .given;
         front = ap (take (length b)) (r .holds) ∙ take-at b (drop (length b) out) (length b) refl;
-        within = rw (r .holds) (omega (arith, length-append b (drop (length b) out)));
+        within = omega (arith, ap length (r .holds), length-append b (drop (length b) out));
       }
 
   pub not-stored : (n : ℕ) (after : List ℕ) → _≡_ {A = Outcome A × List ℕ} (refuse n, after) (lentOutput o out) → o ≡ refuse n
@@ -78,12 +86,12 @@ module _ (C : List ℕ) (bytes : AllBytes C) (out : List ℕ) where
       let h = list-short (r .config) list (record { compact = C; bytes = bytes; read = r; reads = e; config = refl }) in
       omega arith
 
-  pub was-read : (c : CompactVvcConfig) (n len : ℕ) (after : List ℕ)
+  read-as : (c : CompactVvcConfig) (n len : ℕ) (after : List ℕ)
       → _≡_ {A = Outcome CompactParsed × List ℕ} (
         accept (record { config = c; unitCount = n; listLength = len }),
         after,
       ) (lentOutput (parseCompact C) out) → 8554 ≤ length out → Read C c n len after
-  was-read c n len after e room =
+  read-as c n len after e room =
       let r : CompactParsed = record { config = c; unitCount = n; listLength = len } in
       let s = stored (parseCompact C) out (read-fits room) r after e in
       let l : len ≡ length (s .bytes) = list-counted C r (s .bytes) (s .given) in
@@ -96,10 +104,17 @@ module _ (C : List ℕ) (bytes : AllBytes C) (out : List ℕ) where
         from = record { compact = C; bytes = bytes; read = r; reads = g; config = refl };
       }
 
-  pub not-read : (n : ℕ) (after : List ℕ)
-      → _≡_ {A = Outcome CompactParsed × List ℕ} (refuse n, after) (lentOutput (parseCompact C) out) → 8554 ≤ length out
-      → parseCompact C ≡ refuse n
-  not-read n after e room = not-stored (parseCompact C) out (read-fits room) n after e
+  -- by the answer of the call
+  module _ (r : CompactRead) (after : List ℕ) (said : _≡_ {A = Outcome CompactParsed × List ℕ} (compactOf r, after) (lentOutput (parseCompact C) out))
+      (room : 8554 ≤ length out) where
+    read-answered : (x : CompactRead) → r ≡ x → _≡_ {A = Outcome CompactParsed × List ℕ} (compactOf x, after) (lentOutput (parseCompact C) out)
+    read-answered x e = ap (λ (y : CompactRead). (compactOf y, after)) (sym e) ∙ said
+
+    pub was-read : (c : CompactVvcConfig) (n len : ℕ) → r ≡ R.Read c n len → Read C c n len after
+    was-read c n len e = read-as c n len after (read-answered (R.Read c n len) e) room
+
+    pub not-read : (n : Refusal) → r ≡ R.Refused n → parseCompact C ≡ refuse (numberOf n)
+    not-read n e = not-stored (parseCompact C) out (read-fits room) (numberOf n) after (read-answered (R.Refused n) e)
 
 -- ### expansion
 
@@ -120,13 +135,13 @@ module _ (c : CompactVvcConfig) (pic : Picture) (list : List ℕ) (from : ReadFr
   answer-is o (accept r) h after d e = ap (λ (y : (Outcome FullHead × VvcConfig) × List ℕ). (y .0 .0, y .1)) e
   answer-is o (refuse n) h after d e = ap (λ (y : (Outcome FullHead × VvcConfig) × List ℕ). (y .0 .0, y .1)) e
 
-  pub was-expanded : (h : VvcConfig) (len : ℕ) (after : List ℕ)
+  expanded-as : (h : VvcConfig) (len : ℕ) (after : List ℕ)
       → _≡_ {A = (Outcome FullHead × VvcConfig) × List ℕ} (
         (accept (record { head = h; listLength = len }), h),
         after,
       ) (expandedGiven (toFull c pic list) out) → 8746 ≤ length out
       → Expanded c pic list h len after
-  was-expanded h len after e room =
+  expanded-as h len after e room =
       let r : FullHead = record { head = h; listLength = len } in
       let s = stored (toFull c pic list) out (expansion-fits room) r after (answer-is _ _ h after _ e) in
       let l : len ≡ length (s .bytes) = expanded-count c list from pic r (s .bytes) (s .given) in
@@ -139,10 +154,20 @@ module _ (c : CompactVvcConfig) (pic : Picture) (list : List ℕ) (from : ReadFr
         expanded-from = record { compact-list = list; from = from; picture = pic; full = r; expands = g; head = refl };
       }
 
-  pub not-expanded : (n : ℕ) (h : VvcConfig) (after : List ℕ)
-      → _≡_ {A = (Outcome FullHead × VvcConfig) × List ℕ} ((refuse n, h), after) (expandedGiven (toFull c pic list) out) → 8746 ≤ length out
-      → toFull c pic list ≡ refuse n
-  not-expanded n h after e room = not-stored (toFull c pic list) out (expansion-fits room) n after (answer-is _ _ h after _ e)
+  -- by the answer of the call
+  module _ (r : E.Expanded) (after : List ℕ)
+      (said : _≡_ {A = (Outcome FullHead × VvcConfig) × List ℕ} (expandedOf r, after) (expandedGiven (toFull c pic list) out))
+      (room : 8746 ≤ length out) where
+    expansion-answered : (x : ExpandAnswer) → r .answer ≡ x
+        → _≡_ {A = (Outcome FullHead × VvcConfig) × List ℕ} ((expandAnswerOf x (r .head), r .head), after) (expandedGiven (toFull c pic list) out)
+    expansion-answered x e = ap (λ (y : ExpandAnswer). ((expandAnswerOf y (r .head), r .head), after)) (sym e) ∙ said
+
+    pub was-expanded : (len : ℕ) → r .answer ≡ A.List len → Expanded c pic list (r .head) len after
+    was-expanded len e = expanded-as (r .head) len after (expansion-answered (A.List len) e) room
+
+    pub not-expanded : (n : Refusal) → r .answer ≡ A.Refused n → toFull c pic list ≡ refuse (numberOf n)
+    not-expanded n e =
+        not-stored (toFull c pic list) out (expansion-fits room) (numberOf n) after (answer-is _ _ (r .head) after _ (expansion-answered (A.Refused n) e))
 
 -- ### the path, step by step
 

@@ -12,7 +12,7 @@ use lib.Seq.{take-suc, drop-cons, drop-drop, getD-drop, getD-take, length-take-l
 use Rattle.parse.specs.Logic.{if_then_else_}
 use Rattle.parse.specs.Outcome.{accept}
 use Rattle.parse.specs.Parse.{Parsed, value, refused, bind, give, refusing, many, outcomeOr}
-use Rattle.boxes.specs.Bytes.{be, toBe, uint, chunk, toChunk, inside}
+use Rattle.boxes.specs.Bytes.{be, toBe, uint, chunk, toChunk, inside, AllBytes}
 use Rattle.boxes.specs.Parts.{held}
 use Rattle.boxes.specs.declared.Span.{Span}
 use Rattle.boxes.proofs.Numbers.{be-take, be-one}
@@ -196,7 +196,7 @@ module _ (s : List ℕ) (all : (i : ℕ) → getD s i 0 < 256) where
 -- ### the list
 
 -- what an accepted list is: its arrays, with the bytes of their units, written
-pub encode-decode : (s : List ℕ) → ((i : ℕ) → getD s i 0 < 256) → (xs : List (Array Span)) → decode s ≡ accept xs → encode (heldArrays s xs) ≡ s
+pub encode-decode : (s : List ℕ) → AllBytes s → (xs : List (Array Span)) → decode s ≡ accept xs → encode (heldArrays s xs) ≡ s
 unfolding encode
 encode-decode s all xs e =
     elim (ℕ-discrete (getD s 0 0) 1) [
@@ -204,7 +204,7 @@ encode-decode s all xs e =
       | yes h ↦ go s all h (many (array 4) s 1) refl (sym (decode-arrays s (accepted s xs e .lent) h) ∙ e)
     ]
   where
-    go : (s : List ℕ) → ((i : ℕ) → getD s i 0 < 256) → getD s 0 0 ≡ 1 → (o : Parsed (List (Array Span))) → many (array 4) s 1 ≡ o
+    go : (s : List ℕ) → AllBytes s → getD s 0 0 ≡ 1 → (o : Parsed (List (Array Span))) → many (array 4) s 1 ≡ o
         → outcomeOr 21 o ≡ accept xs
         → 1 ∷ encodeArrays 4 (heldArrays s xs) ≡ s
     go [] all h o m f = absurd (omega arith)

@@ -1,10 +1,8 @@
 -- `put_still` expands into a local array that is long enough, and writes the record of the result.
 use native.Mathlib.Omega.{arith}
-use mathlib.Core.Path.{sym, ap, _∙_}
+use mathlib.Core.Path.{sym}
 use borrow.Author.Needs.{needs}
 use Rattle.parse.proofs.Output.{written-refused}
-use Rattle.expand.specs.Answers.{expandAnswerOf}
-use Rattle.expand.specs.declared.ExpandAnswer.{ExpandAnswer}
 use Rattle.still.specs.inner.Steps.{recordFrom}
 use Rattle.still.proofs.LocalArrays.{Expanded, was-expanded, not-expanded, given-as, record-expanded, record-unexpanded}
 use Rattle.still_record.proofs.put_still.Statement.{statement}
@@ -33,9 +31,7 @@ expanded-at : (c : tie.After-known-told)
 expanded-at c =
     let tf = after-to-full c in
     let y = tf .to-full in
-    was-expanded _ _ _ (start tf .pre) _ (y .result .head) _ _
-    (ap (λ (x : ExpandAnswer). ((expandAnswerOf x (y .result .head), y .result .head), y .last .1 .1 .1 .0)) (sym (c .before .answer .given .1))
-    ∙ y .ensures) (omega arith)
+    was-expanded _ _ _ (start tf .pre) _ (y .result) _ (y .ensures) (omega arith) _ (c .before .answer .given .1)
 
 array-share-prefix-grouped : tie.Need-array-share-prefix-grouped
 array-share-prefix-grouped c = expanded-at c .within
@@ -64,10 +60,9 @@ returns-2 c =
     let a = s .args in
     let p = s .pre in
     let y = tf .to-full in
-    let e = ap (λ (x : ExpandAnswer). ((expandAnswerOf x (y .result .head), y .result .head), y .last .1 .1 .1 .0))
-    (sym (c .before .answer2 .given .1)) ∙ y .ensures in
     written-refused (recordFrom (a .config) (a .picture) (a .list .now)) (a .out .now) _
-    (record-unexpanded (a .config) (a .picture) (a .list .now) _ (not-expanded (a .config) (a .picture) (a .list .now) p _ _ _ _ e (omega arith)))
+    (record-unexpanded (a .config) (a .picture) (a .list .now) _
+    (not-expanded (a .config) (a .picture) (a .list .now) p _ (y .result) _ (y .ensures) (omega arith) _ (c .before .answer2 .given .1)))
 
 pub put-still-spec : {M : Type 1} → statement M
 put-still-spec =

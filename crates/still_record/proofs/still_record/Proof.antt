@@ -1,11 +1,9 @@
 -- `still_record` reads the compact record into a local array that is long enough, and writes the full record of the result.
 use native.Mathlib.Omega.{arith}
-use mathlib.Core.Path.{sym, ap, _∙_}
+use mathlib.Core.Path.{sym}
 use borrow.Author.Needs.{needs}
 use Rattle.parse.proofs.Output.{written-refused}
 use Rattle.boxes.specs.Bytes.{AllBytes}
-use Rattle.compact.specs.Answers.{compactOf}
-use Rattle.compact.specs.declared.CompactRead.{CompactRead}
 use Rattle.still.specs.Stills.{stillRecord}
 use Rattle.still.proofs.LocalArrays.{Read, was-read, not-read, given-as, record-read, record-unread}
 use Rattle.still_record.proofs.still_record.Statement.{statement}
@@ -38,8 +36,7 @@ read-at : (c : tie.After-known-told)
 read-at c =
     let p = after-parse c in
     let y = p .parse in
-    was-read _ (bytes-at (p .before)) _ _ _ _ _
-    (ap (λ (x : CompactRead). (compactOf x, y .last .1 .0)) (sym (c .before .read .given .1)) ∙ y .ensures) (omega arith)
+    was-read _ (bytes-at (p .before)) _ (y .result) _ (y .ensures) (omega arith) _ _ _ (c .before .read .given .1)
 
 array-share-prefix-list : tie.Need-array-share-prefix-list
 array-share-prefix-list c = read-at c .within
@@ -65,9 +62,9 @@ returns-2 c =
     let p = c .before .before .before .before in
     let a = start p .args in
     let y = p .parse in
-    let e = ap (λ (x : CompactRead). (compactOf x, y .last .1 .0)) (sym (c .before .read2 .given .1)) ∙ y .ensures in
     written-refused (stillRecord (a .«record» .now) (a .picture)) (a .out .now) _
-    (record-unread (a .«record» .now) (a .picture) _ (not-read (a .«record» .now) (bytes-at (p .before)) _ _ _ e (omega arith)))
+    (record-unread (a .«record» .now) (a .picture) _
+    (not-read (a .«record» .now) (bytes-at (p .before)) _ (y .result) _ (y .ensures) (omega arith) _ (c .before .read2 .given .1)))
 
 pub still-record-spec : {M : Type 1} → statement M
 still-record-spec =

@@ -1,10 +1,8 @@
 -- `put_stream` expands into a local array that is long enough, and writes the stream of the result.
 use native.Mathlib.Omega.{arith}
-use mathlib.Core.Path.{sym, ap, _∙_}
+use mathlib.Core.Path.{sym}
 use borrow.Author.Needs.{needs}
 use Rattle.parse.proofs.Output.{written-refused}
-use Rattle.expand.specs.Answers.{expandAnswerOf}
-use Rattle.expand.specs.declared.ExpandAnswer.{ExpandAnswer}
 use Rattle.access_unit.specs.Answers.{tolsOf}
 use Rattle.still.specs.Stills.{anyPicture}
 use Rattle.still.specs.inner.Steps.{streamFrom}
@@ -35,9 +33,7 @@ expanded-at : (c : tie.After-known-told)
 expanded-at c =
     let tf = after-to-full c in
     let y = tf .to-full in
-    was-expanded _ anyPicture _ (start tf .pre .0) _ (y .result .head) _ _
-    (ap (λ (x : ExpandAnswer). ((expandAnswerOf x (y .result .head), y .result .head), y .last .1 .1 .1 .0)) (sym (c .before .answer .given .1))
-    ∙ y .ensures) (omega arith)
+    was-expanded _ anyPicture _ (start tf .pre .0) _ (y .result) _ (y .ensures) (omega arith) _ (c .before .answer .given .1)
 
 array-share-prefix-grouped : tie.Need-array-share-prefix-grouped
 array-share-prefix-grouped c = expanded-at c .within
@@ -64,11 +60,9 @@ returns-2 c =
     let s = start tf in
     let a = s .args in
     let y = tf .to-full in
-    let e = ap (λ (x : ExpandAnswer). ((expandAnswerOf x (y .result .head), y .result .head), y .last .1 .1 .1 .0))
-    (sym (c .before .answer2 .given .1)) ∙ y .ensures in
     written-refused (streamFrom (a .config) (a .list .now) (a .stored .now) (tolsOf (a .tols))) (a .out .now) _
     (stream-unexpanded (a .config) (a .list .now) (a .stored .now) (tolsOf (a .tols)) _
-    (not-expanded (a .config) anyPicture (a .list .now) (s .pre .0) _ _ _ _ e (omega arith)))
+    (not-expanded (a .config) anyPicture (a .list .now) (s .pre .0) _ (y .result) _ (y .ensures) (omega arith) _ (c .before .answer2 .given .1)))
 
 pub put-stream-spec : {M : Type 1} → statement M
 put-stream-spec =

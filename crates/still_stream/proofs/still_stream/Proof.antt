@@ -1,12 +1,10 @@
 -- `still_stream` refuses an input that is too long, reads the compact record into a local array that is long enough, and writes the stream of the
 -- result.
 use native.Mathlib.Omega.{arith}
-use mathlib.Core.Path.{sym, ap, _∙_}
+use mathlib.Core.Path.{sym}
 use borrow.Author.Needs.{needs}
 use Rattle.parse.proofs.Output.{written-refused}
 use Rattle.boxes.specs.Bytes.{AllBytes}
-use Rattle.compact.specs.Answers.{compactOf}
-use Rattle.compact.specs.declared.CompactRead.{CompactRead}
 use Rattle.access_unit.specs.Answers.{tolsOf}
 use Rattle.still.specs.Stills.{stillStream}
 use Rattle.still.proofs.LocalArrays.{Read, was-read, not-read, given-as, stream-too-long, stream-read, stream-unread}
@@ -46,8 +44,7 @@ read-at : (c : tie.After-known-told)
     (c .before .before .before .before .parse .last .1 .0)
 read-at c =
     let y = c .before .before .before .before .parse in
-    was-read _ (bytes-at (after-list c)) _ _ _ _ _
-    (ap (λ (x : CompactRead). (compactOf x, y .last .1 .0)) (sym (c .before .read .given .1)) ∙ y .ensures) (omega arith)
+    was-read _ (bytes-at (after-list c)) _ (y .result) _ (y .ensures) (omega arith) _ _ _ (c .before .read .given .1)
 
 array-share-prefix-list : tie.Need-array-share-prefix-list
 array-share-prefix-list c = read-at c .within
@@ -74,10 +71,9 @@ returns-3 c =
     let l = c .before .before .before .before .before in
     let a = start l .args in
     let y = c .before .before .before .before .parse in
-    let e = ap (λ (x : CompactRead). (compactOf x, y .last .1 .0)) (sym (c .before .read2 .given .1)) ∙ y .ensures in
     written-refused (stillStream (a .«record» .now) (a .stored .now) (tolsOf (a .tols))) (a .out .now) _
     (stream-unread (a .«record» .now) (a .stored .now) (tolsOf (a .tols)) (l .before .if1 .left) _
-    (not-read (a .«record» .now) (bytes-at l) _ _ _ e (omega arith)))
+    (not-read (a .«record» .now) (bytes-at l) _ (y .result) _ (y .ensures) (omega arith) _ (c .before .read2 .given .1)))
 
 pub still-stream-spec : {M : Type 1} → statement M
 still-stream-spec =

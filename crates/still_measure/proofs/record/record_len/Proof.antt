@@ -1,9 +1,7 @@
 -- `record_len` expands into a local array that is long enough, and measures the record of the result.
 use native.Mathlib.Omega.{arith}
-use mathlib.Core.Path.{sym, ap, _∙_}
+use mathlib.Core.Path.{sym}
 use borrow.Author.Needs.{needs}
-use Rattle.expand.specs.Answers.{expandAnswerOf}
-use Rattle.expand.specs.declared.ExpandAnswer.{ExpandAnswer}
 use Rattle.still.specs.inner.Steps.{recordFrom}
 use Rattle.still.proofs.LocalArrays.{Expanded, was-expanded, not-expanded, counted-as, counted-refused, record-expanded, record-unexpanded}
 use Rattle.still_measure.proofs.record.record_len.Statement.{statement}
@@ -32,9 +30,7 @@ expanded-at : (c : tie.After-known-told)
 expanded-at c =
     let tf = after-to-full c in
     let y = tf .to-full in
-    was-expanded _ _ _ (start tf .pre) _ (y .result .head) _ _
-    (ap (λ (x : ExpandAnswer). ((expandAnswerOf x (y .result .head), y .result .head), y .last .1 .1 .1 .0)) (sym (c .before .answer .given .1))
-    ∙ y .ensures) (omega arith)
+    was-expanded _ _ _ (start tf .pre) _ (y .result) _ (y .ensures) (omega arith) _ (c .before .answer .given .1)
 
 array-share-prefix-grouped : tie.Need-array-share-prefix-grouped
 array-share-prefix-grouped c = expanded-at c .within
@@ -60,10 +56,9 @@ returns-2 c =
     let a = s .args in
     let p = s .pre in
     let y = tf .to-full in
-    let e = ap (λ (x : ExpandAnswer). ((expandAnswerOf x (y .result .head), y .result .head), y .last .1 .1 .1 .0))
-    (sym (c .before .answer2 .given .1)) ∙ y .ensures in
     counted-refused (recordFrom (a .config) (a .picture) (a .list .now)) _
-    (record-unexpanded (a .config) (a .picture) (a .list .now) _ (not-expanded (a .config) (a .picture) (a .list .now) p _ _ _ _ e (omega arith)))
+    (record-unexpanded (a .config) (a .picture) (a .list .now) _
+    (not-expanded (a .config) (a .picture) (a .list .now) p _ (y .result) _ (y .ensures) (omega arith) _ (c .before .answer2 .given .1)))
 
 pub record-len-spec : {M : Type 1} → statement M
 record-len-spec =

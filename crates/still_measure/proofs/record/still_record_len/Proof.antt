@@ -1,10 +1,8 @@
 -- `still_record_len` reads the compact record into a local array that is long enough, and measures the full record of the result.
 use native.Mathlib.Omega.{arith}
-use mathlib.Core.Path.{sym, ap, _∙_}
+use mathlib.Core.Path.{sym}
 use borrow.Author.Needs.{needs}
 use Rattle.boxes.specs.Bytes.{AllBytes}
-use Rattle.compact.specs.Answers.{compactOf}
-use Rattle.compact.specs.declared.CompactRead.{CompactRead}
 use Rattle.still.specs.Stills.{stillRecord}
 use Rattle.still.proofs.LocalArrays.{Read, was-read, not-read, counted-as, counted-refused, record-read, record-unread}
 use Rattle.still_measure.proofs.record.still_record_len.Statement.{statement}
@@ -30,8 +28,7 @@ read-at : (c : tie.After-known-told)
     (c .before .before .before .before .parse .last .1 .0)
 read-at c =
     let y = c .before .before .before .before .parse in
-    was-read _ (bytes-at (c .before .before .before .before .before)) _ _ _ _ _
-    (ap (λ (x : CompactRead). (compactOf x, y .last .1 .0)) (sym (c .before .read .given .1)) ∙ y .ensures) (omega arith)
+    was-read _ (bytes-at (c .before .before .before .before .before)) _ (y .result) _ (y .ensures) (omega arith) _ _ _ (c .before .read .given .1)
 
 array-share-prefix-list : tie.Need-array-share-prefix-list
 array-share-prefix-list c = read-at c .within
@@ -52,10 +49,10 @@ returns-2 : tie.Need-returns-2
 returns-2 c =
     let a = c .before .before .before .before .before .before .before .args in
     let y = c .before .before .before .before .parse in
-    let e = ap (λ (x : CompactRead). (compactOf x, y .last .1 .0)) (sym (c .before .read2 .given .1)) ∙ y .ensures in
     counted-refused (stillRecord (a .«record» .now) (a .picture)) _
     (record-unread (a .«record» .now) (a .picture) _
-    (not-read (a .«record» .now) (bytes-at (c .before .before .before .before .before)) _ _ _ e (omega arith)))
+    (not-read (a .«record» .now) (bytes-at (c .before .before .before .before .before)) _ (y .result) _ (y .ensures) (omega arith) _
+    (c .before .read2 .given .1)))
 
 pub still-record-len-spec : {M : Type 1} → statement M
 still-record-len-spec =

@@ -1,11 +1,9 @@
 -- `still_stream_len` refuses an input that is too long, reads the compact record into a local array that is long enough, and measures the stream of
 -- the result.
 use native.Mathlib.Omega.{arith}
-use mathlib.Core.Path.{sym, ap, _∙_}
+use mathlib.Core.Path.{sym}
 use borrow.Author.Needs.{needs}
 use Rattle.boxes.specs.Bytes.{AllBytes}
-use Rattle.compact.specs.Answers.{compactOf}
-use Rattle.compact.specs.declared.CompactRead.{CompactRead}
 use Rattle.access_unit.specs.Answers.{tolsOf}
 use Rattle.still.specs.Stills.{stillStream}
 use Rattle.still.proofs.LocalArrays.{Read, was-read, not-read, counted-as, counted-refused, stream-too-long, stream-read, stream-unread}
@@ -45,8 +43,7 @@ read-at : (c : tie.After-known-told)
 read-at c =
     let p = after-parse c in
     let y = p .parse in
-    was-read _ (bytes-at (p .before)) _ _ _ _ _
-    (ap (λ (x : CompactRead). (compactOf x, y .last .1 .0)) (sym (c .before .read .given .1)) ∙ y .ensures) (omega arith)
+    was-read _ (bytes-at (p .before)) _ (y .result) _ (y .ensures) (omega arith) _ _ _ (c .before .read .given .1)
 
 array-share-prefix-list : tie.Need-array-share-prefix-list
 array-share-prefix-list c = read-at c .within
@@ -69,10 +66,9 @@ returns-3 c =
     let p = c .before .before .before .before in
     let a = start p .args in
     let y = p .parse in
-    let e = ap (λ (x : CompactRead). (compactOf x, y .last .1 .0)) (sym (c .before .read2 .given .1)) ∙ y .ensures in
     counted-refused (stillStream (a .«record» .now) (a .stored .now) (tolsOf (a .tols))) _
     (stream-unread (a .«record» .now) (a .stored .now) (tolsOf (a .tols)) (p .before .before .if1 .left) _
-    (not-read (a .«record» .now) (bytes-at (p .before)) _ _ _ e (omega arith)))
+    (not-read (a .«record» .now) (bytes-at (p .before)) _ (y .result) _ (y .ensures) (omega arith) _ (c .before .read2 .given .1)))
 
 pub still-stream-len-spec : {M : Type 1} → statement M
 still-stream-len-spec =

@@ -93,7 +93,7 @@ vvcc_written vvcc_still_stream(const uint8_t *record, size_t record_len,
  * The unit list of the record is written to `scratch` as soon as the record is accepted; `scratch` needs at most 4*record_len bytes. `out` needs
  * at most 2*record_len + 5*item_len/2 bytes, and with prefix size 4 at most 2*record_len + item_len.
  * Refusals, in this order: 23 (either input); 3, then in byte order 1 and 2 (the record); 20 (`scratch`); 23 (the unit list has more than 2^30
- * bytes); 4, then in byte order 1 and 5 (the item); 19; 20. */
+ * bytes); in byte order 1 and 5 (the item); 19; 20. */
 vvcc_written vvcc_access_unit(const uint8_t *record, size_t record_len,
                               const uint8_t *item, size_t item_len,
                               uint8_t has_target, uint16_t target,

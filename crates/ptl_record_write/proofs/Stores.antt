@@ -100,28 +100,26 @@ module _ (p : VvcPtlRecord) where
       let e3 : at + 3 ≡ suc (suc (suc at)) = omega arith in
       rw (add-one at, e2, e3)
 
-module _ (p : VvcPtlRecord) (sublayers : ℕ) where
-  abbrev F : List ℕ
-  F = frontBytes p
+-- two runs, an element and a run, stored one after another
+four-stored : (F L S d : List ℕ) (n at : ℕ)
+    → sets (set (sets (sets d at F) (at + length F) L) (at + length F + length L) n) (at + length F + length L + 1) S
+    ≡ sets d at (((F ++ L) ++ (n ∷ [])) ++ S)
+four-stored F L S d n at =
+    let a : at + length F + length L ≡ at + length (F ++ L) = omega (arith, length-append F L) in
+    let b : at + length F + length L + 1 ≡ at + length ((F ++ L) ++ (n ∷ [])) =
+    omega (arith, length-append F L, length-append (F ++ L) (n ∷ [])) in
+    ap (λ (x : List ℕ). sets (set x (at + length F + length L) n) (at + length F + length L + 1) S) (sets-then d at (at + length F) F L refl)
+    ∙ ap (λ (x : List ℕ). sets x (at + length F + length L + 1) S) (sets-then d at (at + length F + length L) (F ++ L) (n ∷ []) a)
+    ∙ sets-then d at (at + length F + length L + 1) ((F ++ L) ++ (n ∷ [])) S b
 
-  abbrev L : List ℕ
-  L = levelPart p sublayers
-
-  abbrev N : List ℕ
-  N = p .«num_sub_profiles» ∷ []
-
-  abbrev S : List ℕ
-  S = subProfileBytes (take (p .«num_sub_profiles») (p .«general_sub_profile_idc»))
-
-  -- the fields, stored one after another
-  pub ptl-stored : (d : List ℕ) (at : ℕ)
-      → sets (set (sets (sets d at F) (at + length F) L) (at + length F + length L) (p .«num_sub_profiles»)) (at + length F + length L + 1) S
-      ≡ sets d at (ptlBytes p sublayers)
-  unfolding ptlBytes
-  ptl-stored d at =
-      let a : at + length F + length L ≡ at + length (F ++ L) = omega (arith, length-append F L) in
-      let b : at + length F + length L + 1 ≡ at + length ((F ++ L) ++ N) = omega (arith, length-append F L, length-append (F ++ L) N) in
-      ap (λ (x : List ℕ). sets (set x (at + length F + length L) (p .«num_sub_profiles»)) (at + length F + length L + 1) S)
-      (sets-then d at (at + length F) F L refl)
-      ∙ ap (λ (x : List ℕ). sets x (at + length F + length L + 1) S) (sets-then d at (at + length F + length L) (F ++ L) N a)
-      ∙ sets-then d at (at + length F + length L + 1) ((F ++ L) ++ N) S b
+-- the fields of a PTL, stored one after another
+pub ptl-stored : (p : VvcPtlRecord) (sublayers : ℕ) (d : List ℕ) (at : ℕ)
+    → let F = length (frontBytes p) in
+    let L = length (levelPart p sublayers) in
+    sets (set (sets (sets d at (frontBytes p)) (at + F) (levelPart p sublayers)) (at + F + L) (p .«num_sub_profiles»)) (at + F + L + 1)
+    (subProfileBytes (take (p .«num_sub_profiles») (p .«general_sub_profile_idc»)))
+    ≡ sets d at (ptlBytes p sublayers)
+unfolding ptlBytes
+ptl-stored p sublayers d at =
+    four-stored (frontBytes p) (levelPart p sublayers) (subProfileBytes (take (p .«num_sub_profiles») (p .«general_sub_profile_idc»))) d
+    (p .«num_sub_profiles») at

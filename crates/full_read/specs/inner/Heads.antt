@@ -29,7 +29,7 @@ headAnswerOf (H.Refused e) h = refused (numberOf e)
 abbrev pub headReadOf : HeadRead → Parsed VvcConfig × VvcConfig
 headReadOf r = (headAnswerOf (r .answer) (r .head), r .head)
 
--- the three fields after the PTL
+-- the rest of a head after its PTL; `ptl-read` (proofs/Heads.antt) ties it to `headWithPtl`
 unfoldable pub sizesAfter : ℕ → ℕ → ℕ → VvcPtlRecord → Parser VvcConfig
 sizesAfter size w d ptl = do
   width ← uint 2

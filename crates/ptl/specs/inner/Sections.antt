@@ -1,4 +1,5 @@
--- Internal: profile_tier_level( 1, s ) in the sections that the code reads one by one; a law says that they make up the whole.
+-- Internal: profile_tier_level( 1, s ) in the sections that the code reads one by one; `sections`
+-- (proofs/Whole.antt) ties them to `profileTierLevel`.
 use mathlib.Core.Bool.{false}
 use Prim.Native.Nat.{ℕ}
 use lib.Dec.{ltb}

@@ -45,7 +45,8 @@ countPlace s at n sublayers = levelsStart sublayers (at + 3 + n) + levelsLen (su
 abbrev pub ptlEnd : List ℕ → ℕ → ℕ
 ptlEnd s p = p + 1 + getD s p 0 * 4
 
--- the record at `at` with n constraint bytes, m levels and the sub-profile count at p
+-- the record at `at` with n constraint bytes, m levels and the sub-profile count at p; `reads-after`
+-- (proofs/Reading.antt) ties it to `vvcPtlRecord`
 abbrev pub ptlFields : List ℕ → ℕ → ℕ → ℕ → List Bool → List ℕ → ℕ → VvcPtlRecord
 ptlFields s at n m present idcs p = record {
   «general_profile_idc» = getD s (at + 1) 0 / 2;

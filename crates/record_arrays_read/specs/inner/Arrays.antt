@@ -39,7 +39,8 @@ abbrev pub listOf : ListRead → Outcome (ℕ × ℕ)
 listOf (L.Read consumed len) = accept (consumed, len)
 listOf (L.Refused e) = refuse (numberOf e)
 
--- what comes before the units of an array: array_completeness, NAL_unit_type and the count of units
+-- what comes before the units of an array: array_completeness, NAL_unit_type and the count of units; `array-split`
+-- (proofs/RecordArrays.antt) ties it to `recordArray`
 unfoldable pub arrayHead : Parser ArrayHead
 arrayHead = do
   b ← uint 1

@@ -1,4 +1,5 @@
--- Internal: the head of an SPS in the sections that the code reads one by one; a law says that they make up the whole.
+-- Internal: the head of an SPS in the sections that the code reads one by one; `sps-sections` (proofs/SpsSections.antt) ties them to
+-- `spsHead`.
 use mathlib.Core.Bool.{Bool}
 use Prim.Native.Nat.{ℕ, _+_}
 use lib.Dec.{ltb}

@@ -39,7 +39,7 @@ pub record ExpandedFrom (c : CompactVvcConfig) (h : VvcConfig) (list : List ℕ)
   pub expands : toFull c picture compact-list ≡ accept (full, list)
   pub head : full .head ≡ h
 
--- the record of what compact read returned
+-- the record of what compact read returned; `record-read` (proofs/LocalArrays.antt) ties it to `stillRecord`
 abbrev pub recordFrom : CompactVvcConfig → Picture → List ℕ → Outcome (List ℕ)
 recordFrom c pic list = do
   full ← toFull c pic list
@@ -53,7 +53,7 @@ streamExpanded c h list S tols = do
   item ← restore c S
   assemble (back .0 .head) (back .1) item tols
 
--- the stream of what compact read returned
+-- the stream of what compact read returned; `stream-read` (proofs/LocalArrays.antt) ties it to `stillStream`
 abbrev pub streamFrom : CompactVvcConfig → List ℕ → List ℕ → Option ℕ → Outcome (List ℕ)
 streamFrom c list S tols = do
   full ← toFull c anyPicture list

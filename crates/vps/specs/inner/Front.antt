@@ -15,7 +15,8 @@ abbrev pub paramsAnswerOf : BitsRead → ParamsAnswer
 paramsAnswerOf (B.Value v q) = A.Read
 paramsAnswerOf (B.Refused e) = A.Refused e
 
--- the VPS up to vps_ptl_alignment_zero_bit: vps_max_sublayers_minus1, and the position at which the PTL starts
+-- the VPS up to vps_ptl_alignment_zero_bit: vps_max_sublayers_minus1, and the position at which the PTL starts; `vps-sections`
+-- (proofs/FirstPtl.antt) ties it to `vpsPtl`
 unfoldable pub vpsFront : Parser ℕ
 vpsFront = do
   u 4

@@ -1,9 +1,13 @@
 -- `parameter_sets::sps_ptl` reads the first SPS, if there is one, and returns its PTL or that of the VPS.
-use mathlib.Core.Path.{sym, ap, _∙_, subst}
+use Prim.Native.Nat.{ℕ}
+use mathlib.Core.Path.{_≡_, sym, ap, _∙_, subst}
+use mathlib.Core.List.{List}
+use mathlib.Core.Option.{some}
 use borrow.Author.Needs.{needs}
 use Rattle.boxes.specs.Parts.{held}
 use Rattle.sps.specs.Sps.{parseSps, zeroSps}
-use Rattle.sps.specs.Answers.{spsGiven}
+use Rattle.sps.specs.Answers.{spsOf, spsGiven}
+use Rattle.grouping.specs.Grouping.{havingType, firstElement}
 use Rattle.grouping.specs.inner.Units.{unitsAt, foundUnit, FirstFits}
 use Rattle.expand.specs.inner.ParameterSets.{ptlOrZeros}
 use Rattle.expand.proofs.SetsRead.{sps-missing, sps-found, sps-refused, read-value, read-refusal}
@@ -13,6 +17,18 @@ use Rattle.expand.proofs.parameter_sets.sps_ptl.Tie as tie
 -- Where the function starts, seen from a later place.
 abbrev start : (c : tie.After-parse-nal) → tie.Start
 start c = c .before .before .before .before .before .before .before
+
+-- the first SPS, and what reading it returned
+abbrev sps-unit : (c : tie.After-parse-nal) → List ℕ
+sps-unit c = held (start c .args .list .now) (c .before .before .before .first .given .0 .0)
+
+sps-first : (c : tie.After-parse-nal) → let a = start c .args in some (sps-unit c) ≡ firstElement (havingType 15 (unitsAt (a .list .now) (a .c)))
+sps-first c =
+    let s = start c .args .list .now in
+    sym (ap (foundUnit s) (c .before .before .before .first .given .1)) ∙ c .before .before .before .before .before .first-having .ensures .0
+
+sps-said : (c : tie.After-parse-nal) → spsOf (c .parse-nal .result) ≡ spsGiven (sps-unit c)
+sps-said c = c .parse-nal .ensures ∙ ap spsGiven (c .before .part .ensures .holds)
 
 first-having-requires : tie.Need-first-having-requires
 first-having-requires c κs = search needs
@@ -54,29 +70,19 @@ returns-2 : tie.Need-returns-2
 returns-2 c =
     let pn = c .before .before .before .before in
     let a = start pn .args in
-    let s = a .list .now in
-    let y = pn .parse-nal in
-    let g = pn .before .before .before .first .given in
-    let u = held s (g .0 .0) in
-    let e = sym (ap (foundUnit s) (g .1)) ∙ pn .before .before .before .before .before .first-having .ensures .0 in
-    let f = y .ensures ∙ ap spsGiven (pn .before .part .ensures .holds) in
+    let r = pn .parse-nal .result in
     c .ptl-of-sets .ensures
-    ∙ ap ptlOrZeros (sym (sps-found (unitsAt s (a .c)) u e (y .result .head)
-    (read-value zeroSps (y .result .answer) (y .result .head) (parseSps u) f (c .before .enum-told2 .given .1))))
+    ∙ ap ptlOrZeros (sym (sps-found (unitsAt (a .list .now) (a .c)) (sps-unit pn) (sps-first pn) (r .head)
+    (read-value zeroSps (r .answer) (r .head) (parseSps (sps-unit pn)) (sps-said pn) (c .before .enum-told2 .given .1))))
 
 returns-3 : tie.Need-returns-3
 returns-3 c =
     let pn = c .before .before .before .before .before in
     let a = start pn .args in
-    let s = a .list .now in
-    let y = pn .parse-nal in
-    let g = pn .before .before .before .first .given in
-    let u = held s (g .0 .0) in
-    let e = sym (ap (foundUnit s) (g .1)) ∙ pn .before .before .before .before .before .first-having .ensures .0 in
-    let f = y .ensures ∙ ap spsGiven (pn .before .part .ensures .holds) in
+    let r = pn .parse-nal .result in
     c .no-ptl2 .ensures
-    ∙ ap ptlOrZeros (sym (sps-refused (unitsAt s (a .c)) u e _
-    (read-refusal zeroSps (y .result .answer) (y .result .head) (parseSps u) f _ (c .before .before .answer .given .1))))
+    ∙ ap ptlOrZeros (sym (sps-refused (unitsAt (a .list .now) (a .c)) (sps-unit pn) (sps-first pn) _
+    (read-refusal zeroSps (r .answer) (r .head) (parseSps (sps-unit pn)) (sps-said pn) _ (c .before .before .answer .given .1))))
 
 pub sps-ptl-spec : {M : Type 1} → statement M
 sps-ptl-spec =

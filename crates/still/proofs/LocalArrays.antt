@@ -166,8 +166,8 @@ module _ (c : CompactVvcConfig) (pic : Picture) (list : List ℕ) (from : ReadFr
     was-expanded len e = expanded-as (r .head) len after (expansion-answered (A.List len) e) room
 
     pub not-expanded : (n : Refusal) → r .answer ≡ A.Refused n → toFull c pic list ≡ refuse (numberOf n)
-    not-expanded n e =
-        not-stored (toFull c pic list) out (expansion-fits room) (numberOf n) after (answer-is _ _ (r .head) after _ (expansion-answered (A.Refused n) e))
+    not-expanded n e = not-stored (toFull c pic list) out (expansion-fits room) (numberOf n) after
+        (answer-is _ _ (r .head) after _ (expansion-answered (A.Refused n) e))
 
 -- ### the path, step by step
 

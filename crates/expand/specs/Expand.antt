@@ -34,7 +34,6 @@ ptlOfSets sps us =
       vps ← orRefuse 18 (firstElement (havingType 14 us))
       vpsFirstPtl vps
 
--- the picture, as the caller knows it
 -- the head, field by field as in SCOPE 3.8; a depth below 8 is written as 0, a side above 65,535 as 65,535
 abbrev pub expandedHead : CompactVvcConfig → Picture → VvcPtlRecord → VvcConfig
 expandedHead c pic ptl = record {

@@ -21,7 +21,8 @@ use Rattle.compact.proofs.Facts.{CompactFacts}
 use Rattle.access_unit.specs.inner.Gathered.{lengths}
 use Rattle.path.proofs.Units.{every-of}
 use Rattle.output_lengths.specs.Lengths.{longestCompact, multiLayer}
-use Rattle.output_lengths.proofs.Reading.{Gives, gives-value, gives-any, gives-bind, gives-uint}
+use Rattle.boxes.proofs.Gives.{gives-uint}
+use Rattle.parse.proofs.Gives.{Gives, gives-value, gives-any, gives-bind}
 
 -- units after lengths of w bytes
 pub encoded-long : (w : ℕ) (us : List (List ℕ)) → length (encodeUnits w us) ≡ w * length us + lengths us

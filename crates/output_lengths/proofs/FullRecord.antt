@@ -24,7 +24,8 @@ use Rattle.full.specs.Read.{FullParsed, plainHead, headWithPtl, vvcHead, vvcRec
 use Rattle.full.specs.declared.VvcConfig.{VvcConfig}
 use Rattle.vvcc_c.proofs.Beside.{read-as}
 use Rattle.output_lengths.specs.Lengths.{prefixSize, scratchRoom}
-use Rattle.output_lengths.proofs.Reading.{Gives, gives-value, gives-any, gives-bind, gives-uint}
+use Rattle.boxes.proofs.Gives.{gives-uint}
+use Rattle.parse.proofs.Gives.{Gives, gives-value, gives-any, gives-bind}
 
 module _ (s : List ℕ) where
   -- ### units: four bytes of a list or stream for two of the record, and the unit itself

@@ -1,5 +1,4 @@
 pub mod NotShort
-pub mod Reading
 pub mod Refusals
 pub mod FullRecord
 pub mod Outputs

@@ -4,4 +4,5 @@ pub mod Binds
 pub mod General
 pub mod Output
 pub mod Zeros
+pub mod Gives
 pub mod Stores

@@ -1,13 +1,8 @@
 -- What holds of a value that is read, and of the place after it.
-use Prim.Native.Nat.{ℕ, _+_, _≤_}
+use Prim.Native.Nat.{ℕ}
 use mathlib.Core.Path.{_≡_, refl, subst}
-use mathlib.Core.List.{List}
 use native.Mathlib.Omega.{arith}
-use native.Mathlib.Decide.{decLe}
-use lib.ListN.{length}
 use Rattle.parse.specs.Parse.{Parsed, value, refused, bind}
-use Rattle.boxes.specs.Bytes.{be, uint}
-use Rattle.boxes.proofs.Fields.{uint-there, uint-short}
 
 pub record Gives {A : Type 0} (x : Parsed A) (P : A → ℕ → Type 0) : Type 0 where
   pub at : (a : A) (q : ℕ) → x ≡ value a q → P a q
@@ -25,17 +20,3 @@ pub gives-bind : {A B : Type 0} {P : A → ℕ → Type 0} {Q : B → ℕ → Ty
     → ((a : A) (q : ℕ) → P a q → Gives (f a q) Q) → Gives (bind x f) Q
 gives-bind (value a q) f h k = k a q (h .at a q refl)
 gives-bind (refused e) f h k = gives-refused e
-
-module _ (s : List ℕ) where
-  -- a number of w bytes
-  pub record NumberFits (w p n q : ℕ) : Type 0 where
-    pub is : n ≡ be s p w
-    pub next : q ≡ p + w
-    pub inside : q ≤ length s
-
-  pub gives-uint : (w p : ℕ) → Gives (uint w s p) (NumberFits w p)
-  gives-uint w p =
-      elim (decLe (p + w) (length s)) [
-        | yes k ↦ rw (uint-there w s p k) (gives-value _ _ (record { is = refl; next = refl; inside = k }))
-        | no k ↦ rw (uint-short w s p (omega arith)) (gives-refused 1)
-      ]

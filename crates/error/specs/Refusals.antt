@@ -28,3 +28,5 @@ numberOf R.UnitList = 21
 numberOf R.FieldTooWide = 22
 numberOf R.InputTooLong = 23
 numberOf R.NotOneStill = 24
+numberOf R.ReservedBit = 25
+numberOf R.ArrayType = 26

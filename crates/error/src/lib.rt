@@ -55,6 +55,10 @@ pub enum Refusal {
     InputTooLong = 23,
     // the item is not one plain still (SCOPE 4.1)
     NotOneStill = 24,
+    // a reserved bit of a full record differs from what the writer writes (SCOPE 4.10)
+    ReservedBit = 25,
+    // an array of a full record has a type outside 12 to 17 and 23 (SCOPE 4.10)
+    ArrayType = 26,
 }
 
 // The number of a refusal.

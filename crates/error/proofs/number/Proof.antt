@@ -47,6 +47,8 @@ stands c =
     or (λ w. said refl (lit< tt) (w .2) (w .1 .given .1))  -- FieldTooWide
     or (λ w. said refl (lit< tt) (w .2) (w .1 .given .1))  -- InputTooLong
     or (λ w. said refl (lit< tt) (w .2) (w .1 .given .1))  -- NotOneStill
+    or (λ w. said refl (lit< tt) (w .2) (w .1 .given .1))  -- ReservedBit
+    or (λ w. said refl (lit< tt) (w .2) (w .1 .given .1))  -- ArrayType
     ) (c .match .came)
 
 cast-result : tie.Need-cast-result
@@ -85,5 +87,7 @@ number-spec =
     (λ c. search needs)  -- FieldTooWide
     (λ c. search needs)  -- InputTooLong
     (λ c. search needs)  -- NotOneStill
+    (λ c. search needs)  -- ReservedBit
+    (λ c. search needs)  -- ArrayType
     cast-result
     returns)

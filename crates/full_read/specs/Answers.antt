@@ -4,6 +4,7 @@ use mathlib.Core.List.{List}
 use Rattle.error.specs.Refusals.{numberOf}
 use Rattle.parse.specs.Outcome.{Outcome, accept, refuse, handsBack, lentOutput}
 use Rattle.full.specs.Read.{FullParsed, parseFull, zeroHead}
+use Rattle.full.specs.Strict.{parseStrict}
 use Rattle.full.specs.declared.VvcConfig.{VvcConfig}
 use Rattle.full_read.specs.declared.FullAnswer.{FullAnswer}
 use Rattle.full_read.specs.declared.FullAnswer.the-variants as A
@@ -21,3 +22,7 @@ fullOf r = (fullAnswerOf (r .answer) (r .head), r .head)
 -- `full_read::parse` with an output: the answer, the head, and the output after the call
 abbrev pub fullGiven : List ℕ → List ℕ → (Outcome FullParsed × VvcConfig) × List ℕ
 fullGiven s out = (handsBack (λ r. r .head) zeroHead (lentOutput (parseFull s) out .0), lentOutput (parseFull s) out .1)
+
+-- `full_read::parse_strict`, the same
+abbrev pub strictGiven : List ℕ → List ℕ → (Outcome FullParsed × VvcConfig) × List ℕ
+strictGiven s out = (handsBack (λ r. r .head) zeroHead (lentOutput (parseStrict s) out .0), lentOutput (parseStrict s) out .1)

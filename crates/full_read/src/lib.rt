@@ -1,4 +1,4 @@
-// Full read: a full record read into a head and a unit list (SCOPE 3.10).
+// Full read: a full record read into a head and a unit list (SCOPE 3.10), and the same strictly (SCOPE 4.10).
 pub mod head;
 
 use error::LARGEST_INPUT;
@@ -6,11 +6,14 @@ use error::Refusal;
 use full::VvcConfig;
 use head::HeadAnswer;
 use record_arrays_read::ListRead;
+use record_rules::RulesTest;
 ghost use mathlib.Core.Path.{_≡_};
 ghost use Rattle.error.specs.Refusals.{numberOf};
 ghost use Rattle.record_arrays_read.specs.inner.Arrays.{listOf};
-ghost use Rattle.full_read.specs.Answers.{fullOf, fullGiven};
+ghost use Rattle.record_rules.specs.inner.Rules.{rulesOf};
+ghost use Rattle.full_read.specs.Answers.{fullOf, fullGiven, strictGiven};
 ghost use Rattle.full_read.specs.inner.Heads.{besideHead, refusedWith};
+ghost use Rattle.full_read.specs.inner.Strict.{strictRules};
 
 // A full record that was read: how many bytes were consumed, and the length of the list in the output.
 pub enum FullAnswer {
@@ -66,5 +69,32 @@ pub fn parse(record: &[u8], out: &mut [u8]) -> FullRead
             record_arrays_read::arrays::read_list(record, at, out),
         ),
         HeadAnswer::Refused(e) => refused(e),
+    }
+}
+
+// Which rule of strict reading a record breaks. One that `parse` refuses breaks none.
+fn broken(record: &[u8]) -> RulesTest
+    ensures { λ r. ⌜ rulesOf r ≡ strictRules (now («record» .entry)) ⌝ }
+{
+    if LARGEST_INPUT < record.len() {
+        return RulesTest::Kept;
+    }
+    let read = head::read_head(record);
+    let answer = read.answer;
+    let head = read.head;
+    match answer {
+        HeadAnswer::Read(at) => record_rules::rules::broken(record, head, at),
+        HeadAnswer::Refused(_) => RulesTest::Kept,
+    }
+}
+
+// Reads a full record as `parse` does, if its reserved bits are the standard's and its arrays have types that a record may have. The rules are
+// tested before a byte is written. Refusals: 23, then in byte order 3, 1 and 2, then 25, 26, 20.
+pub fn parse_strict(record: &[u8], out: &mut [u8]) -> FullRead
+    ensures { λ r. ⌜ (fullOf r, now (out .exit)) ≡ strictGiven (now («record» .entry)) (now (out .entry)) ⌝ }
+{
+    match broken(record) {
+        RulesTest::Broken(e) => refused(e),
+        RulesTest::Kept => parse(record, out),
     }
 }

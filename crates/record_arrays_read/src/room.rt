@@ -37,7 +37,7 @@ fn units_room(record: &[u8], from: usize, count: usize) -> ListRoom
 }
 
 // Measures the array at place `at`.
-fn array_room(record: &[u8], at: usize) -> ListRoom
+pub fn array_room(record: &[u8], at: usize) -> ListRoom
     requires { ⌜ length (now «record») ≤ 2 ^ 30 ⌝ }
     ensures { λ r. ⌜ (listRoomOf r ≡ roomTaken arrayInList (now («record» .entry)) 0 (recordArray (now («record» .entry)) at))
         × RoomFits (now («record» .entry)) at r ⌝ }

@@ -20,7 +20,7 @@ use Rattle.full_read.specs.Answers.{fullGiven}
 use Rattle.full_read.specs.inner.Heads.{besideHead, refusedWith}
 
 -- the arrays that were read, with the head
-abbrev with-head : VvcConfig → Parsed (List (Array Span)) → Parsed (VvcConfig × List (Array Span))
+abbrev pub with-head : VvcConfig → Parsed (List (Array Span)) → Parsed (VvcConfig × List (Array Span))
 with-head head x = bind x (λ xs q. value (head, xs) q)
 
 -- what is returned and written, when it is known what is read
@@ -58,7 +58,8 @@ module _ (s : List ℕ) (out : List ℕ) where
   given-too-long h y f = given-refused 23 y f (lent-too-long s (fullParsed s (vvcRecord s 0)) h)
 
   module _ (lent : length s ≤ 2 ^ 30) where
-    split : parseFull s ≡ fullParsed s (bind (vvcHead s 0) (λ head q. with-head head (countedArrays s q)))
+    -- the head first, then the arrays
+    pub split : parseFull s ≡ fullParsed s (bind (vvcHead s 0) (λ head q. with-head head (countedArrays s q)))
     unfolding parseFull vvcRecord countedArrays
     split = lent-within s (fullParsed s (vvcRecord s 0)) lent ∙ ap (fullParsed s) (go (vvcHead s 0))
       where

@@ -73,9 +73,9 @@ loop-again c =
     let y = c .array-typed .ensures ∙ ap (λ (n : ℕ). l .typed && arrayTyped n) b in (
       t .inside,
       ap (λ (a : Bool). tested a (c .array-typed .result) (outcome (times (l .left - 1) arrayByte s (e .ends .given .0 .1 .0)))) r
-      ∙ ap (λ (a : Bool). tested (l .reserved && arrayReserved (getD s (l .at) 0)) a (outcome (times (l .left - 1) arrayByte s (e .ends .given .0 .1 .0)))) y
-      ∙ tested-next s (l .reserved) (l .typed) (l .left) (l .at) (e .before .before .before .loop-test .taken) (m .what) _ (m .read)
-      ∙ l .inv .1,
+          ∙ ap (λ (a : Bool). tested (l .reserved && arrayReserved (getD s (l .at) 0)) a (outcome (times (l .left - 1) arrayByte s (e .ends .given .0 .1 .0)))) y
+          ∙ tested-next s (l .reserved) (l .typed) (l .left) (l .at) (e .before .before .before .loop-test .taken) (m .what) _ (m .read)
+          ∙ l .inv .1,
     )
 
 returns-2 : tie.Need-returns-2 Inv-loop μ-loop

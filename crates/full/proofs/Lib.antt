@@ -1,3 +1,4 @@
+pub mod Parsed
 pub mod HeadRoundTrip
 pub mod RecordRoundTrip
 pub mod RecordLength

@@ -22,7 +22,7 @@ use Rattle.ptl_record.specs.Read.{vvcPtlRecord}
 use Rattle.record_arrays.specs.Read.{holdsOne, recordArray}
 use Rattle.full.specs.Read.{FullParsed, plainHead, headWithPtl, vvcHead, vvcRecord, parseFull}
 use Rattle.full.specs.declared.VvcConfig.{VvcConfig}
-use Rattle.vvcc_c.proofs.Beside.{read-as}
+use Rattle.full.proofs.Parsed.{read-as}
 use Rattle.output_lengths.specs.Lengths.{prefixSize, scratchRoom}
 use Rattle.boxes.proofs.Gives.{gives-uint}
 use Rattle.parse.proofs.Gives.{Gives, gives-value, gives-any, gives-bind}
@@ -158,9 +158,4 @@ module _ (s : List ℕ) where
   pub full-read : (r : FullParsed) (list : List ℕ) → parseFull s ≡ accept (r, list) → Read r list
   full-read r list e =
       let a = read-as s r list e in
-      let f = gives-record .at (a .what) (a .after) (a .reads) in
-      record {
-        arrays = a .what .1;
-        is = a .same;
-        fits = record { size = ap (λ (h : VvcConfig). h .«length_size») (a .head) ∙ f .size; few = f .few; streamed = f .streamed; sound = f .sound };
-      }
+      record { arrays = a .arrays; is = a .same; fits = gives-record .at _ _ (a .reads) }

@@ -20,3 +20,7 @@ pub gives-bind : {A B : Type 0} {P : A → ℕ → Type 0} {Q : B → ℕ → Ty
     → ((a : A) (q : ℕ) → P a q → Gives (f a q) Q) → Gives (bind x f) Q
 gives-bind (value a q) f h k = k a q (h .at a q refl)
 gives-bind (refused e) f h k = gives-refused e
+
+-- the same with the equation that says that it was read
+pub with-read : {A : Type 0} {P : A → ℕ → Type 0} (x : Parsed A) → Gives x P → Gives x (λ a q. (x ≡ value a q) × P a q)
+with-read x g = record { at = λ a q e. (e, g .at a q e) }

@@ -46,7 +46,7 @@ module _ {A : Type 0} where
       rw (upTo-take l d m f (omega arith) (λ k o. e k (omega arith)), e m (omega arith)) (sym (take-suc l m d h))
 
   -- the values of an array again
-  take-padded : (N : ℕ) (z : A) (xs : List A) → take (length xs) (padded N z xs) ≡ xs
+  pub take-padded : (N : ℕ) (z : A) (xs : List A) → take (length xs) (padded N z xs) ≡ xs
   take-padded N z xs = take-at xs (replicate (N - length xs) z) (length xs) refl
 
   -- an array that holds z from a count on

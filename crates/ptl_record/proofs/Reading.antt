@@ -88,7 +88,7 @@ module _ (s : List ℕ) where
           let d : p + f / 128 ≡ p = omega arith in
           rw d (reach-value 0 p k)
 
-  reach-levels : (m f p : ℕ) → f < 256 → p ≤ length s → Reach (length s) (levels (uint 1) m f s p) (levelsAt m f s p) (p + levelsLen m f)
+  pub reach-levels : (m f p : ℕ) → f < 256 → p ≤ length s → Reach (length s) (levels (uint 1) m f s p) (levelsAt m f s p) (p + levelsLen m f)
   unfolding levels levelsAt levelsLen
   reach-levels zero f p h k = let e : p + 0 ≡ p = omega arith in rw e (reach-value [] p k)
   reach-levels (suc m) f p h k =
@@ -97,7 +97,7 @@ module _ (s : List ℕ) where
       (λ l. reach-bind _ (rw e at (reach-levels m (f % 128 * 2) (p + f / 128) (omega arith) l)) (omega arith) (λ o. reach-value _ _ o))
 
 -- the first constraint byte
-first-is : (s : List ℕ) (p n : ℕ) → 0 < n → getD (take n (drop p s)) 0 0 ≡ getD s p 0
+pub first-is : (s : List ℕ) (p n : ℕ) → 0 < n → getD (take n (drop p s)) 0 0 ≡ getD s p 0
 first-is s p n h = getD-take n (drop p s) 0 0 h ∙ getD-drop p s 0 0 ∙ ap (λ (k : ℕ). getD s k 0) (omega arith)
 
 module _ (sublayers : ℕ) (s : List ℕ) (at : ℕ) where

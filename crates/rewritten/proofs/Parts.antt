@@ -3,11 +3,10 @@ use Prim.Native.Nat.{ℕ, zero, suc, _+_, _-_, _*_, _/_, _%_, _≤_, _<_}
 use mathlib.Core.Path.{_≡_, refl, sym, ap, _∙_}
 use mathlib.Core.Bool.{Bool, true, _&&_}
 use mathlib.Core.List.{List, [], _∷_, _++_}
-use native.Mathlib.Nat.{add-assoc}
 use native.Mathlib.Omega.{arith}
 use native.Mathlib.Decide.{decLe}
-use lib.ListN.{length, getD, length-append, List·getD-append}
-use lib.Seq.{getD-append-add}
+use lib.ListN.{length, getD, take, drop, length-append, length-drop, List·getD-append}
+use lib.Seq.{getD-append-add, getD-take, getD-drop, length-take-le}
 use Rattle.parse.proofs.General.{both-true}
 use Rattle.boxes.specs.Bytes.{be, toBe, AllBytes}
 use Rattle.boxes.proofs.Numbers.{length-toBe}
@@ -47,10 +46,20 @@ module _ (s : List ℕ) where
       at zero k = ap (λ (i : ℕ). getD s i 0) (omega arith) ∙ e
       at (suc i) k = absurd (omega arith)
 
+  -- no bytes
+  pub stands-none : (p : ℕ) → p ≤ length s → Stands s p []
+  stands-none p h = record { room = omega arith; same = λ k l. absurd (omega arith) }
+
+  -- the n bytes from place p on
+  pub stands-part : (p n : ℕ) → p + n ≤ length s → Stands s p (take n (drop p s))
+  stands-part p n h =
+      let l = length-take-le n (drop p s) (omega (arith, length-drop p s)) in
+      record { room = omega arith; same = λ k o. sym (getD-take n (drop p s) k 0 (omega arith) ∙ getD-drop p s k 0) }
+
   -- a number of w bytes
   pub stands-number : AllBytes s → (w p : ℕ) → p + w ≤ length s → Stands s p (toBe w (be s p w))
   unfolding be toBe
-  stands-number all zero p h = record { room = omega arith; same = λ k l. absurd (omega arith) }
+  stands-number all zero p h = stands-none p (omega arith)
   stands-number all (suc w) p h =
       let b = all (p + w) in
       let high : (be s p w * 256 + getD s (p + w) 0) / 256 ≡ be s p w = omega arith in
@@ -80,3 +89,14 @@ module _ (s : List ℕ) where
         kept = λ e. let t = both-true a b e in stands-join p xs ys (f .kept (t .0)) (g .kept (t .1));
         only = λ st. both a b (f .only (stands-left s p xs ys st)) (g .only (stands-right s p xs ys st));
       }
+
+  -- bytes that always lie there, after others and before others
+  pub rewrites-then : (p : ℕ) (xs ys : List ℕ) (a : Bool) → Rewrites s p xs a → Stands s (p + length xs) ys → Rewrites s p (xs ++ ys) a
+  rewrites-then p xs ys a f g =
+      let l = length-append xs ys in
+      record { room = omega (arith, g .room); kept = λ e. stands-join p xs ys (f .kept e) g; only = λ st. f .only (stands-left s p xs ys st) }
+
+  pub rewrites-after : (p : ℕ) (xs ys : List ℕ) (b : Bool) → Stands s p xs → Rewrites s (p + length xs) ys b → Rewrites s p (xs ++ ys) b
+  rewrites-after p xs ys b f g =
+      let l = length-append xs ys in
+      record { room = omega (arith, g .room); kept = λ e. stands-join p xs ys f (g .kept e); only = λ st. g .only (stands-right s p xs ys st) }

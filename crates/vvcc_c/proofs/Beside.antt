@@ -18,6 +18,7 @@ use Rattle.boxes.specs.declared.Span.{Span}
 use Rattle.unit_list.specs.UnitList.{Array, encode, heldArrays}
 use Rattle.full.specs.Read.{FullParsed, fullParsed, vvcRecord, parseFull, zeroHead}
 use Rattle.full.specs.declared.VvcConfig.{VvcConfig}
+use Rattle.full.proofs.Parsed.{read-as}
 use Rattle.full_read.specs.Answers.{fullAnswerOf, fullOf, fullGiven}
 use Rattle.full_read.specs.declared.FullAnswer.{FullAnswer}
 use Rattle.full_read.specs.declared.FullAnswer.the-variants as A
@@ -57,39 +58,6 @@ onward-refused (refuse m) scratch f n e = let s : n ≡ m = cc in rw s
 hands-first : {A B : Type 0} (f : A → B) (z : B) (o : Outcome A) → handsBack f z o .0 ≡ o
 hands-first f z (accept a) = refl
 hands-first f z (refuse e) = refl
-
--- an accepted record: the head and the arrays that were read, and their list, whose length is the one that reading returns
-pub record ReadAs (s : List ℕ) (r : FullParsed) (list : List ℕ) : Type 0 where
-  pub what : VvcConfig × List (Array Span)
-  pub after : ℕ
-  pub reads : vvcRecord s 0 ≡ value what after
-  pub head : r .head ≡ what .0
-  pub same : list ≡ encode (heldArrays s (what .1))
-  pub long : r .listLength ≡ length list
-
-parsed-as : (s : List ℕ) (x : Parsed (VvcConfig × List (Array Span))) → vvcRecord s 0 ≡ x → (r : FullParsed) (list : List ℕ)
-    → fullParsed s x ≡ accept (r, list) → ReadAs s r list
-parsed-as s (refused e) w r list h = let z : _≡_ {A = ℕ} 0 1 = cc in absurd (omega arith)
-parsed-as s (value (head, arrays) p) w r list h =
-    let parsed : FullParsed = record { head = head; consumed = p; listLength = length (encode (heldArrays s arrays)) } in
-    let y : _≡_ {A = FullParsed × List ℕ} (parsed, encode (heldArrays s arrays)) (r, list) = cc in
-    let l = ap (λ (v : FullParsed × List ℕ). v .1) y in
-    record {
-      what = (head, arrays);
-      after = p;
-      reads = w;
-      head = sym (ap (λ (v : FullParsed × List ℕ). v .0 .head) y);
-      same = sym l;
-      long = sym (ap (λ (v : FullParsed × List ℕ). v .0 .listLength) y) ∙ ap length l;
-    }
-
-pub read-as : (s : List ℕ) (r : FullParsed) (list : List ℕ) → parseFull s ≡ accept (r, list) → ReadAs s r list
-unfolding parseFull
-read-as s r list h =
-    elim (decLe (length s) (2 ^ 30)) [
-      | yes k ↦ parsed-as s (vvcRecord s 0) refl r list (sym (lent-within s (fullParsed s (vvcRecord s 0)) k) ∙ h)
-      | no k ↦ absurd (let x = sym (lent-too-long s (fullParsed s (vvcRecord s 0)) (omega arith)) ∙ h in let z : _≡_ {A = ℕ} 0 1 = cc in omega arith)
-    ]
 
 module _ (rec item scratch : List ℕ) (tols : Option ℕ) where
   -- the item is too long

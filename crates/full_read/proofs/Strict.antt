@@ -1,7 +1,6 @@
 -- Strict reading: the rules first, then what the ordinary reader returns.
 use Prim.Native.Nat.{ℕ, zero, suc, _+_, _-_, _/_, _%_, _^_, _≤_, _<_}
 use mathlib.Core.Path.{_≡_, refl, sym, ap, _∙_}
-use mathlib.Core.Bool.{Bool, true, false}
 use mathlib.Core.List.{List, [], _∷_}
 use native.Mathlib.Omega.{arith}
 use native.Mathlib.Decide.{decLe}
@@ -11,7 +10,7 @@ use borrow.Author.Tests.{le-leb, lt-leb}
 use Rattle.parse.specs.Logic.{if_then_else_}
 use Rattle.parse.specs.Outcome.{Outcome, accept, refuse, andThen}
 use Rattle.parse.specs.Parse.{Parsed, value, refused, bind, Parser, give, refuseIf, times, outcome}
-use Rattle.parse.proofs.Gives.{Gives, gives-value, gives-refused, gives-any, gives-bind}
+use Rattle.parse.proofs.Gives.{Gives, gives-value, gives-any, gives-bind}
 use Rattle.parse.proofs.General.{if-elim}
 use Rattle.parse.proofs.Lent.{lent-too-long}
 use Rattle.boxes.specs.Bytes.{uint}
@@ -19,11 +18,10 @@ use Rattle.boxes.specs.declared.Span.{Span}
 use Rattle.bit_reader.specs.Bits.{isSet}
 use Rattle.unit_list.specs.UnitList.{Array}
 use Rattle.ptl.specs.Ptl.{levels}
-use Rattle.ptl.specs.declared.VvcPtlRecord.{VvcPtlRecord}
 use Rattle.ptl_record.specs.Read.{octets, vvcPtlRecord}
 use Rattle.record_arrays.specs.Read.{recordArray}
 use Rattle.record_arrays_read.specs.inner.Arrays.{countedArrays}
-use Rattle.full.specs.Read.{FullParsed, fullParsed, vvcRecord, parseFull, plainHead, headWithPtl, vvcHead}
+use Rattle.full.specs.Read.{FullParsed, fullParsed, vvcRecord, parseFull, headWithPtl, vvcHead}
 use Rattle.full.specs.Rules.{arrayByte, recordArrayBytes, reservedKept, typesKept}
 use Rattle.full.specs.Strict.{holdsOr, parseStrict}
 use Rattle.full.specs.declared.VvcConfig.{VvcConfig}

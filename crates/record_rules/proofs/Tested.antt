@@ -1,14 +1,14 @@
 -- The tests of the bytes that arrays begin with, one after another.
-use Prim.Native.Nat.{ℕ, zero, suc, _+_, _-_, _≤_, _<_}
+use Prim.Native.Nat.{ℕ, zero, suc, _-_, _≤_, _<_}
 use mathlib.Core.Path.{_≡_, refl, sym, ap, _∙_}
 use mathlib.Core.Bool.{Bool, true, false, _&&_}
-use mathlib.Core.List.{List, [], _∷_}
+use mathlib.Core.List.{List, _∷_}
 use native.Mathlib.Omega.{arith}
 use lib.Dec.{leb, eqb}
-use lib.ListN.{length, getD}
+use lib.ListN.{getD}
 use borrow.Author.Tests.{leb-true, lt-leb, ne-eqb}
 use Rattle.parse.specs.Logic.{if_then_else_}
-use Rattle.parse.specs.Outcome.{Outcome, accept, refuse}
+use Rattle.parse.specs.Outcome.{accept, refuse}
 use Rattle.parse.specs.Parse.{Parsed, value, refused, bind, times, outcome}
 use Rattle.parse.proofs.Many.{times-nil, times-step, times-bad}
 use Rattle.boxes.specs.declared.Span.{Span}

@@ -1,12 +1,12 @@
 -- The arrays of a full record that were read, written again: units, one array, arrays one after another.
 use Prim.Native.Nat.{ℕ, zero, suc, _+_, _*_, _/_, _%_, _^_, _≤_, _<_}
-use mathlib.Core.Path.{_≡_, refl, sym, ap, _∙_, subst}
+use mathlib.Core.Path.{_≡_, refl, ap, _∙_, subst}
 use mathlib.Core.Bool.{Bool, true, false}
 use mathlib.Core.List.{List, [], _∷_, _++_, map}
 use native.Mathlib.Nat.{mul-mod-right}
 use native.Mathlib.Omega.{arith}
 use lib.Dec.{eqb}
-use lib.ListN.{length, getD, drop, length-append, length-map}
+use lib.ListN.{length, getD, length-append, length-map}
 use borrow.Author.Tests.{le-leb, eq-eqb, eqb-true}
 use Rattle.parse.specs.Logic.{if_then_else_}
 use Rattle.parse.specs.Parse.{value, give, times}

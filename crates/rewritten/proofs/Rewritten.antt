@@ -4,15 +4,13 @@ use mathlib.Core.Path.{_≡_, refl, sym, ap, _∙_}
 use mathlib.Core.Bool.{Bool, true, false}
 use mathlib.Core.List.{List, [], _∷_, _++_}
 use native.Mathlib.Omega.{arith}
-use native.Mathlib.Decide.{decLe}
 use lib.Dec.{eqb}
 use lib.ListN.{length, getD, take, length-append}
 use lib.Seq.{getD-take}
 use borrow.Author.Tests.{le-leb}
 use Rattle.parse.specs.Outcome.{Outcome, accept, refuse, andThen}
-use Rattle.parse.specs.Parse.{Parsed, value, refused, times, outcome}
+use Rattle.parse.specs.Parse.{value, times, outcome}
 use Rattle.parse.proofs.Gives.{Gives, gives-value, gives-bind, with-read}
-use Rattle.parse.proofs.Lent.{lent-too-long, lent-within}
 use Rattle.boxes.specs.Bytes.{uint, AllBytes}
 use Rattle.boxes.specs.declared.Span.{Span}
 use Rattle.boxes.proofs.Gives.{NumberFits, gives-uint}
@@ -24,7 +22,7 @@ use Rattle.unit_list.proofs.Encode.{held-encode, decode-encode}
 use Rattle.ptl_record.proofs.Standing.{Stands, stands-take}
 use Rattle.record_arrays.specs.Read.{recordArray}
 use Rattle.record_arrays.specs.Write.{arraysBytes}
-use Rattle.full.specs.Read.{FullParsed, fullParsed, vvcHead, vvcRecord, parseFull}
+use Rattle.full.specs.Read.{FullParsed, vvcHead, vvcRecord, parseFull}
 use Rattle.full.specs.Write.{headBytes, fullBytes, recordFits, writeFull, serializeFull}
 use Rattle.full.specs.Rules.{arrayByte, recordArrayBytes, reservedKept, typesKept}
 use Rattle.full.specs.Strict.{holdsOr, parseStrict}

@@ -11,12 +11,9 @@ use lib.Seq.{take-at}
 use borrow.Author.Tests.{le-leb, lt-leb}
 use Rattle.parse.specs.Logic.{if_then_else_}
 use Rattle.parse.specs.Outcome.{Outcome, accept, refuse, andThen, lentOutput, counted, handsBack}
-use Rattle.parse.specs.Parse.{Parsed, value, refused}
 use Rattle.parse.proofs.Lent.{lent-too-long, lent-within}
 use Rattle.parse.proofs.Output.{OutputAccepted, output-accepted}
-use Rattle.boxes.specs.declared.Span.{Span}
-use Rattle.unit_list.specs.UnitList.{Array, encode, heldArrays}
-use Rattle.full.specs.Read.{FullParsed, fullParsed, vvcRecord, parseFull, zeroHead}
+use Rattle.full.specs.Read.{FullParsed, parseFull, zeroHead}
 use Rattle.full.specs.declared.VvcConfig.{VvcConfig}
 use Rattle.full.proofs.Parsed.{read-as}
 use Rattle.full_read.specs.Answers.{fullAnswerOf, fullOf, fullGiven}
@@ -24,7 +21,8 @@ use Rattle.full_read.specs.declared.FullAnswer.{FullAnswer}
 use Rattle.full_read.specs.declared.FullAnswer.the-variants as A
 use Rattle.full_read.specs.declared.FullRead.{FullRead}
 use Rattle.access_unit.specs.AccessUnit.{assemble}
-use Rattle.vvcc_c.specs.Exports.{writtenAnswer, writtenGiven, readBeside, scratchFilled, streamBeside}
+use Rattle.vvcc_c.specs.Exports.{writtenAnswer, writtenGiven, readAnswer, readGiven, readBeside, scratchFilled, streamBeside}
+use Rattle.vvcc_c.specs.declared.VvccRead.{VvccRead}
 use Rattle.vvcc_c.specs.declared.VvccWritten.{VvccWritten}
 use Rattle.vvcc_c.proofs.Given.{given-refused, given-target}
 
@@ -58,6 +56,16 @@ onward-refused (refuse m) scratch f n e = let s : n ≡ m = cc in rw s
 hands-first : {A B : Type 0} (f : A → B) (z : B) (o : Outcome A) → handsBack f z o .0 ≡ o
 hands-first f z (accept a) = refl
 hands-first f z (refuse e) = refl
+
+-- a record that was read, without its head
+pub given-read : (o : Outcome (FullParsed × List ℕ)) (scratch exit : List ℕ) (f : FullRead) (r : VvccRead) → r ≡ readAnswer (fullOf f .0)
+    → _≡_ {A = (Outcome FullParsed × VvcConfig) × List ℕ} (fullOf f, exit)
+    (handsBack (λ x. x .head) zeroHead (lentOutput o scratch .0), lentOutput o scratch .1)
+    → (r, exit) ≡ readGiven o scratch
+given-read o scratch exit f r g e =
+    ap (λ (x : VvccRead). (x, exit)) g
+    ∙ ap (λ (y : (Outcome FullParsed × VvcConfig) × List ℕ). (readAnswer (y .0 .0), y .1)) e
+    ∙ ap (λ (x : Outcome FullParsed). (readAnswer x, lentOutput o scratch .1)) (hands-first (λ x. x .head) zeroHead (lentOutput o scratch .0))
 
 module _ (rec item scratch : List ℕ) (tols : Option ℕ) where
   -- the item is too long

@@ -5,12 +5,16 @@ use mathlib.Core.List.{List}
 use mathlib.Core.Option.{Option, none, some}
 use borrow.Author.Tests.{eq-eqb, ne-eqb}
 use Rattle.parse.specs.Outcome.{Outcome, refuse, lentOutput, counted}
-use Rattle.vvcc_c.specs.Exports.{writtenAnswer, writtenGiven, unitAnswer, targetFrom}
+use Rattle.vvcc_c.specs.Exports.{writtenAnswer, writtenGiven, readAnswer, unitAnswer, targetFrom}
 use Rattle.vvcc_c.specs.declared.VvccWritten.{VvccWritten}
+use Rattle.vvcc_c.specs.declared.VvccRead.{VvccRead}
 use Rattle.vvcc_c.specs.declared.VvccUnit.{VvccUnit}
 
 pub written-number : {n e : ℕ} → n ≡ e → _≡_ {A = VvccWritten} (record { refusal = n; len = 0 }) (writtenAnswer (refuse e))
 written-number h = rw h
+
+pub read-number : {n e : ℕ} → n ≡ e → _≡_ {A = VvccRead} (record { refusal = n; consumed = 0 }) (readAnswer (refuse e))
+read-number h = rw h
 
 pub unit-number : {n e : ℕ} → n ≡ e → _≡_ {A = VvccUnit} (record { refusal = n; found = 0; start = 0; len = 0; next = 0 }) (unitAnswer (refuse e))
 unit-number h = rw h

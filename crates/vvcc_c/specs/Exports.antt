@@ -12,6 +12,7 @@ use Rattle.split.specs.Answers.{Next}
 use Rattle.full.specs.Read.{FullParsed, parseFull}
 use Rattle.access_unit.specs.AccessUnit.{assemble}
 use Rattle.vvcc_c.specs.declared.VvccWritten.{VvccWritten}
+use Rattle.vvcc_c.specs.declared.VvccRead.{VvccRead}
 use Rattle.vvcc_c.specs.declared.VvccUnit.{VvccUnit}
 
 -- how many bytes were written
@@ -22,6 +23,15 @@ writtenAnswer (refuse e) = record { refusal = e; len = 0 }
 -- a call whose result is bytes: its answer, and what the output holds afterwards
 abbrev pub writtenGiven : Outcome (List ℕ) → List ℕ → VvccWritten × List ℕ
 writtenGiven o out = (writtenAnswer (lentOutput (counted o) out .0), lentOutput (counted o) out .1)
+
+-- how many bytes of a record were consumed
+abbrev pub readAnswer : Outcome FullParsed → VvccRead
+readAnswer (accept r) = record { refusal = 0; consumed = r .consumed }
+readAnswer (refuse e) = record { refusal = e; consumed = 0 }
+
+-- a record that is read: the answer, and what the scratch holds afterwards
+abbrev pub readGiven : Outcome (FullParsed × List ℕ) → List ℕ → VvccRead × List ℕ
+readGiven o scratch = (readAnswer (lentOutput o scratch .0), lentOutput o scratch .1)
 
 -- where a unit lies, and the place to continue from
 abbrev pub unitAnswer : Outcome (Option Next) → VvccUnit

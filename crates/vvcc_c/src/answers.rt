@@ -1,10 +1,13 @@
 // Internal: turns the answers of the called crates into structs of numbers.
+use super::VvccRead;
 use super::VvccUnit;
 use super::VvccWritten;
 use access_unit::Target;
 use error::Refusal;
 use error::Written;
 use error::number;
+use full_read::FullAnswer;
+use full_read::FullRead;
 use split::NextUnit;
 ghost use mathlib.Core.Path.{_≡_};
 ghost use mathlib.Core.Option.{none, some};
@@ -12,8 +15,9 @@ ghost use Rattle.error.specs.Refusals.{numberOf};
 ghost use Rattle.parse.specs.Outcome.{accept, refuse};
 ghost use Rattle.parse.specs.Answers.{writtenOf};
 ghost use Rattle.split.specs.Answers.{nextOf};
+ghost use Rattle.full_read.specs.Answers.{fullOf};
 ghost use Rattle.access_unit.specs.Answers.{tolsOf};
-ghost use Rattle.vvcc_c.specs.Exports.{writtenAnswer, unitAnswer, targetFrom};
+ghost use Rattle.vvcc_c.specs.Exports.{writtenAnswer, readAnswer, unitAnswer, targetFrom};
 
 // A refusal of a call that writes.
 pub fn refused(e: Refusal) -> VvccWritten
@@ -32,6 +36,23 @@ pub fn written(w: Written) -> VvccWritten
     match w {
         Written::Bytes(n) => VvccWritten { refusal: 0, len: n },
         Written::Refused(e) => refused(e),
+    }
+}
+
+// The answer of a call that reads a record.
+pub fn consumed(read: FullRead) -> VvccRead
+    ensures { λ r. ⌜ r ≡ readAnswer (fullOf read .0) ⌝ }
+{
+    let answer = read.answer;
+    match answer {
+        FullAnswer::Read(n, _) => VvccRead {
+            refusal: 0,
+            consumed: n,
+        },
+        FullAnswer::Refused(e) => VvccRead {
+            refusal: number(e),
+            consumed: 0,
+        },
     }
 }
 

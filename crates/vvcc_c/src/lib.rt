@@ -8,14 +8,22 @@ use expand::Picture;
 use full_read::FullAnswer;
 ghost use mathlib.Core.Path.{_≡_};
 ghost use Rattle.split.specs.Answers.{nextItemUnit, nextGiven};
+ghost use Rattle.full.specs.Strict.{parseStrict};
 ghost use Rattle.still.specs.Stills.{stillRecord, stillStream};
-ghost use Rattle.vvcc_c.specs.Exports.{writtenGiven, unitAnswer, targetFrom, scratchFilled, streamBeside};
+ghost use Rattle.vvcc_c.specs.Exports.{writtenGiven, readGiven, unitAnswer, targetFrom, scratchFilled, streamBeside};
 
 // The answer of a call that writes: 0 and how many bytes are now at the front of the output, or a refusal's number and 0.
 #[repr(C)]
 pub struct VvccWritten {
     pub refusal: u32,
     pub len: usize,
+}
+
+// The answer of a call that reads a record: 0 and how many bytes were consumed, or a refusal's number and 0.
+#[repr(C)]
+pub struct VvccRead {
+    pub refusal: u32,
+    pub consumed: usize,
 }
 
 // The answer of one step of a walk: 0, 1, where the unit lies and the place to continue from; zeros at the end; or a refusal's number and
@@ -98,6 +106,16 @@ pub extern "C" fn vvcc_access_unit(
         }
         FullAnswer::Refused(e) => answers::refused(e),
     }
+}
+
+// Reads a full record strictly: whether an archive may store it. The record's unit list is written to `scratch`. Refusals: those of
+// `full_read::parse_strict`, where 20 is about `scratch`.
+#[no_mangle]
+pub extern "C" fn vvcc_strict_record(record: &[u8], scratch: &mut [u8]) -> VvccRead
+    ensures { λ r. ⌜ (r, now (scratch .exit)) ≡ readGiven (parseStrict (now («record» .entry))) (now (scratch .entry)) ⌝ }
+{
+    let read = full_read::parse_strict(record, scratch);
+    answers::consumed(read)
 }
 
 // The first unit of a stream whose start code is at or after the place `from`. Refusal: 23.

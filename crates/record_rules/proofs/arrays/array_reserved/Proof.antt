@@ -1,5 +1,4 @@
 -- `array_reserved` tests the reserved bits of an array's byte.
-use borrow.Author.Needs.{needs}
 use Rattle.record_rules.proofs.arrays.array_reserved.Statement.{statement}
 use Rattle.record_rules.proofs.arrays.array_reserved.Tie as tie
 

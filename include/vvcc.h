@@ -11,7 +11,8 @@
  *    if the length is 0;
  *  - `out` and `scratch` overlap neither each other nor an input.
  *
- * Bytes of `out` after the result are not changed. On a refusal no byte of `out` is changed.
+ * Bytes of `out` after the result are not changed. On a refusal no byte of `out` is changed. What a call writes to `scratch`, and when, is said
+ * with the call; bytes after it are not changed.
  */
 #ifndef VVCC_H
 #define VVCC_H
@@ -50,7 +51,9 @@ enum vvcc_refusal {
     VVCC_UNIT_LIST = 21,               /* the unit list is malformed */
     VVCC_FIELD_TOO_WIDE = 22,          /* a field is wider than its place */
     VVCC_INPUT_TOO_LONG = 23,          /* an input has more than 2^30 bytes */
-    VVCC_NOT_ONE_STILL = 24            /* the item is not one plain still */
+    VVCC_NOT_ONE_STILL = 24,           /* the item is not one plain still */
+    VVCC_RESERVED_BIT = 25,            /* a reserved bit of a full record is not the standard's */
+    VVCC_ARRAY_TYPE = 26               /* an array of a full record has a type outside 12 to 17 and 23 */
 };
 
 /* The answer of a call that writes. */
@@ -58,6 +61,12 @@ typedef struct vvcc_written {
     uint32_t refusal; /* 0, or the number of the refusal */
     size_t len;       /* the length of the result at the front of `out`; 0 on a refusal */
 } vvcc_written;
+
+/* The answer of a call that reads a record. */
+typedef struct vvcc_read {
+    uint32_t refusal; /* 0, or the number of the refusal */
+    size_t consumed;  /* how many bytes of the record were consumed; 0 on a refusal */
+} vvcc_read;
 
 /* The answer of one step of a walk over units. */
 typedef struct vvcc_unit {
@@ -99,6 +108,19 @@ vvcc_written vvcc_access_unit(const uint8_t *record, size_t record_len,
                               uint8_t has_target, uint16_t target,
                               uint8_t *scratch, size_t scratch_len,
                               uint8_t *out, size_t out_len);
+
+/* Reads a full record strictly: for an archive that stores a record only if its reserved bits are the standard's and its arrays have types that
+ * a record may have. The bytes that were consumed end with the last array; others may follow. What was read, written again as a full record, is
+ * exactly those bytes, unless its unit list has more than 2^30 bytes (proved: crates/rewritten).
+ * If the record is accepted, its unit list (docs/SCOPE.md, 2) is written to the front of `scratch`; on a refusal no byte of `scratch` is changed.
+ * `scratch` needs at most 4*record_len bytes.
+ * Refusals, in this order: 23; 3, then in byte order 1 and 2; 25; 26; 20 (`scratch`). It is 25 unless
+ *  - the top five bits of byte 0 are 11111;
+ *  - with the PTL flag set, the low five bits of byte 3 are 11111 and the top two bits of byte 4 are 00, and with num_sublayers above 1 the low
+ *    9 - num_sublayers bits of the byte with the level flags, at 7 + num_bytes_constraint_info, are 0;
+ *  - bits 6 and 5 of the first byte of each array are 00. */
+vvcc_read vvcc_strict_record(const uint8_t *record, size_t record_len,
+                             uint8_t *scratch, size_t scratch_len);
 
 /* The first unit of an Annex B stream whose start code is at or after the offset `from`. Start with 0 and continue with `next`. Refusal: 23. */
 vvcc_unit vvcc_next_unit(const uint8_t *stream, size_t stream_len, size_t from);

@@ -5,8 +5,8 @@
 #include <stdlib.h>
 #include <string.h>
 
-const char *const call_names[CALLS] = {"vvcc_still_record", "vvcc_still_stream", "vvcc_access_unit", "vvcc_next_unit",
-                                       "vvcc_next_item_unit"};
+const char *const call_names[CALLS] = {"vvcc_still_record",  "vvcc_still_stream", "vvcc_access_unit",
+                                       "vvcc_strict_record", "vvcc_next_unit",    "vvcc_next_item_unit"};
 
 #define BIT(n) ((uint32_t)1 << (n))
 
@@ -18,6 +18,7 @@ static const uint32_t listed[CALLS] = {
     OF_A_STILL | BIT(20),
     OF_A_STILL | BIT(6) | BIT(5) | BIT(20),
     BIT(23) | BIT(3) | BIT(1) | BIT(2) | BIT(20) | BIT(4) | BIT(5) | BIT(19),
+    BIT(23) | BIT(3) | BIT(1) | BIT(2) | BIT(25) | BIT(26) | BIT(20),
     BIT(23),
     BIT(23) | BIT(4) | BIT(1) | BIT(5),
 };
@@ -37,7 +38,7 @@ void fail(const test_case *c, const char *what) {
 
 /* Whether a call may return this refusal. */
 bool is_listed(enum call call, uint32_t refusal) {
-    return refusal >= 1 && refusal <= 24 && (listed[call] & BIT(refusal));
+    return refusal >= 1 && refusal < REFUSALS && (listed[call] & BIT(refusal));
 }
 
 /* Places an input. */
@@ -73,13 +74,22 @@ static void check_kept(const test_case *c, enum place p, const run *r, const uin
         fail(c, p == OUT ? "a byte next to the output was changed" : "a byte next to the scratch was changed");
 }
 
+/* A strict reading, which has no output. */
+static vvcc_written read_strictly(const test_case *c, const uint8_t *first, run *r) {
+    vvcc_read read = vvcc_strict_record(first, c->first.len, r->scratch, r->scratch_len);
+    vvcc_written nothing = {read.refusal, 0};
+    r->consumed = read.consumed;
+    return nothing;
+}
+
 /* The call itself. */
-static vvcc_written make_call(const test_case *c, const uint8_t *first, const uint8_t *second, const run *r) {
+static vvcc_written make_call(const test_case *c, const uint8_t *first, const uint8_t *second, run *r) {
     switch (c->call) {
     case STILL_RECORD:
         return vvcc_still_record(first, c->first.len, c->chroma_format_idc, c->bit_depth, c->width, c->height, r->out, r->out_len);
     case STILL_STREAM:
         return vvcc_still_stream(first, c->first.len, second, c->second.len, c->has_target, c->target, r->out, r->out_len);
+    case STRICT_RECORD: return read_strictly(c, first, r);
     default:
         return vvcc_access_unit(first, c->first.len, second, c->second.len, c->has_target, c->target, r->scratch, r->scratch_len, r->out,
                                 r->out_len);
@@ -95,8 +105,10 @@ void perform(const test_case *c, run *r) {
     r->answer = make_call(c, first, second, r);
     check_input(c, FIRST, r->side, first, &c->first, around);
     check_input(c, SECOND, r->side, second, &c->second, around);
-    if (r->answer.refusal && (r->answer.len || !is_listed(c->call, r->answer.refusal)))
+    if (r->answer.refusal && (r->answer.len || r->consumed || !is_listed(c->call, r->answer.refusal)))
         fail(c, "a refusal that the header does not list, or with a length");
+    if (r->consumed > c->first.len)
+        fail(c, "more bytes consumed than the record has");
     if (r->answer.len > r->out_len)
         fail(c, "a result longer than the output");
     check_kept(c, OUT, r, r->out, r->answer.len, r->out_len);

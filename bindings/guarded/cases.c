@@ -65,17 +65,30 @@ static void record_of_a_still(bytes *b) {
         add_bytes(b, still.at, still.len);
 }
 
+/* A full record. */
+static void any_record(bytes *b) {
+    if (one_in(2))
+        record_of_a_still(b);
+    else
+        full_record(b);
+}
+
 /* A full record and an item. */
 static void access_unit_case(test_case *c) {
-    if (one_in(2))
-        record_of_a_still(&c->first);
-    else
-        full_record(&c->first);
+    any_record(&c->first);
     item(&c->second, 1 + (c->first.at[0] >> 1 & 3), any_most());
     any_target(c);
     maybe_damaged(&c->first);
     if (one_in(6))
         damage(&c->second);
+}
+
+/* A full record to read strictly. */
+static void strict_record_case(test_case *c) {
+    any_record(&c->first);
+    if (one_in(8))
+        change_reserved(&c->first);
+    maybe_damaged(&c->first);
 }
 
 /* A place to continue from: inside or near the end, any, or the largest. */
@@ -99,14 +112,16 @@ static void walk_case(test_case *c) {
 
 /* A case of any call. */
 void any_case(test_case *c) {
-    static const enum call share[] = {STILL_RECORD, STILL_RECORD, STILL_STREAM, STILL_STREAM,  STILL_STREAM, ACCESS_UNIT,
-                                      ACCESS_UNIT,  ACCESS_UNIT,  NEXT_UNIT,    NEXT_ITEM_UNIT};
-    c->call = share[below(10)];
+    static const enum call share[] = {STILL_RECORD, STILL_RECORD, STILL_STREAM,  STILL_STREAM,  STILL_STREAM, ACCESS_UNIT,
+                                      ACCESS_UNIT,  ACCESS_UNIT,  STRICT_RECORD, STRICT_RECORD, NEXT_UNIT,    NEXT_ITEM_UNIT};
+    c->call = share[below(12)];
     c->first.len = c->second.len = 0;
     if (c->call <= STILL_STREAM)
         still_case(c);
     else if (c->call == ACCESS_UNIT)
         access_unit_case(c);
+    else if (c->call == STRICT_RECORD)
+        strict_record_case(c);
     else
         walk_case(c);
 }
@@ -128,18 +143,19 @@ static void shortest_units(bytes *b) {
 
 /* Case k of those with the longest inputs and outputs. */
 void longest_case(test_case *c, size_t k) {
-    c->call = (enum call)(k % 3);
+    bool layers = k / 4 % 2;
+    c->call = (enum call)(k % 4);
     c->first.len = c->second.len = 0;
     any_picture(c);
     any_target(c);
-    if (c->call == ACCESS_UNIT)
+    if (c->call >= ACCESS_UNIT)
         most_scratch(&c->first);
     else
-        longest_compact(&c->first, k / 3 % 2);
-    if (c->call == ACCESS_UNIT || k / 3 % 2)
+        longest_compact(&c->first, layers);
+    if (c->call == ACCESS_UNIT || layers)
         shortest_units(&c->second);
     else
         add_any_bytes(&c->second, 60000);
-    if (c->call == STILL_STREAM && k / 3 % 2)
+    if (c->call == STILL_STREAM && layers)
         c->first.at[0] &= 0x9F;
 }

@@ -6,6 +6,7 @@
 /* What the call returned with the lengths that the header states: its answer, its output and the unit list in its scratch. */
 static struct {
     vvcc_written answer;
+    size_t consumed;
     uint8_t out[ROOM], scratch[ROOM];
     size_t list_len;
 } whole;
@@ -14,6 +15,8 @@ static struct {
 size_t header_out(const test_case *c) {
     size_t first = c->first.len, second = c->second.len;
     bool layers = first && c->first.at[0] >> 7, four = first && (c->first.at[0] >> 1 & 3) == 3;
+    if (c->call == STRICT_RECORD)
+        return 0;
     if (c->call == STILL_RECORD)
         return 1100 + 5 * first;
     if (c->call == STILL_STREAM)
@@ -23,7 +26,7 @@ size_t header_out(const test_case *c) {
 
 /* The length of the scratch that is always sufficient, from the header. */
 static size_t header_scratch(const test_case *c) {
-    return c->call == ACCESS_UNIT ? 4 * c->first.len : 0;
+    return c->call == ACCESS_UNIT || c->call == STRICT_RECORD ? 4 * c->first.len : 0;
 }
 
 /* How many bytes of the scratch were written: with two fills, those up to the last one that is the same in both. */
@@ -43,6 +46,7 @@ static void check_whole(const test_case *c, uint8_t fill) {
     if (r.answer.refusal == 20)
         fail(c, "20 with the header's lengths");
     whole.answer = r.answer;
+    whole.consumed = r.consumed;
     if (r.out_len)
         memcpy(whole.out, r.out, r.out_len);
     if (r.scratch_len)
@@ -50,9 +54,24 @@ static void check_whole(const test_case *c, uint8_t fill) {
     r.side = AT_THE_FRONT;
     r.fill = (uint8_t)~fill;
     perform(c, &r);
-    if (r.answer.refusal != whole.answer.refusal || r.answer.len != whole.answer.len || (r.answer.len && memcmp(r.out, whole.out, r.answer.len)))
+    if (r.answer.refusal != whole.answer.refusal || r.answer.len != whole.answer.len || r.consumed != whole.consumed ||
+        (r.answer.len && memcmp(r.out, whole.out, r.answer.len)))
         fail(c, "the answer differs between the placements");
     whole.list_len = written_front(c, &r);
+}
+
+/* A strict reading: on a refusal no list; otherwise the consumed bytes alone are read the same, and with one byte less it is 1. */
+static void check_consumed(const test_case *c) {
+    static uint8_t list[ROOM];
+    if (whole.answer.refusal) {
+        if (whole.list_len)
+            fail(c, "the scratch was changed on a refusal");
+        return;
+    }
+    vvcc_read less = vvcc_strict_record(c->first.at, whole.consumed - 1, list, whole.list_len);
+    vvcc_read all = vvcc_strict_record(c->first.at, whole.consumed, list, whole.list_len);
+    if (less.refusal != 1 || all.refusal || all.consumed != whole.consumed || memcmp(list, whole.scratch, whole.list_len))
+        fail(c, "the consumed bytes alone are not read the same");
 }
 
 /* What the scratch must hold: the unit list if it fits, then the fill. */
@@ -71,7 +90,7 @@ static void check_lengths(const test_case *c, enum side side, uint8_t fill, size
     bool short_out = !whole.answer.refusal && out_len < whole.answer.len;
     uint32_t refusal = scratch_len < whole.list_len || short_out ? 20 : whole.answer.refusal;
     perform(c, &r);
-    if (r.answer.refusal != refusal || r.answer.len != (refusal ? 0 : whole.answer.len))
+    if (r.answer.refusal != refusal || r.answer.len != (refusal ? 0 : whole.answer.len) || r.consumed != (refusal ? 0 : whole.consumed))
         fail(c, "another answer with memory of another length");
     if (r.answer.len && memcmp(r.out, whole.out, r.answer.len))
         fail(c, "other bytes with memory of another length");
@@ -94,6 +113,8 @@ static size_t any_length(size_t n, size_t most) {
 static void check_written(const test_case *c, counts *n) {
     uint8_t fill = (uint8_t)any_number();
     check_whole(c, fill);
+    if (c->call == STRICT_RECORD)
+        check_consumed(c);
     size_t out_len = any_length(whole.answer.len, header_out(c));
     size_t scratch_len = one_in(2) ? header_scratch(c) : any_length(whole.list_len, header_scratch(c));
     check_lengths(c, AT_THE_END, (uint8_t)(fill + 85), scratch_len, out_len);

@@ -24,6 +24,13 @@ static void write_outside(enum side side) {
     vvcc_still_record(worked, sizeof worked, 1, 8, 16, 8, side == AT_THE_END ? out : out - 1, 40);
 }
 
+/* Lends a scratch a byte longer than it is, for the unit list of that record, 35 bytes. */
+static void write_scratch_outside(enum side side) {
+    uint8_t *scratch = place_slice(SCRATCH, side, 34, 7), record[40];
+    vvcc_still_record(worked, sizeof worked, 1, 8, 16, 8, record, sizeof record);
+    vvcc_strict_record(record, sizeof record, side == AT_THE_END ? scratch : scratch - 1, 35);
+}
+
 /* Whether a process of its own that does this is ended by a signal. */
 static bool is_ended(void (*wrong)(enum side), enum side side) {
     struct rlimit none = {0, 0};
@@ -40,9 +47,9 @@ static bool is_ended(void (*wrong)(enum side), enum side side) {
 
 /* Each wrong length must end its process. */
 size_t check_faults(void) {
-    void (*const wrong[])(enum side) = {read_outside, write_outside};
+    void (*const wrong[])(enum side) = {read_outside, write_outside, write_scratch_outside};
     size_t n = 0;
-    for (size_t i = 0; i < 2; i++)
+    for (size_t i = 0; i < 3; i++)
         for (int side = AT_THE_END; side <= AT_THE_FRONT; side++, n++)
             if (!is_ended(wrong[i], (enum side)side)) {
                 fprintf(stderr, "guarded: a %s outside was not noticed\n", i ? "write" : "read");
@@ -76,6 +83,18 @@ static size_t check_long_walks(const uint8_t *s, size_t most) {
     return 4;
 }
 
+/* A record that is too long is refused before it is looked at; one of the greatest length is read, and its reserved bits are 0. */
+static size_t check_long_records(const uint8_t *s, size_t most, uint8_t *scratch) {
+    vvcc_read answers[] = {vvcc_strict_record(s, most + 1, scratch, 64), vvcc_strict_record(s + 1, most, scratch, 64)};
+    static const uint32_t refusals[] = {23, 25};
+    for (size_t i = 0; i < 2; i++)
+        if (answers[i].refusal != refusals[i] || answers[i].consumed) {
+            fprintf(stderr, "guarded: a long record: %lu\n", (unsigned long)answers[i].refusal);
+            exit(1);
+        }
+    return 2;
+}
+
 /* Inputs of 2^30 + 1 bytes are refused, and so is a still whose item would have more. */
 size_t check_long_inputs(void) {
     size_t most = (size_t)1 << 30, n = 0;
@@ -92,5 +111,5 @@ size_t check_long_inputs(void) {
     n += must_refuse(23, vvcc_still_stream(worked, sizeof worked, s + 1, most, 0, 0, out, 64), out);
     n += must_refuse(20, vvcc_still_stream(worked, sizeof worked, s + 7, most - 6, 0, 0, out, 64), out);
     n += must_refuse(6, vvcc_still_stream(small, sizeof small, s + 1, most, 0, 0, out, 64), out);
-    return n + check_long_walks(s, most);
+    return n + check_long_records(s, most, scratch) + check_long_walks(s, most);
 }

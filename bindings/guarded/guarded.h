@@ -20,7 +20,10 @@ typedef struct bytes {
     size_t len;
 } bytes;
 
-enum call { STILL_RECORD, STILL_STREAM, ACCESS_UNIT, NEXT_UNIT, NEXT_ITEM_UNIT, CALLS };
+enum call { STILL_RECORD, STILL_STREAM, ACCESS_UNIT, STRICT_RECORD, NEXT_UNIT, NEXT_ITEM_UNIT, CALLS };
+
+/* The numbers of refusals are below this. */
+#define REFUSALS 27
 
 /* What a call is given: its inputs and its numbers. */
 typedef struct test_case {
@@ -64,6 +67,7 @@ void picture_unit(bytes *b, size_t most);
 void compact_record(bytes *b);
 void longest_compact(bytes *b, bool layers);
 void full_record(bytes *b);
+void change_reserved(bytes *b);
 void item(bytes *b, unsigned length_size, size_t most);
 void stream(bytes *b);
 
@@ -88,6 +92,7 @@ typedef struct run {
     size_t scratch_len, out_len;
     uint8_t *scratch, *out;
     vvcc_written answer;
+    size_t consumed; /* of a record that is read; of another call 0 */
 } run;
 
 bool is_listed(enum call call, uint32_t refusal);
@@ -97,7 +102,7 @@ void fail(const test_case *c, const char *what);
 
 /* checks.c: a case at both placements, and its answers counted */
 typedef struct counts {
-    size_t answers[CALLS][25]; /* by refusal, 0 for accepted; a walk counts by how it ends */
+    size_t answers[CALLS][REFUSALS]; /* by refusal, 0 for accepted; a walk counts by how it ends */
 } counts;
 
 size_t header_out(const test_case *c);

@@ -30,7 +30,7 @@ static void run_cases(size_t cases, size_t longest, counts *n) {
 
 /* The thread's work. */
 static void *in_the_thread(void *unused) {
-    run_cases(small_cases, 60, &small);
+    run_cases(small_cases, 80, &small);
     return unused;
 }
 
@@ -63,7 +63,7 @@ static size_t run_on_small_stack(void) {
 /* How many answers of a call were refusals. */
 static size_t refused(const counts *n, int call) {
     size_t all = 0;
-    for (int e = 1; e < 25; e++)
+    for (int e = 1; e < REFUSALS; e++)
         all += n->answers[call][e];
     return all;
 }
@@ -72,7 +72,7 @@ static size_t refused(const counts *n, int call) {
 static void print_refusals(const counts *n) {
     for (int c = 0; c < CALLS; c++) {
         printf("%s refused", call_names[c]);
-        for (int e = 1; e < 25; e++)
+        for (int e = 1; e < REFUSALS; e++)
             if (n->answers[c][e])
                 printf(" %d: %zu", e, n->answers[c][e]);
         printf("\n");
@@ -91,11 +91,11 @@ static size_t print_counts(const counts *n) {
 
 int main(int argc, char **argv) {
     uint64_t seed = argc > 1 ? strtoull(argv[1], NULL, 10) : 1;
-    size_t cases = argc > 2 ? strtoull(argv[2], NULL, 10) : 300000;
+    size_t cases = argc > 2 ? strtoull(argv[2], NULL, 10) : 360000;
     seed_numbers(seed);
     open_places();
     size_t faults = check_faults(), long_inputs = check_long_inputs();
-    run_cases(cases, 60, &plain);
+    run_cases(cases, 80, &plain);
     small_cases = cases / 15;
     size_t deepest = run_on_small_stack();
     print_refusals(&plain);

@@ -183,6 +183,15 @@ void full_record(bytes *b) {
         array(b);
 }
 
+/* Changes a reserved bit of a full record: one of its head, or without the PTL flag one of byte 0 or of the first array. */
+void change_reserved(bytes *b) {
+    static const uint8_t with_ptl[][2] = {{0, 0x08}, {0, 0x10}, {0, 0x20}, {0, 0x40}, {0, 0x80}, {3, 0x01},
+                                          {3, 0x02}, {3, 0x04}, {3, 0x08}, {3, 0x10}, {4, 0x40}, {4, 0x80}};
+    static const uint8_t without[][2] = {{0, 0x08}, {0, 0x10}, {0, 0x20}, {0, 0x40}, {0, 0x80}, {2, 0x20}, {2, 0x40}};
+    const uint8_t *bit = b->at[0] & 1 ? with_ptl[below(12)] : without[below(b->len > 2 ? 7 : 5)];
+    b->at[bit[0]] ^= bit[1];
+}
+
 /* One unit of an item: an OPI, an AUD, a picture's or another. */
 static void item_unit(bytes *b, bool leading, size_t most) {
     if (one_in(leading ? 2 : 8))

@@ -1,4 +1,4 @@
-/* Turns one still into its full record and its stream, walks the stream's units, and shows a refusal. */
+/* Turns one still into its full record and its stream, reads the record strictly, walks the stream's units, and shows refusals. */
 #include <stdio.h>
 #include <string.h>
 
@@ -26,6 +26,12 @@ int main(void) {
     print_bytes("record", record, w.len);
     size_t record_len = w.len;
 
+    /* may an archive store the record? */
+    vvcc_read r = vvcc_strict_record(record, record_len, scratch, 4 * record_len);
+    if (r.refusal)
+        return 1;
+    printf("read strictly: %lu bytes\n", (unsigned long)r.consumed);
+
     w = vvcc_still_stream(compact, sizeof compact, stored, sizeof stored, 0, 0, stream, sizeof stream);
     if (w.refusal)
         return 1;
@@ -47,5 +53,8 @@ int main(void) {
     printf("one byte short: refusal %u\n", (unsigned)w.refusal);
     w = vvcc_still_stream(compact, sizeof compact, stored, sizeof stored, 0, 0, stream, stream_len - 1);
     printf("output one byte short: refusal %u\n", (unsigned)w.refusal);
+    record[0] ^= 0x80;
+    r = vvcc_strict_record(record, record_len, scratch, 4 * record_len);
+    printf("a reserved bit of the record changed: refusal %u\n", (unsigned)r.refusal);
     return 0;
 }

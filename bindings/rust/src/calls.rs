@@ -9,6 +9,13 @@ pub struct Written {
 
 #[repr(C)]
 #[derive(Clone, Copy)]
+pub struct Read {
+    pub refusal: u32,
+    pub consumed: usize,
+}
+
+#[repr(C)]
+#[derive(Clone, Copy)]
 pub struct Unit {
     pub refusal: u32,
     pub found: u32,
@@ -50,6 +57,12 @@ extern "C" {
         out: *mut u8,
         out_len: usize,
     ) -> Written;
+    pub fn vvcc_strict_record(
+        record: *const u8,
+        record_len: usize,
+        scratch: *mut u8,
+        scratch_len: usize,
+    ) -> Read;
     pub fn vvcc_next_unit(stream: *const u8, stream_len: usize, from: usize) -> Unit;
     pub fn vvcc_next_item_unit(
         item: *const u8,

@@ -22,7 +22,7 @@ mod units;
 pub use refusal::Refusal;
 pub use units::{item_units, stream_units, ItemUnits, StreamUnits};
 
-use calls::Written;
+use calls::{Read, Written};
 
 /// The longest input of a call. A longer one is refused with [`Refusal::InputTooLong`].
 pub const LONGEST_INPUT: usize = 1 << 30;
@@ -47,6 +47,13 @@ fn target_numbers(target: Option<u16>) -> (u8, u16) {
 fn written(w: Written) -> Result<usize, Refusal> {
     match w.refusal {
         0 => Ok(w.len),
+        n => Err(Refusal::of_number(n)),
+    }
+}
+
+fn consumed(r: Read) -> Result<usize, Refusal> {
+    match r.refusal {
+        0 => Ok(r.consumed),
         n => Err(Refusal::of_number(n)),
     }
 }
@@ -158,7 +165,7 @@ pub fn still_stream(
     })
 }
 
-/// How many bytes of scratch [`access_unit_into`] needs at most for this record: `4 * record.len()`.
+/// How many bytes of scratch [`access_unit_into`] and [`strict_record_into`] need at most for this record: `4 * record.len()`.
 pub fn scratch_len(record: &[u8]) -> usize {
     record.len().saturating_mul(4)
 }
@@ -212,4 +219,32 @@ pub fn access_unit(record: &[u8], item: &[u8], target: Option<u16>) -> Result<Ve
             )
         }
     })
+}
+
+/// SAFETY: `scratch` may be written for `scratch_len` bytes and does not overlap `record`.
+unsafe fn raw_strict_record(record: &[u8], scratch: *mut u8, scratch_len: usize) -> Read {
+    calls::vvcc_strict_record(record.as_ptr(), record.len(), scratch, scratch_len)
+}
+
+/// Reads a full record as [`strict_record`] does. The unit list of the record is written to the front of `scratch`, which needs at most
+/// [`scratch_len`] bytes. The bytes after it, and on a refusal all bytes, are not changed.
+pub fn strict_record_into(record: &[u8], scratch: &mut [u8]) -> Result<usize, Refusal> {
+    // SAFETY: `scratch` is lent mutably.
+    consumed(unsafe { raw_strict_record(record, scratch.as_mut_ptr(), scratch.len()) })
+}
+
+/// Reads a full record strictly and returns how many bytes were consumed: for an archive that stores a record only if its reserved bits are the
+/// standard's and its arrays have types that a record may have. The bytes that were consumed end with the last array; others may follow. What
+/// was read, written again as a full record, is exactly those bytes. Refusals: 23; 3, then in byte order 1 and 2; 25; 26.
+///
+/// ```
+/// // a record without arrays and one byte after it, then the same with a reserved bit changed
+/// assert_eq!(vvcc::strict_record(b"\xFE\x00\x55"), Ok(2));
+/// assert_eq!(vvcc::strict_record(b"\x7E\x00\x55"), Err(vvcc::Refusal::ReservedBit));
+/// ```
+pub fn strict_record(record: &[u8]) -> Result<usize, Refusal> {
+    let most = 4 * lent(record);
+    let mut scratch = Vec::<u8>::with_capacity(most);
+    // SAFETY: the buffer is that of a new `Vec`.
+    consumed(unsafe { raw_strict_record(record, scratch.as_mut_ptr(), most) })
 }

@@ -50,6 +50,8 @@ refusals! {
     FieldTooWide = 22, "a field is wider than its place";
     InputTooLong = 23, "an input has more than 2^30 bytes";
     NotOneStill = 24, "the item is not one plain still";
+    ReservedBit = 25, "a reserved bit of a full record is not the standard's";
+    ArrayType = 26, "an array of a full record has a type outside 12 to 17 and 23";
 }
 
 impl Refusal {
@@ -58,7 +60,7 @@ impl Refusal {
         self as u32
     }
 
-    /// The refusal with a number that the library returned: 1 to 24.
+    /// The refusal with a number that the library returned: 1 to 26.
     pub(crate) fn of_number(n: u32) -> Refusal {
         Refusal::ALL[n as usize - 1]
     }

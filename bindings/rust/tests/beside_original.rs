@@ -1,7 +1,10 @@
 //! Compares the library with the original on the same bytes: made and damaged stills, records, items and streams.
 //! The original's sources are found by the environment variable VVCC_ORIGINAL, the folder with vvcc.rs, hvcc.rs, boxes.rs and error.rs.
 #![cfg_attr(not(original), allow(unused))]
-use ::vvcc::{access_unit, item_units, still_record, still_stream, stream_units, Picture, Refusal};
+use ::vvcc::{
+    access_unit, item_units, still_record, still_stream, stream_units, strict_record, Picture,
+    Refusal,
+};
 
 #[cfg(original)]
 include!(concat!(env!("OUT_DIR"), "/original.rs"));
@@ -87,20 +90,60 @@ impl Numbers {
         r.push(arrays as u8);
         for _ in 0..arrays {
             let kind = self.below(32) as u8;
-            r.push(0x80 | kind);
-            let n = if kind == 12 || kind == 13 {
-                1
-            } else {
-                self.below(3)
-            };
-            if kind != 12 && kind != 13 {
-                r.extend_from_slice(&(n as u16).to_be_bytes());
-            }
-            for _ in 0..n {
-                let u = self.unit(12);
-                r.extend_from_slice(&(u.len() as u16).to_be_bytes());
-                r.extend_from_slice(&u);
-            }
+            let a = self.array(0x80 | kind);
+            r.extend(a);
+        }
+        r
+    }
+
+    /// An array of a full record with its first byte.
+    fn array(&mut self, first: u8) -> Vec<u8> {
+        let mut a = vec![first];
+        let one = matches!(first & 0x1F, 12 | 13);
+        let n = if one { 1 } else { self.below(3) };
+        if !one {
+            a.extend_from_slice(&(n as u16).to_be_bytes());
+        }
+        for _ in 0..n {
+            let u = self.unit(12);
+            a.extend_from_slice(&(u.len() as u16).to_be_bytes());
+            a.extend_from_slice(&u);
+        }
+        a
+    }
+
+    /// The part of a full record under its PTL flag, with any fields and any reserved bits.
+    fn head(&mut self) -> Vec<u8> {
+        let mut h = self.bytes(3);
+        let constraints = 1 + self.below(4);
+        h.push((self.below(4) << 6 | constraints) as u8);
+        h.extend(self.bytes(2 + constraints));
+        let sublayers = h[1] >> 4 & 7;
+        if sublayers > 1 {
+            let flags = self.below(256) as u8;
+            h.push(flags);
+            h.extend(self.bytes((flags >> (9 - sublayers)).count_ones() as usize));
+        }
+        let profiles = self.below(3);
+        h.push(profiles as u8);
+        h.extend(self.bytes(4 * profiles + 6));
+        h
+    }
+
+    /// A full record that the original parses, with any fields and any reserved bits. Most have types that a record may have.
+    fn readable(&mut self) -> Vec<u8> {
+        let ptl = self.below(4) != 0;
+        let size = [0, 1, 3][self.below(3)];
+        let mut r = vec![(self.below(32) << 3 | size << 1) as u8 | ptl as u8];
+        if ptl {
+            r.extend(self.head());
+        }
+        let arrays = self.below(4);
+        r.push(arrays as u8);
+        for _ in 0..arrays {
+            let kinds = [12, 13, 14, 15, 16, 17, 23, 12 + self.below(20)];
+            let first = self.below(8) << 5 | kinds[self.below(8)];
+            r.extend(self.array(first as u8));
         }
         r
     }
@@ -158,6 +201,68 @@ fn original_stream(c: &[u8], stored: &[u8], target: Option<u16>) -> error::Resul
     crate::vvcc::access_unit_annex_b(&full, &compact.item_data(stored)?, target)
 }
 
+#[cfg(original)]
+fn original_parse(r: &[u8]) -> Option<crate::vvcc::VvcConfig> {
+    crate::vvcc::VvcConfig::parse(r).ok()
+}
+
+/// What strict reading must return, by the original alone: nothing where it does not parse; 25 where `serialize` gives other bytes than those
+/// that were parsed, which are the shortest front that parses; then 26 for an array of another type.
+#[cfg(original)]
+fn original_strict(r: &[u8]) -> Option<Result<usize, Refusal>> {
+    let full = original_parse(r)?;
+    let fronts: Vec<usize> = (0..=r.len()).collect();
+    let parsed = fronts.partition_point(|k| original_parse(&r[..*k]).is_none());
+    let kinds = |a: &crate::vvcc::VvcNalArray| matches!(a.nal_unit_type, 12..=17 | 23);
+    Some(if full.serialize() != r[..parsed] {
+        Err(Refusal::ReservedBit)
+    } else if !full.arrays.iter().all(kinds) {
+        Err(Refusal::ArrayType)
+    } else {
+        Ok(parsed)
+    })
+}
+
+/// Strict reading beside the original: whether the record is accepted. Where the original does not parse, it is 1, 2 or 3.
+#[cfg(original)]
+fn strict(r: &[u8]) -> Result<usize, Refusal> {
+    let ours = strict_record(r);
+    match original_strict(r) {
+        Some(theirs) => assert_eq!(ours, theirs, "{r:02X?}"),
+        None => assert!(
+            matches!(ours.map_err(Refusal::number), Err(1..=3)),
+            "{ours:?} for {r:02X?}"
+        ),
+    }
+    ours
+}
+
+/// The reserved bits of a full record, which ends with its last array: the byte and the bit of each.
+#[cfg(original)]
+fn reserved(r: &[u8]) -> Vec<(usize, u8)> {
+    let full = original_parse(r).unwrap();
+    let mut bits: Vec<(usize, u8)> = (3..8).map(|k| (0, k)).collect();
+    if let Some(ptl) = &full.native_ptl {
+        bits.extend((0..5).map(|k| (3, k)));
+        bits.extend([(4, 6), (4, 7)]);
+        if full.num_sublayers > 1 {
+            let flags = 7 + ptl.general_constraint_info.len();
+            bits.extend((0..9 - full.num_sublayers).map(|k| (flags, k)));
+        }
+    }
+    let mut at = r.len();
+    for a in full.arrays.iter().rev() {
+        at -= a.nal_units.iter().map(|u| 2 + u.len()).sum::<usize>();
+        at -= if matches!(a.nal_unit_type, 12 | 13) {
+            1
+        } else {
+            3
+        };
+        bits.extend([(at, 5), (at, 6)]);
+    }
+    bits
+}
+
 /// Runs `rounds` comparisons and asks that both outcomes came up often.
 fn compare(rounds: usize, mut one: impl FnMut(&mut Numbers) -> bool) {
     let mut n = Numbers(rounds as u64);
@@ -209,6 +314,29 @@ beside_original! {
         let target = [None, Some(0), Some(3)][n.below(3)];
         let theirs = crate::vvcc::VvcConfig::parse(&r).and_then(|f| crate::vvcc::access_unit_annex_b(&f, &item, target));
         same(access_unit(&r, &item, target), theirs, &[], &(r, item))
+    }
+
+    fn strict_records(n, 20000) {
+        let any = n.readable();
+        let written = original_parse(&any).unwrap().serialize();
+        let good = if n.below(8) == 0 { any } else { written };
+        strict(&n.damaged(&good)).is_ok()
+    }
+
+    // every bit of a record that the original wrote, changed on its own
+    fn strict_bits(n, 1000) {
+        let good = original_parse(&n.readable()).unwrap().serialize();
+        let reserved = reserved(&good);
+        for (at, bit) in (0..good.len()).flat_map(|at| (0..8).map(move |bit| (at, bit))) {
+            let mut r = good.clone();
+            r[at] ^= 1 << bit;
+            let ours = strict(&r);
+            if reserved.contains(&(at, bit)) {
+                assert_eq!(ours, Err(Refusal::ReservedBit), "byte {at} bit {bit} of {good:02X?}");
+                assert_eq!(original_parse(&r).unwrap().serialize(), good, "byte {at} bit {bit}");
+            }
+        }
+        strict(&good).is_ok()
     }
 
     fn items(n, 20000) {

@@ -54,6 +54,7 @@ fn the_worked_still() {
         access_unit(&full(), b"\x00\x00\x00\x03\x00\x41\x9A", None),
         Ok(stream.clone())
     );
+    assert_eq!(strict_record(&full()), Ok(full().len()));
     let units: Result<Vec<_>, _> = stream_units(&stream).collect();
     assert_eq!(units, Ok(vec![P, Q, b"\x00\x41\x9A"]));
     let units: Result<Vec<_>, _> = item_units(b"\x00\x00\x00\x03\x00\x41\x9A", 4).collect();
@@ -94,6 +95,93 @@ fn lent_output_is_left_alone() {
     );
 }
 
+/// The unit list of P and Q: its version, then for each array its length, complete, its type and the unit after its length.
+#[test]
+fn strict_reading_of_the_worked_record() {
+    let list = [
+        b"\x01\x00\x00\x00\x11\x01\x0F\x00\x00\x00\x0B".as_slice(),
+        P,
+        b"\x00\x00\x00\x09\x01\x10\x00\x00\x00\x03",
+        Q,
+    ]
+    .concat();
+    let mut scratch = vec![0x66; list.len() + 3];
+    assert_eq!(strict_record_into(&full(), &mut scratch), Ok(40));
+    assert_eq!(scratch, [list.as_slice(), &[0x66; 3]].concat());
+    let mut scratch = vec![0x66; list.len()];
+    assert_eq!(strict_record_into(&full(), &mut scratch), Ok(40));
+    assert_eq!(scratch, list);
+    let mut scratch = vec![0x66; list.len() - 1];
+    assert_eq!(
+        strict_record_into(&full(), &mut scratch),
+        Err(Refusal::BufferTooShort)
+    );
+    assert!(scratch.iter().all(|b| *b == 0x66));
+    // bytes after the last array are not consumed
+    assert_eq!(strict_record(&[full(), vec![0xFF; 9]].concat()), Ok(40));
+}
+
+/// Each change of one byte of the worked record, with its refusal. On a refusal the scratch is left alone.
+#[test]
+fn strict_refusals() {
+    let changed: [(usize, u8, u32); 19] = [
+        (0, 0xFD, 3),
+        (4, 0x00, 2),
+        (0, 0x7F, 25),
+        (0, 0xBF, 25),
+        (0, 0xDF, 25),
+        (0, 0xEF, 25),
+        (0, 0xF7, 25),
+        (3, 0x0F, 25),
+        (3, 0x17, 25),
+        (3, 0x1B, 25),
+        (3, 0x1D, 25),
+        (3, 0x1E, 25),
+        (4, 0x41, 25),
+        (4, 0x81, 25),
+        (16, 0xAF, 25),
+        (16, 0xCF, 25),
+        (32, 0xD0, 25),
+        (16, 0x8B, 26),
+        (32, 0x98, 26),
+    ];
+    let mut scratch = vec![0x66; 160];
+    for (at, byte, n) in changed {
+        let mut record = full();
+        record[at] = byte;
+        assert_eq!(
+            strict_record_into(&record, &mut scratch).map_err(Refusal::number),
+            Err(n),
+            "byte {at} is {byte:02X}"
+        );
+    }
+    for n in 0..40 {
+        let e = strict_record_into(&full()[..n], &mut scratch);
+        assert_eq!(e, Err(Refusal::Truncated));
+    }
+    assert!(scratch.iter().all(|b| *b == 0x66));
+    // two sublayers: a byte with one level flag and seven reserved bits, then a level if the flag is set
+    let mut record = full();
+    record[2] = 0x25;
+    record.splice(8..8, [0x80, 0x33]);
+    assert_eq!(strict_record(&record), Ok(42));
+    for bit in 0..7 {
+        record[8] = 0x80 | 1 << bit;
+        assert_eq!(strict_record(&record), Err(Refusal::ReservedBit));
+    }
+    // 1 comes before 25, and 25 before 26
+    record[8] = 0x81;
+    assert_eq!(strict_record(&record[..41]), Err(Refusal::Truncated));
+    assert_eq!(
+        strict_record(b"\xF0\x01\x8B\x00\x00"),
+        Err(Refusal::ReservedBit)
+    );
+    assert_eq!(
+        strict_record(b"\xF8\x01\x8B\x00\x00"),
+        Err(Refusal::ArrayType)
+    );
+}
+
 /// A record of OPI arrays takes the most scratch for its length: ten bytes of a list for three.
 #[test]
 fn scratch_of_four_times_the_record_suffices() {
@@ -111,6 +199,14 @@ fn scratch_of_four_times_the_record_suffices() {
     );
     assert_eq!(
         access_unit_into(&record, b"", None, &mut scratch[..10 * 255], &mut out),
+        Err(Refusal::BufferTooShort)
+    );
+    assert_eq!(
+        strict_record_into(&record, &mut scratch[..1 + 10 * 255]),
+        Ok(record.len())
+    );
+    assert_eq!(
+        strict_record_into(&record, &mut scratch[..10 * 255]),
         Err(Refusal::BufferTooShort)
     );
 }
@@ -242,6 +338,7 @@ fn inputs_above_2_to_the_30() {
     assert_eq!(still_stream(b"", long, None), e);
     assert_eq!(access_unit(long, b"", None), e);
     assert_eq!(access_unit(b"", long, None), e);
+    assert_eq!(strict_record(long), Err(Refusal::InputTooLong));
     assert_eq!(
         stream_units(long).collect::<Vec<_>>(),
         [Err(Refusal::InputTooLong)]
@@ -251,6 +348,10 @@ fn inputs_above_2_to_the_30() {
         [Err(Refusal::InputTooLong)]
     );
     // one byte less is taken
+    assert_eq!(
+        strict_record_into(&long[1..], &mut [0; 8]),
+        Err(Refusal::ReservedBit)
+    );
     assert_eq!(stream_units(&long[1..]).next(), None);
     assert_eq!(
         item_units(&long[1..], 4).next(),

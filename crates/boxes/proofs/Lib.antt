@@ -1,4 +1,5 @@
 pub mod Numbers
+pub mod AllBytes
 pub mod Sets
 pub mod Fields
 pub mod Gives

@@ -1,4 +1,5 @@
 pub mod Parsed
+pub mod Ruled
 pub mod HeadRoundTrip
 pub mod RecordRoundTrip
 pub mod RecordLength

@@ -4,6 +4,7 @@ pub mod FullRecord
 pub mod Outputs
 pub mod Assembled
 pub mod AccessUnit
+pub mod StrictRecord
 pub mod Grouped
 pub mod CompactRecord
 pub mod Stills

@@ -6,7 +6,7 @@ use mathlib.Core.List.{List, [], _∷_, map}
 use mathlib.Core.Option.{Option, none, some}
 use native.Mathlib.Omega.{arith}
 use lib.Dec.{leb, ltb, eqb}
-use lib.ListN.{length, drop}
+use lib.ListN.{length, getD, drop}
 use Rattle.parse.specs.Logic.{if_then_else_}
 use Rattle.parse.specs.Outcome.{Outcome, accept, refuse, andThen}
 use Rattle.parse.specs.Steps.{orRefuse}
@@ -31,6 +31,8 @@ use Rattle.compact.specs.declared.CompactVvcConfig.{CompactVvcConfig}
 use Rattle.record_arrays.specs.Read.{holdsOne, recordArray}
 use Rattle.full.specs.Read.{headWithPtl, vvcHead, vvcRecord, fullParsed, parseFull}
 use Rattle.full.specs.Write.{serializeFull}
+use Rattle.full.specs.Rules.{peek, arrayByte, recordArrayBytes, reservedKept, typesKept}
+use Rattle.full.specs.Strict.{holdsOr, parseStrict}
 use Rattle.full.specs.declared.VvcConfig.{VvcConfig}
 use Rattle.expand.specs.Expand.{multiLayerVps, ptlOfSets, expandUnits, toFull}
 use Rattle.expand.specs.declared.Picture.{Picture}
@@ -278,6 +280,15 @@ never-record : NeverShort vvcRecord
 unfolding vvcRecord
 never-record = never-bind never-head (λ h. never-bind (never-uint 1) (λ n. never-bind (never-times n never-array) (λ xs. never-give _)))
 
+-- the bytes that its arrays begin with
+never-array-byte : NeverShort arrayByte
+unfolding arrayByte
+never-array-byte = never-bind {P = peek} (record { at = λ s p n e f. read-not (getD s p 0) p n e }) (λ b. never-bind never-array (λ _. never-give b))
+
+never-array-bytes : NeverShort recordArrayBytes
+unfolding recordArrayBytes
+never-array-bytes = never-bind never-head (λ _. never-bind (never-uint 1) (λ n. never-times n never-array-byte))
+
 -- ### calls
 
 not-short-then : {A B : Type 0} (o : Outcome A) (f : A → Outcome B) → NotShort o → ((a : A) → NotShort (f a)) → NotShort (andThen o f)
@@ -302,6 +313,19 @@ parse-not-short s = not-short-lent s _ (go (vvcRecord s 0) (never-record .at s 0
     go : (x : _) → ((n : ℕ) → x ≡ refused n → n ≡ 20 → ⊥) → NotShort (fullParsed s x)
     go (value r p) h = tt
     go (refused n) h = h n refl
+
+-- a test with its refusal
+holds-not-short : (n : ℕ) (b : Bool) → (n ≡ 20 → ⊥) → NotShort (holdsOr n b)
+holds-not-short n true h = tt
+holds-not-short n false h = h
+
+pub strict-not-short : (s : List ℕ) → NotShort (parseStrict s)
+unfolding parseStrict
+strict-not-short s =
+    not-short-then (parseFull s) _ (parse-not-short s) (λ r.
+    not-short-then (outcome (recordArrayBytes s 0)) _ (not-short-read never-array-bytes s 0) (λ bs.
+    not-short-then (holdsOr 25 (reservedKept s (r .0 .head) bs)) _ (holds-not-short 25 (reservedKept s (r .0 .head) bs) (λ e. omega arith)) (λ _.
+    not-short-then (holdsOr 26 (typesKept bs)) _ (holds-not-short 26 (typesKept bs) (λ e. omega arith)) (λ _. tt))))
 
 list-not-short : (list : List ℕ) → NotShort (listUnits list)
 unfolding decode

@@ -1,5 +1,5 @@
 -- How many bytes always suffice for an output of the calls for C (SCOPE 4.8, also in include/vvcc.h), and what such a call returns. The theorems, for
--- records that are lists of bytes, are in proofs/Stills.antt and proofs/AccessUnit.antt.
+-- records that are lists of bytes, are in proofs/Stills.antt, proofs/AccessUnit.antt and proofs/StrictRecord.antt.
 use Prim.Native.Nat.{ℕ, _+_, _*_, _/_, _%_, _≤_}
 use mathlib.Core.Path.{_≡_}
 use mathlib.Core.Bool.{Bool}
@@ -8,7 +8,8 @@ use lib.Dec.{eqb}
 use lib.ListN.{length, getD}
 use Rattle.parse.specs.Logic.{if_then_else_}
 use Rattle.parse.specs.Outcome.{Outcome, accept, andThen}
-use Rattle.vvcc_c.specs.Exports.{writtenAnswer, writtenGiven}
+use Rattle.full.specs.Read.{FullParsed}
+use Rattle.vvcc_c.specs.Exports.{writtenAnswer, writtenGiven, readAnswer, readGiven}
 
 -- 5 n / 2, rounded down
 abbrev pub twoAndAHalf : ℕ → ℕ
@@ -38,7 +39,7 @@ stillRoom C S = stillRoomWith (multiLayer C) C S
 abbrev pub prefixSize : List ℕ → ℕ
 prefixSize rec = getD rec 0 0 / 2 % 4 + 1
 
--- `vvcc_access_unit`, scratch: the unit list of a full record
+-- `vvcc_access_unit` and `vvcc_strict_record`, scratch: the unit list of a full record
 abbrev pub scratchRoom : List ℕ → ℕ
 scratchRoom rec = 4 * length rec
 
@@ -55,3 +56,10 @@ pub record Suffices (n : ℕ) (o : Outcome (List ℕ)) : Type 0 where
   pub long : (b : List ℕ) → o ≡ accept b → length b ≤ n
   pub answer : (out : List ℕ) → n ≤ length out → writtenGiven o out .0 ≡ writtenAnswer (andThen o (λ b. accept (length b)))
   pub not-short : (out : List ℕ) → n ≤ length out → writtenGiven o out .0 .refusal ≡ 20 → ⊥
+
+-- n bytes of scratch suffice for the list of a record that is read: it is not longer, and with a scratch of n bytes or more the answer is how many
+-- bytes were consumed or the refusal, never 20
+pub record ReadSuffices (n : ℕ) (o : Outcome (FullParsed × List ℕ)) : Type 0 where
+  pub long : (r : FullParsed) (list : List ℕ) → o ≡ accept (r, list) → length list ≤ n
+  pub answer : (scratch : List ℕ) → n ≤ length scratch → readGiven o scratch .0 ≡ readAnswer (andThen o (λ r. accept (r .0)))
+  pub not-short : (scratch : List ℕ) → n ≤ length scratch → readGiven o scratch .0 .refusal ≡ 20 → ⊥

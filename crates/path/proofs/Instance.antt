@@ -7,6 +7,7 @@ use mathlib.Core.Option.{Option}
 use mathlib.Core.List.{List, [], _∷_, _++_}
 use Rattle.parse.specs.Parse.{times, many, manyUpTo}
 use Rattle.boxes.specs.Bytes.{be, toBe, uint, bytes, chunk, toChunk, inside}
+use Rattle.boxes.proofs.AllBytes.{allBytes}
 use Rattle.nal.specs.StartCode.{isStartCode, scan, endsInZero, unitChecked}
 use Rattle.nal.proofs.Checks.{checked-splittable}
 use Rattle.unit_list.specs.UnitList.{arrayRest, array, unitList, decode, unitsOf, encodeUnits, encodeArray, encodeArrays, encode}
@@ -23,7 +24,7 @@ use Rattle.expand.specs.declared.Picture.{Picture}
 use Rattle.path.specs.Still.{unitsIn, Still}
 use Rattle.path.specs.Path.{Paths}
 use Rattle.path.proofs.Worked.{P, Q, C}
-use Rattle.path.proofs.Premises.{allBytes, allChecked, clean-of, clean-none, meets}
+use Rattle.path.proofs.Premises.{allChecked, clean-of, clean-none, meets}
 use Rattle.path.proofs.OneOrder.{one-order}
 use Rattle.path.proofs.Path.{whole-path}
 

@@ -4,13 +4,13 @@ use native.Mathlib.Omega.{arith}
 use mathlib.Core.Path.{_≡_, refl, sym, subst}
 use mathlib.Core.Bool.{Bool, true, false, _&&_}
 use mathlib.Core.List.{List, [], _∷_}
-use lib.Dec.{eqb, ltb}
+use lib.Dec.{eqb}
 use lib.ListN.{length, getD}
-use borrow.Author.Tests.{ltb-true, eq-eqb}
+use borrow.Author.Tests.{eq-eqb}
 use Rattle.parse.specs.Logic.{if_then_else_}
 use Rattle.parse.specs.Outcome.{accept}
 use Rattle.parse.proofs.General.{both-true}
-use Rattle.boxes.specs.Bytes.{AllBytes}
+use Rattle.boxes.proofs.AllBytes.{allBytes, bytes-of}
 use Rattle.nal.specs.Header.{typeOr31}
 use Rattle.nal.specs.StartCode.{unitChecked}
 use Rattle.nal.proofs.Checks.{Splittable, checked-splittable}
@@ -23,16 +23,6 @@ use Rattle.compact.specs.declared.CompactVvcConfig.{CompactVvcConfig}
 use Rattle.expand.specs.Expand.{FullHead, expandedHead, withList, toFull}
 use Rattle.expand.specs.declared.Picture.{Picture}
 use Rattle.path.specs.Still.{Clean, AtMostOne, unitsIn, Still}
-
-unfoldable pub allBytes : List ℕ → Bool
-allBytes [] = true
-allBytes (x ∷ s) = ltb x 256 && allBytes s
-
-bytes-of : (s : List ℕ) → allBytes s ≡ true → AllBytes s
-unfolding allBytes
-bytes-of [] e i = omega arith
-bytes-of (x ∷ s) e zero = ltb-true x 256 (both-true (ltb x 256) (allBytes s) e .0)
-bytes-of (x ∷ s) e (suc i) = bytes-of s (both-true (ltb x 256) (allBytes s) e .1) i
 
 -- no unit is empty, contains 00 00 01 or ends in 00: the unit check (SCOPE 4.6)
 unfoldable pub allChecked : List (List ℕ) → Bool

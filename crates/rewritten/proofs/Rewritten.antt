@@ -8,8 +8,8 @@ use lib.Dec.{eqb}
 use lib.ListN.{length, getD, take, length-append}
 use lib.Seq.{getD-take}
 use borrow.Author.Tests.{le-leb}
-use Rattle.parse.specs.Outcome.{Outcome, accept, refuse, andThen}
-use Rattle.parse.specs.Parse.{value, times, outcome}
+use Rattle.parse.specs.Outcome.{accept, refuse}
+use Rattle.parse.specs.Parse.{value, times}
 use Rattle.parse.proofs.Gives.{Gives, gives-value, gives-bind, with-read}
 use Rattle.boxes.specs.Bytes.{uint, AllBytes}
 use Rattle.boxes.specs.declared.Span.{Span}
@@ -25,9 +25,10 @@ use Rattle.record_arrays.specs.Write.{arraysBytes}
 use Rattle.full.specs.Read.{FullParsed, vvcHead, vvcRecord, parseFull}
 use Rattle.full.specs.Write.{headBytes, fullBytes, recordFits, writeFull, serializeFull}
 use Rattle.full.specs.Rules.{arrayByte, recordArrayBytes, reservedKept, typesKept}
-use Rattle.full.specs.Strict.{holdsOr, parseStrict}
+use Rattle.full.specs.Strict.{parseStrict}
 use Rattle.full.specs.declared.VvcConfig.{VvcConfig}
 use Rattle.full.proofs.Parsed.{ReadAs, read-as}
+use Rattle.full.proofs.Ruled.{ruled, strict-ruled, kept-passes, ruled-accepted, strict-full}
 use Rattle.rewritten.specs.Rewritten.{Rewritten, ReadRewritten, StrictRewritten}
 use Rattle.rewritten.proofs.Parts.{Rewrites, stands-byte, rewrites-append, rewrites-then}
 use Rattle.rewritten.proofs.Head.{HeadAgain, head-again}
@@ -108,40 +109,6 @@ taken-front s xs n l h e = record { room = h; same = at }
     at k j =
         let z : 0 + k ≡ k = omega arith in
         rw z (sym (getD-take n s k 0 (omega arith)) ∙ ap (λ (ys : List ℕ). getD ys k 0) (sym e))
-
--- ---- strict reading
-
--- what strict reading returns for a record that was read as x: a is the test of the reserved bits, b of the types
-abbrev ruled : Bool → Bool → FullParsed × List ℕ → Outcome (FullParsed × List ℕ)
-ruled a b x = andThen (holdsOr 25 a) (λ _. andThen (holdsOr 26 b) (λ _. accept x))
-
--- strict reading of a record that was read
-strict-ruled : (s : List ℕ) (r : FullParsed) (list starts : List ℕ) (q : ℕ) → parseFull s ≡ accept (r, list) → recordArrayBytes s 0 ≡ value starts q
-    → parseStrict s ≡ ruled (reservedKept s (r .head) starts) (typesKept starts) (r, list)
-unfolding parseStrict
-strict-ruled s r list starts q e f = rw (e, f)
-
--- with the reserved bits kept 25 is not returned
-kept-passes : (b : Bool) (x : FullParsed × List ℕ) → ruled true b x ≡ refuse 25 → ⊥
-kept-passes true x e = let z : _≡_ {A = ℕ} 0 1 = cc in omega arith
-kept-passes false x e = let z : _≡_ {A = ℕ} 26 25 = cc in omega arith
-
--- what is accepted is what was read, and its reserved bits are kept
-ruled-accepted : (a b : Bool) (x y : FullParsed × List ℕ) → ruled a b x ≡ accept y → (a ≡ true) × (x ≡ y)
-ruled-accepted true true x y e = (refl, cc)
-ruled-accepted true false x y e = let z : _≡_ {A = ℕ} 0 1 = cc in absurd (omega arith)
-ruled-accepted false b x y e = let z : _≡_ {A = ℕ} 0 1 = cc in absurd (omega arith)
-
--- what strict reading accepts the ordinary reader accepts
-strict-full : (s : List ℕ) (r : FullParsed) (list : List ℕ) → parseStrict s ≡ accept (r, list) → parseFull s ≡ accept (r, list)
-unfolding parseStrict
-strict-full s r list e = go (parseFull s) (outcome (recordArrayBytes s 0)) e
-  where
-    go : (o : Outcome (FullParsed × List ℕ)) (w : Outcome (List ℕ))
-        → andThen o (λ x. andThen w (λ bs. ruled (reservedKept s (x .0 .head) bs) (typesKept bs) x)) ≡ accept (r, list) → o ≡ accept (r, list)
-    go (refuse n) w f = let z : _≡_ {A = ℕ} 0 1 = cc in absurd (omega arith)
-    go (accept x) (refuse n) f = let z : _≡_ {A = ℕ} 0 1 = cc in absurd (omega arith)
-    go (accept x) (accept bs) f = ap accept (ruled-accepted (reservedKept s (x .0 .head) bs) (typesKept bs) x (r, list) f .1)
 
 -- ---- the claims
 

@@ -32,6 +32,10 @@ fn words(e: Refusal) {
         Refusal::FieldTooWide => say::text(b"a field is wider than its place"),
         Refusal::InputTooLong => say::text(b"the input is too long"),
         Refusal::NotOneStill => say::text(b"the item is not one plain still"),
+        Refusal::ReservedBit => say::text(b"a reserved bit of a full record is not the standard's"),
+        Refusal::ArrayType => say::text(
+            b"an array of a full record has a type outside 12 to 17 and 23",
+        ),
     }
 }
 

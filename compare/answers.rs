@@ -232,6 +232,35 @@ fn consumed(s: &[u8]) -> usize {
     low
 }
 
+/// A full record that the original reads: the text of the answer, and the list.
+fn full_record(s: &[u8]) -> Result<(String, Vec<u8>), Refusal> {
+    let h = VvcConfig::parse(s).map_err(|e| number(&e))?;
+    let list = reading::list_bytes(&h.arrays);
+    let mut text = format!(" {} {}", consumed(s), list.len());
+    put_head(&mut text, Some(&h));
+    Ok((text, list))
+}
+
+/// What the original's writer gives for a record that its reader has read.
+#[derive(Clone, Copy, PartialEq)]
+pub enum Again {
+    /// The reader refuses the record.
+    Refused,
+    /// The bytes that the reader consumed.
+    Same,
+    /// Other bytes.
+    Other,
+}
+
+/// Reads a record with the original and writes it again. Its writer refuses nothing.
+pub fn again(s: &[u8]) -> Again {
+    match VvcConfig::parse(s) {
+        Err(_) => Again::Refused,
+        Ok(h) if h.serialize() == s[..consumed(s)] => Again::Same,
+        Ok(_) => Again::Other,
+    }
+}
+
 /// The next unit of a stream from a place on, by the original's splitting of the bytes from there on.
 fn next_unit(s: &[u8], from: usize) -> String {
     let units = if from < s.len() {
@@ -449,13 +478,7 @@ fn writing(c: &Case) -> Result<(String, Vec<u8>), Refusal> {
         }
         30 => plain(compact(Vec::new()).item_data(s).map_err(said)?),
         31 => plain(compact(Vec::new()).strip_item_data(s).ok_or(24u32)?),
-        32 => {
-            let h = VvcConfig::parse(s).map_err(said)?;
-            let list = reading::list_bytes(&h.arrays);
-            let mut text = format!(" {} {}", consumed(s), list.len());
-            put_head(&mut text, Some(&h));
-            (text, list)
-        }
+        32 => full_record(s)?,
         33 => {
             let (h, counts) = with_list(c, 0)?;
             reading::full_writer(&h, counts)?;
@@ -477,6 +500,11 @@ fn writing(c: &Case) -> Result<(String, Vec<u8>), Refusal> {
             let tols = (c.byte(0) != 0).then(|| c.number(1, 2) as u16);
             plain(vvcc::access_unit_annex_b(&h, &c.second, tols).map_err(said)?)
         }
+        50 => {
+            let read = full_record(s)?;
+            reading::strict(s)?;
+            read
+        }
         _ => unreachable!("{}", c.op),
     })
 }
@@ -487,7 +515,7 @@ fn zeros(op: u8) -> String {
     match op {
         19 | 45 => put_sps(&mut s, None),
         20 => put_ptl(&mut s, None),
-        32 | 35 => put_head(&mut s, None),
+        32 | 35 | 50 => put_head(&mut s, None),
         _ => {}
     }
     s
@@ -526,7 +554,7 @@ pub fn answer(c: &Case) -> Answer {
                 Err(e) => refused(number(&e), out),
             }
         }
-        18 | 28..=33 | 35 | 36 => match writing(c) {
+        18 | 28..=33 | 35 | 36 | 50 => match writing(c) {
             Err(e) => refused(e, out),
             Ok((_, result)) if result.len() > c.room => Answer {
                 result: Some(result.len()),

@@ -15,7 +15,7 @@ pub struct Case {
 const FRONT: usize = 18;
 
 /// The names of the calls by their numbers, from 1 on.
-pub const NAMES: [&str; 49] = [
+pub const NAMES: [&str; 50] = [
     "number",
     "VvcConfig::bit_depth",
     "u8_at",
@@ -65,6 +65,7 @@ pub const NAMES: [&str; 49] = [
     "VvcConfig::sps_at",
     "VvcPtlRecord::num_sublayers",
     "VvcPtlRecord::num_bytes_constraint_info",
+    "parse_strict",
 ];
 
 /// The digits of bytes, in lower case.

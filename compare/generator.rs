@@ -5,18 +5,23 @@ use crate::case::Case;
 use crate::reading::list_bytes;
 use crate::rng::Rng;
 use crate::shapes;
+use crate::strict;
 use original::vvcc::VvcNalArray;
 
 /// Where cases are sent.
 pub type Emit<'a> = &'a mut dyn FnMut(Case);
 
-/// The length of the result of a case, if it has one.
+/// The length of the result of a case, if it has one. For strict reading it is that of the plain reader, so that what only the rules refuse is also
+/// tried with an output that would do.
 fn result_of(c: &Case) -> Option<usize> {
-    answers::answer(c).result
+    match c.op {
+        50 => answers::answer(&Case::new(32, vec![], c.first.clone())).result,
+        _ => answers::answer(c).result,
+    }
 }
 
 /// A fill byte and an output length for a case: the result's, one short, longer, far too short or none.
-fn with_room(r: &mut Rng, mut c: Case) -> Case {
+pub fn with_room(r: &mut Rng, mut c: Case) -> Case {
     c.fill = r.byte();
     c.room = match result_of(&c) {
         None => r.below(5),
@@ -118,6 +123,7 @@ pub fn short_strings(longest: usize, emit: Emit) {
         (45, vec![]),
         (46, vec![]),
         (47, vec![]),
+        (50, vec![]),
     ];
     let mut i = 0;
     for (op, numbers) in plain {
@@ -160,7 +166,7 @@ fn head_with(at: usize, bytes: &[u8]) -> Vec<u8> {
 
 /// Calls on numbers alone: every refusal, every type, every depth, headers and counts at their limits.
 pub fn numbers(emit: Emit) {
-    for n in 1..=24 {
+    for n in 1..=26 {
         emit(Case::new(1, vec![n], vec![]));
     }
     for t in 0..=255 {
@@ -332,10 +338,12 @@ pub fn large(emit: Emit) {
         s
     };
     for (units, len) in [(65535, 0), (1, 65535), (2, 65535), (300, 300)] {
-        put(32, vec![], record(units, len), vec![]);
         let mut short = record(units, len);
         short.pop();
-        put(32, vec![], short, vec![]);
+        for op in [32, 50] {
+            put(op, vec![], record(units, len), vec![]);
+            put(op, vec![], short.clone(), vec![]);
+        }
     }
 }
 
@@ -357,6 +365,7 @@ pub fn fronts(r: &mut Rng, count: usize, emit: Emit) {
         whole.push((28, vec![], shapes::compact(r)));
         whole.push((31, vec![0, size], shapes::still_item(r, size)));
         whole.push((32, vec![], shapes::full(r)));
+        whole.push((50, vec![], shapes::strict(r)));
     }
     whole.push((19, vec![], shapes::longest_sps()));
     whole.push((20, vec![], shapes::longest_vps()));
@@ -504,10 +513,10 @@ fn parameter_set(r: &mut Rng, op: u8) -> Vec<u8> {
 
 /// Any call on an input of its shape.
 pub fn any(r: &mut Rng) -> Case {
-    const CALLS: [u8; 61] = [
+    const CALLS: [u8; 65] = [
         2, 6, 7, 8, 9, 14, 15, 16, 17, 18, 19, 19, 19, 20, 20, 21, 22, 23, 24, 25, 26, 27, 28, 28,
         28, 29, 29, 30, 31, 31, 32, 32, 32, 32, 33, 33, 33, 34, 34, 35, 35, 35, 36, 36, 36, 36, 37,
-        38, 39, 39, 40, 41, 42, 43, 44, 44, 45, 46, 47, 48, 49,
+        38, 39, 39, 40, 41, 42, 43, 44, 44, 45, 46, 47, 48, 49, 50, 50, 50, 50,
     ];
     let op = r.pick(&CALLS);
     let mut second = Vec::new();
@@ -578,6 +587,7 @@ pub fn any(r: &mut Rng) -> Case {
             (vec![r.one_in(5) as u8, size], s)
         }
         32 => (vec![], shapes::full(r)),
+        50 => (vec![], strict::record(r)),
         33 | 34 => (head(r), shapes::list(r)),
         35 => {
             let list = if r.one_in(6) {

@@ -341,10 +341,17 @@ fn ends(calls: &mut Calls) {
     calls.push((32, vec![], vec![0xfe, 2, 0x8c, 0, 1, 5], vec![]));
 }
 
+/// An item of two units where one is taken; a list that ends inside a unit's length, for the full writer.
+fn one_more(calls: &mut Calls) {
+    calls.push((31, vec![0, 1], vec![2, 0, 0x41, 2, 0, 0x41], vec![]));
+    let head = [vec![4], vec![0; 24]].concat();
+    calls.push((33, head, vec![1, 0, 0, 0, 3, 1, 16, 0], vec![]));
+}
+
 /// All of them, with an output as long as the result or longer.
 pub fn limits(emit: Emit) {
     let mut calls = Calls::new();
-    let parts: [fn(&mut Calls); 10] = [
+    let parts: [fn(&mut Calls); 11] = [
         compact,
         sizes,
         refused_sps,
@@ -355,6 +362,7 @@ pub fn limits(emit: Emit) {
         access_units,
         streams,
         ends,
+        one_more,
     ];
     for part in parts {
         part(&mut calls);

@@ -70,6 +70,7 @@ fn fronts(op: u8) -> Vec<Vec<u8>> {
         25..=27 | 43 => vec![0, 0, 1, 0x41],
         28 => [&[0x60, 11][..], &sps(), &[3], &pps()].concat(),
         32 => vec![0xff, 1],
+        50 => vec![0xfe],
         45 => payload(&sps()),
         _ => vec![1],
     };
@@ -90,7 +91,7 @@ fn numbers(op: u8) -> Vec<u8> {
 
 /// The calls that take an input.
 fn calls() -> impl Iterator<Item = u8> {
-    (3..=9).chain(14..=21).chain(23..=47)
+    (3..=9).chain(14..=21).chain(23..=47).chain([50])
 }
 
 /// Every call that takes an input, with one that is too long; where it takes two, with either and both.

@@ -14,12 +14,14 @@ mod reading;
 mod recorded;
 mod rng;
 mod shapes;
+mod strict;
 
 use case::{Case, NAMES};
 use std::collections::BTreeMap;
 use std::io::{BufRead, BufReader, BufWriter, Write};
 use std::process::{Command, Stdio};
 use std::sync::mpsc::{sync_channel, Receiver};
+use strict::{Asked, Held};
 
 /// The bytes that `replay` has for a case, and for an output.
 const LONGEST: usize = 524_288;
@@ -27,8 +29,8 @@ const LONGEST: usize = 524_288;
 /// The bytes of a case and its output together for whose digits `replay` has room.
 const TOGETHER: usize = 600_000;
 
-/// A case's line, its expected answer, its call and its refusal.
-type Expected = (String, String, u8, u32);
+/// A case's line, its expected answer, its call and its refusal; for strict reading also what the original's writer gives for the record.
+type Expected = (String, String, u8, u32, Option<Asked>);
 
 /// How often both returned a refusal's number, for each call.
 type Table = BTreeMap<(u8, u32), u64>;
@@ -38,11 +40,14 @@ fn all_cases(seed: u64, count: usize, emit: generator::Emit) {
     generator::worked(emit);
     generator::numbers(emit);
     limits::limits(emit);
+    strict::short(emit);
+    strict::fixed(emit);
     generator::large(emit);
     generator::short_strings(2, emit);
     generator::zero_strings(8, emit);
     let mut r = rng::Rng(seed);
     generator::fronts(&mut r, count / 5000, emit);
+    strict::reserved_bits(&mut r, count / 50, emit);
     for _ in 0..count {
         emit(generator::any(&mut r));
     }
@@ -55,20 +60,38 @@ fn expected(c: &Case) -> Expected {
         answers::line(c, &a),
         c.op,
         if c.op == 1 { 0 } else { a.refusal },
+        (c.op == strict::CALL).then(|| strict::asked(&c.first)),
     )
 }
 
+/// The refusal in an answer line.
+fn refusal_in(line: &str) -> u32 {
+    let word = line.split(' ').nth(1);
+    word.and_then(|w| w.parse().ok()).unwrap_or(u32::MAX)
+}
+
+/// Reads the next answer line; it is empty at the end.
+fn next_line(lines: &mut impl BufRead, line: &mut String) {
+    line.clear();
+    lines.read_line(line).expect("replay's answers are read");
+}
+
 /// Reads the answers of `replay` and compares each with the expected one; returns how many there were and how many differ.
-fn compare(answers: impl BufRead, cases: Receiver<Vec<Expected>>, table: &mut Table) -> (u64, u64) {
+fn compare(
+    mut lines: impl BufRead,
+    cases: Receiver<Vec<Expected>>,
+    table: &mut Table,
+    held: &mut Held,
+) -> (u64, u64) {
     let (mut n, mut differ) = (0, 0);
-    let mut lines = answers;
     let mut got = String::new();
-    for (line, want, op, refusal) in cases.into_iter().flatten() {
-        got.clear();
-        lines
-            .read_line(&mut got)
-            .expect("replay's answers are read");
+    for (line, want, op, refusal, asked) in cases.into_iter().flatten() {
+        next_line(&mut lines, &mut got);
         n += 1;
+        let agrees = asked.map_or(true, |a| held.agrees(refusal_in(&got), a));
+        if !agrees && held.disagree <= 10 {
+            print!("disagrees with the original's writer: {line}");
+        }
         if got == want {
             *table.entry((op, refusal)).or_default() += 1;
             continue;
@@ -82,12 +105,8 @@ fn compare(answers: impl BufRead, cases: Receiver<Vec<Expected>>, table: &mut Ta
             );
         }
     }
-    got.clear();
-    if lines
-        .read_line(&mut got)
-        .expect("replay's answers are read")
-        > 0
-    {
+    next_line(&mut lines, &mut got);
+    if !got.is_empty() {
         differ += 1;
         println!("replay writes more lines than there are cases");
     }
@@ -98,7 +117,7 @@ fn print(table: &Table) {
     println!("\n| call | accepted | refused, by number |\n|---|---:|---|");
     for (i, name) in NAMES.iter().enumerate() {
         let of = |e| table.get(&(i as u8 + 1, e)).copied().unwrap_or(0);
-        let refused: Vec<String> = (1..=24)
+        let refused: Vec<String> = (1..=26)
             .filter(|&e| of(e) > 0)
             .map(|e| format!("{e}: {}", of(e)))
             .collect();
@@ -144,9 +163,9 @@ fn run(replay: &str, seed: u64, count: usize, wrong: Option<usize>) -> bool {
         }
     });
     let reader = std::thread::spawn(move || {
-        let mut table = Table::new();
-        let counts = compare(output, cases, &mut table);
-        (counts, table)
+        let (mut table, mut held) = (Table::new(), Held::default());
+        let counts = compare(output, cases, &mut table, &mut held);
+        (counts, table, held)
     });
     let mut batch = Vec::new();
     let mut n = 0;
@@ -170,10 +189,17 @@ fn run(replay: &str, seed: u64, count: usize, wrong: Option<usize>) -> bool {
     drop(to_replay);
     drop(to_compare);
     writer.join().unwrap();
-    let ((mut n, mut differ), mut table) = reader.join().unwrap();
+    let (counts, table, held) = reader.join().unwrap();
     child.wait().unwrap();
+    end(seed, counts, table, &held)
+}
+
+/// Compares the longest inputs too, prints the table and the counts, and returns whether nothing differs.
+fn end(seed: u64, (mut n, mut differ): (u64, u64), mut table: Table, held: &Held) -> bool {
     longest_inputs(&mut n, &mut differ, &mut table);
     print(&table);
+    held.print();
+    differ += held.disagree;
     println!("\nseed {seed}\n{n} cases, {differ} differ");
     differ == 0
 }

@@ -1,5 +1,5 @@
 //! What the original does not have, from the rules of docs/SCOPE.md: the unit list (2), the unit check (4.6), the kinds of units (3.3), the limits of
-//! full write (3.9), where units lie, and the units of an access unit one by one (3.12).
+//! full write (3.9), where units lie, the units of an access unit one by one (3.12), and the two rules of strict reading (4.10).
 
 use original::hvcc::split_length_prefixed;
 use original::vvcc::{self, VvcConfig, VvcNalArray};
@@ -131,6 +131,60 @@ pub fn full_writer(h: &VvcConfig, counts: [usize; 3]) -> Result<(), Refusal> {
         });
     if size || (h.ptl_present_flag && head) || arrays {
         return Err(22);
+    }
+    Ok(())
+}
+
+/// Reserved bits of a byte: its place, which bits they are, and what the standard has there.
+pub type Reserved = (usize, u8, u8);
+
+/// The reserved bits in the head of a full record that reads, and the place of its count of arrays.
+fn head_reserved(s: &[u8]) -> (Vec<Reserved>, usize) {
+    let mut out = vec![(0, 0xf8, 0xf8)];
+    if s[0] & 1 == 0 {
+        return (out, 1);
+    }
+    out.extend([(3, 0x1f, 0x1f), (4, 0xc0, 0)]);
+    let sublayers = s[2] >> 4 & 7;
+    let mut at = 7 + usize::from(s[4] & 0x3f);
+    if sublayers > 1 {
+        let no_flags = 0xff >> (sublayers - 1);
+        out.push((at, no_flags, 0));
+        at += 1 + (s[at] & !no_flags).count_ones() as usize;
+    }
+    (out, at + 1 + 4 * usize::from(s[at]) + 6)
+}
+
+/// The place after the array at a place. An array of type 12 or 13 has one unit and no count.
+fn array_end(s: &[u8], at: usize) -> usize {
+    let two = |at: usize| usize::from(s[at]) << 8 | usize::from(s[at + 1]);
+    let (units, start) = match s[at] & 31 {
+        12 | 13 => (1, at + 1),
+        _ => (two(at + 1), at + 3),
+    };
+    (0..units).fold(start, |at, _| at + 2 + two(at))
+}
+
+/// The reserved bits of a full record that reads, in the order of its bytes, and the places of its arrays.
+pub fn reserved(s: &[u8]) -> (Vec<Reserved>, Vec<usize>) {
+    let (mut bits, count_at) = head_reserved(s);
+    let (mut arrays, mut at) = (Vec::new(), count_at + 1);
+    for _ in 0..s[count_at] {
+        bits.push((at, 0x60, 0));
+        arrays.push(at);
+        at = array_end(s, at);
+    }
+    (bits, arrays)
+}
+
+/// The refusals of strict reading for a full record that reads: 25 for any reserved bit, then 26 for the type of any array.
+pub fn strict(s: &[u8]) -> Result<(), Refusal> {
+    let (bits, arrays) = reserved(s);
+    if bits.iter().any(|&(at, mask, value)| s[at] & mask != value) {
+        return Err(25);
+    }
+    if arrays.iter().any(|&at| !matches!(s[at] & 31, 12..=17 | 23)) {
+        return Err(26);
     }
     Ok(())
 }

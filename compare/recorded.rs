@@ -8,6 +8,7 @@ use crate::limits;
 use crate::reading;
 use crate::rng::Rng;
 use crate::shapes;
+use crate::strict;
 use original::vvcc::VvcNalArray;
 use std::collections::BTreeMap;
 use std::fs;
@@ -101,6 +102,7 @@ pub fn write(folder: &str, seed: u64) -> bool {
     list.program_lines();
     generator::worked(&mut |c| list.take(&c, &answers::answer(&c)));
     limits::limits(&mut |c| list.take(&c, &answers::answer(&c)));
+    strict::short(&mut |c| list.take(&c, &answers::answer(&c)));
     for (op, unit) in [
         (19, shapes::longest_sps()),
         (20, shapes::longest_vps()),
@@ -112,7 +114,7 @@ pub fn write(folder: &str, seed: u64) -> bool {
     let mut i = 0;
     generator::numbers(&mut |c| {
         i += 1;
-        if c.op == 1 || (c.op > 10 && c.byte(0) < 33) || i % 29 == 0 {
+        if c.op == 1 || (c.op > 10 && c.byte(0) < 33) || i % 31 == 0 {
             list.take(&c, &answers::answer(&c));
         }
     });
@@ -172,7 +174,7 @@ impl List {
             (&long.line(), "case too long\n"),
             (&together.line(), "case too long\n"),
             (&beyond, "case too long\n"),
-            (&none(50).line(), "50 no such call =abab\n"),
+            (&none(51).line(), "51 no such call =abab\n"),
             (&none(0).line(), "0 no such call =abab\n"),
             (&odd, "6 0 1 0 =\n"),
         ] {

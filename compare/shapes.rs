@@ -473,61 +473,105 @@ pub fn compact(r: &mut Rng) -> Vec<u8> {
     maybe_damaged(r, out, 5)
 }
 
-/// A full record, its reserved bits plain or random.
-pub fn full(r: &mut Rng) -> Vec<u8> {
-    let noise = r.one_in(2);
-    let n = |r: &mut Rng, mask: u8, plain: u8| if noise { r.byte() & mask } else { plain & mask };
-    let size = if r.one_in(12) { 2 } else { r.pick(&[0, 1, 3]) };
+/// Bits under a mask: plain or random.
+fn noisy(r: &mut Rng, noise: bool, mask: u8, plain: u8) -> u8 {
+    if noise {
+        r.byte() & mask
+    } else {
+        plain & mask
+    }
+}
+
+/// The PTL of a full record with so many sublayers, which reads; its reserved bits plain or random.
+fn full_ptl(r: &mut Rng, noise: bool, sublayers: u8) -> Vec<u8> {
+    let info = r.pick(&[1, 1, 2, 10, 43, 62, 63]);
+    let mut out = vec![noisy(r, noise, 0xc0, 0) | info];
+    out.extend(r.bytes(2 + info as usize));
+    if sublayers > 1 {
+        let no_flags = 0xff >> (sublayers - 1);
+        let flags = r.byte() & !no_flags;
+        out.push(flags | noisy(r, noise, no_flags, 0));
+        out.extend((0..flags.count_ones()).map(|_| r.byte()));
+    }
+    let subs = if r.one_in(60) { 255 } else { r.below(4) };
+    out.push(subs as u8);
+    out.extend(r.bytes(4 * subs));
+    out
+}
+
+/// The head of a full record that reads, its reserved bits plain or random.
+fn full_head(r: &mut Rng, noise: bool) -> Vec<u8> {
     let present = r.one_in(2);
-    let mut out = vec![n(r, 0xf8, 0xf8) | size << 1 | present as u8];
+    let size = r.pick(&[0, 1, 3]);
+    let mut out = vec![noisy(r, noise, 0xf8, 0xf8) | size << 1 | present as u8];
     if present {
         let sub = r.below(8) as u8;
         let ols = if r.one_in(2) { 0 } else { r.below(512) as u16 };
         let w = ols << 7 | u16::from(sub) << 4 | (r.byte() & 15) as u16;
         out.extend(w.to_be_bytes());
-        out.push(n(r, 0x1f, 0x1f) | r.byte() & 0xe0);
-        let info = if r.one_in(12) {
-            0
-        } else {
-            r.pick(&[1, 1, 2, 10, 43, 62, 63])
-        };
-        out.push(n(r, 0xc0, 0) | info);
-        out.extend(r.bytes(2 + info as usize));
-        if sub > 1 {
-            let flags = r.byte();
-            out.push(flags);
-            for i in 0..sub - 1 {
-                if flags & 0x80 >> i != 0 {
-                    out.push(r.byte());
-                }
-            }
-        }
-        let subs = if r.one_in(60) { 255 } else { r.below(4) };
-        out.push(subs as u8);
-        out.extend(r.bytes(4 * subs + 6));
+        out.push(noisy(r, noise, 0x1f, 0x1f) | r.byte() & 0xe0);
+        out.extend(full_ptl(r, noise, sub));
+        out.extend(r.bytes(6));
     }
-    let mut a = arrays(r);
+    out
+}
+
+/// An array of a full record, its reserved bits plain or random.
+fn full_array(r: &mut Rng, noise: bool, a: VvcNalArray) -> Vec<u8> {
+    let mut out = vec![noisy(r, noise, 0x60, 0) | (a.complete as u8) << 7 | a.nal_unit_type];
+    let mut u = a.nal_units;
+    if a.nal_unit_type == 12 || a.nal_unit_type == 13 {
+        u.resize(1, Vec::new());
+    } else {
+        out.extend((u.len() as u16).to_be_bytes());
+    }
+    for y in u {
+        out.extend((y.len() as u16).to_be_bytes());
+        out.extend(y);
+    }
+    out
+}
+
+/// The count of a full record's arrays, and the arrays.
+fn full_arrays(r: &mut Rng, noise: bool, mut a: Vec<VvcNalArray>) -> Vec<u8> {
     a.truncate(255);
-    out.push(a.len() as u8);
+    let mut out = vec![a.len() as u8];
     for x in a {
-        out.push(n(r, 0x60, 0) | (x.complete as u8) << 7 | x.nal_unit_type);
-        let mut u = x.nal_units;
-        if x.nal_unit_type == 12 || x.nal_unit_type == 13 {
-            u.truncate(1);
-            u.resize(1, Vec::new());
-        } else {
-            out.extend((u.len() as u16).to_be_bytes());
-        }
-        for y in u {
-            out.extend((y.len() as u16).to_be_bytes());
-            out.extend(y);
-        }
+        out.extend(full_array(r, noise, x));
     }
+    out
+}
+
+/// A full record, its reserved bits plain or random; now and then with prefix size 3, or with constraint length 0.
+pub fn full(r: &mut Rng) -> Vec<u8> {
+    let noise = r.one_in(2);
+    let mut out = full_head(r, noise);
+    if r.one_in(12) {
+        out[0] = out[0] & !6 | 4;
+    }
+    if out.len() > 1 && r.one_in(12) {
+        out[4] &= 0xc0;
+    }
+    let a = arrays(r);
+    out.extend(full_arrays(r, noise, a));
     if r.one_in(4) {
         let m = r.below(5);
         out.extend(r.bytes(m));
     }
     maybe_damaged(r, out, 4)
+}
+
+/// A full record that strict reading accepts.
+pub fn strict(r: &mut Rng) -> Vec<u8> {
+    let mut out = full_head(r, false);
+    let mut a = arrays(r);
+    for x in &mut a {
+        if !matches!(x.nal_unit_type, 12..=17 | 23) {
+            x.nal_unit_type = r.pick(&[12, 13, 14, 15, 16, 17, 23]);
+        }
+    }
+    out.extend(full_arrays(r, false, a));
+    out
 }
 
 /// An item of length-prefixed units.

@@ -3,6 +3,7 @@ use boxes::place;
 use full::BitDepth;
 use full::VvcConfig;
 use full_read::FullAnswer;
+use full_read::FullRead;
 use ptl::VvcPtlRecord;
 use replay_text::shown;
 use sample_format::SampleFormat;
@@ -15,9 +16,8 @@ fn put_answer(out: &mut [u8], at: usize, r: FullAnswer) -> usize {
     }
 }
 
-// `full_read::parse`: the answer and the head, which is also shown on a refusal.
-fn parse(s: &[u8], lent: &mut [u8], out: &mut [u8], at: usize) -> usize {
-    let r = full_read::parse(s, lent);
+// `full_read::parse` and `full_read::parse_strict`: the answer and the head, which is also shown on a refusal.
+fn put_read(out: &mut [u8], at: usize, r: FullRead) -> usize {
     let answer = r.answer;
     let head = r.head;
     let next = put_answer(out, at, answer);
@@ -63,11 +63,12 @@ pub fn answer(
     let head = replay_heads::full_head(numbers, 0, fill);
     match op {
         2 => depth(out, at, VvcConfig::bit_depth(head)),
-        32 => parse(s, lent, out, at),
+        32 => put_read(out, at, full_read::parse(s, lent)),
         33 => shown::written(out, at, full_write::serialize(head, s, lent)),
         34 => format(out, at, sample_format::sample_format(head, s)),
         46 => shown::part(out, at, VvcConfig::sps(s)),
         47 => shown::place(out, at, VvcConfig::sps_at(s)),
+        50 => put_read(out, at, full_read::parse_strict(s, lent)),
         _ => ptl_number(op, head.native_ptl, out, at),
     }
 }

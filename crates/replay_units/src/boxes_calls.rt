@@ -22,7 +22,7 @@ fn low_refusal(n: u8) -> Refusal {
     }
 }
 
-// The refusal with number n above 12; any other n is taken as 24.
+// The refusal with number n above 12; any other n is taken as 26.
 fn high_refusal(n: u8) -> Refusal {
     match n {
         13 => Refusal::Subpictures,
@@ -36,7 +36,9 @@ fn high_refusal(n: u8) -> Refusal {
         21 => Refusal::UnitList,
         22 => Refusal::FieldTooWide,
         23 => Refusal::InputTooLong,
-        _ => Refusal::NotOneStill,
+        24 => Refusal::NotOneStill,
+        25 => Refusal::ReservedBit,
+        _ => Refusal::ArrayType,
     }
 }
 

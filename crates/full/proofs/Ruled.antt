@@ -15,8 +15,8 @@ abbrev pub ruled : Bool → Bool → FullParsed × List ℕ → Outcome (FullPar
 ruled a b x = andThen (holdsOr 25 a) (λ _. andThen (holdsOr 26 b) (λ _. accept x))
 
 -- strict reading of a record that was read
-pub strict-ruled : (s : List ℕ) (r : FullParsed) (list starts : List ℕ) (q : ℕ) → parseFull s ≡ accept (r, list) → recordArrayBytes s 0 ≡ value starts q
-    → parseStrict s ≡ ruled (reservedKept s (r .head) starts) (typesKept starts) (r, list)
+pub strict-ruled : (s : List ℕ) (r : FullParsed) (list starts : List ℕ) (q : ℕ) → parseFull s ≡ accept (r, list)
+    → recordArrayBytes s 0 ≡ value starts q → parseStrict s ≡ ruled (reservedKept s (r .head) starts) (typesKept starts) (r, list)
 unfolding parseStrict
 strict-ruled s r list starts q e f = rw (e, f)
 

@@ -20,7 +20,8 @@ use Rattle.full.specs.Rules.{arrayReserved, arrayTyped, arrayByte, all}
 use Rattle.record_rules.specs.inner.Rules.{tested}
 
 -- a record kind has a type that a record may have
-kind-is : (t : ℕ) (a b c : Bool) → (a ≡ true → b ≡ false) → isRecord (if a then PictureData t else if b then Record t else if c then Aud else Other) ≡ b
+kind-is : (t : ℕ) (a b c : Bool) → (a ≡ true → b ≡ false)
+    → isRecord (if a then PictureData t else if b then Record t else if c then Aud else Other) ≡ b
 kind-is t true b c h = sym (h refl)
 kind-is t false true c h = refl
 kind-is t false false true h = refl

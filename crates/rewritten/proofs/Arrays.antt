@@ -159,7 +159,8 @@ module _ (s : List ℕ) where
             one = omega (arith, areBytes p);
             small = omega arith;
             fits = rw (m, le-leb n 65535 (d .few), v .fits) (d .one);
-            next = rw m (omega (arith, length-append (countBytes (holdsOne (getD s p 0 % 32)) n) (encodeUnits 2 (map (held s) us)), d .next, v .next));
+            next =
+                rw m (omega (arith, length-append (countBytes (holdsOne (getD s p 0 % 32)) n) (encodeUnits 2 (map (held s) us)), d .next, v .next));
             same = rw m (parts-again (holdsOne (getD s p 0 % 32)) d v);
           }
 

@@ -119,5 +119,7 @@ instance = record {
 }
 
 -- written again, it is what was consumed
-pub instance-rewritten : (out : List ℕ) → 42 ≤ length out → lentOutput (counted (serializeFull instanceHead instanceList)) out ≡ (accept 42, overlay instanceRecord out)
-instance-rewritten out h = strict-rewritten (instanceRecord ++ (0x55 ∷ [])) (instance .bytes) instanceRead instanceList (instance .read) (omega arith) out h
+pub instance-rewritten : (out : List ℕ) → 42 ≤ length out
+    → lentOutput (counted (serializeFull instanceHead instanceList)) out ≡ (accept 42, overlay instanceRecord out)
+instance-rewritten out h =
+    strict-rewritten (instanceRecord ++ (0x55 ∷ [])) (instance .bytes) instanceRead instanceList (instance .read) (omega arith) out h

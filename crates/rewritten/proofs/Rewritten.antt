@@ -121,7 +121,8 @@ module _ (s : List ℕ) (r : FullParsed) (list : List ℕ) (accepted : parseFull
 
   -- they are written for the head and the list
   serialized : serializeFull (r .head) list ≡ accept again
-  serialized = rw (f .same) (serialize-accepts (r .head) (heldArrays s (f .arrays)) (a .size) (a .fits) (sound-held s (a .sound)) (rw (f .same) at lent))
+  serialized =
+      rw (f .same) (serialize-accepts (r .head) (heldArrays s (f .arrays)) (a .size) (a .fits) (sound-held s (a .sound)) (rw (f .same) at lent))
 
   -- what strict reading returns
   ruled-here : parseStrict s ≡ ruled (reservedKept s (r .head) (a .starts)) (typesKept (a .starts)) (r, list)

@@ -27,7 +27,8 @@ pub record Rewritten (s : List ℕ) (r : FullParsed) (list : List ℕ) : Type 0 
 
 -- every record that the ordinary reader accepts, with a list of at most 2^30 bytes
 abbrev pub ReadRewritten : Type 0
-ReadRewritten = (s : List ℕ) → AllBytes s → (r : FullParsed) (list : List ℕ) → parseFull s ≡ accept (r, list) → length list ≤ 2 ^ 30 → Rewritten s r list
+ReadRewritten = (s : List ℕ) → AllBytes s → (r : FullParsed) (list : List ℕ) → parseFull s ≡ accept (r, list) → length list ≤ 2 ^ 30
+    → Rewritten s r list
 
 -- a record that `parse_strict` accepts, with such a list: `serialize` writes exactly the consumed bytes to an output that is long enough
 abbrev pub StrictRewritten : Type 0

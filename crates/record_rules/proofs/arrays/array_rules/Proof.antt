@@ -70,10 +70,11 @@ loop-again c =
     let m = room-found arrayInList s (recordArray s (l .at)) _ _ (t .read) in
     let b = c .before .before .byte .ensures in
     let r = c .before .array-reserved .ensures ∙ ap (λ (n : ℕ). l .reserved && arrayReserved n) b in
-    let y = c .array-typed .ensures ∙ ap (λ (n : ℕ). l .typed && arrayTyped n) b in (
+    let y = c .array-typed .ensures ∙ ap (λ (n : ℕ). l .typed && arrayTyped n) b in
+    let left = outcome (times (l .left - 1) arrayByte s (e .ends .given .0 .1 .0)) in (
       t .inside,
-      ap (λ (a : Bool). tested a (c .array-typed .result) (outcome (times (l .left - 1) arrayByte s (e .ends .given .0 .1 .0)))) r
-          ∙ ap (λ (a : Bool). tested (l .reserved && arrayReserved (getD s (l .at) 0)) a (outcome (times (l .left - 1) arrayByte s (e .ends .given .0 .1 .0)))) y
+      ap (λ (a : Bool). tested a (c .array-typed .result) left) r
+          ∙ ap (λ (a : Bool). tested (l .reserved && arrayReserved (getD s (l .at) 0)) a left) y
           ∙ tested-next s (l .reserved) (l .typed) (l .left) (l .at) (e .before .before .before .loop-test .taken) (m .what) _ (m .read)
           ∙ l .inv .1,
     )

@@ -41,7 +41,7 @@ returns-2 c =
     (sym (ap arrayRulesOf (c .enum-told .given .1)) ∙ c .before .before .array-rules .ensures)
 
 head-reserved-requires : tie.Need-head-reserved-requires
-head-reserved-requires c κs = c .before .before .before .before .before .before .before .before .pre .1
+head-reserved-requires c κs = let k = c .before .before .before in k .before .before .before .before .before .pre .1
 
 decided-requires : tie.Need-decided-requires
 decided-requires c κs = search needs
@@ -52,7 +52,8 @@ returns-3 c =
     let k = r .before .before in
     let a = k .before .before .before .before .before .args in
     c .decided .ensures
-    ∙ ap (λ (b : Bool). andThen (holdsOr 25 (b && r .reserved .given .0 .0)) (λ _. holdsOr 26 (r .reserved .given .0 .1 .0))) (c .before .head-reserved .ensures)
+    ∙ ap (λ (b : Bool). andThen (holdsOr 25 (b && r .reserved .given .0 .0)) (λ _. holdsOr 26 (r .reserved .given .0 .1 .0)))
+    (c .before .head-reserved .ensures)
     ∙ kept-tested (a .«record» .now) (a .head) (a .at) _ (omega arith) (k .before .wide .ensures .0) _ _
     (sym (ap arrayRulesOf (r .reserved .given .1)) ∙ k .array-rules .ensures)
 

@@ -14,12 +14,14 @@ returns-2 c =
 returns-3 : tie.Need-returns-3
 returns-3 c =
     let a = c .before .before .before .args in
-    rw (not-false (a .head-reserved) (c .before .before .if1 .left), not-false (a .reserved) (c .before .if2 .left), not-true (a .typed) (c .if3 .taken))
+    let h = not-false (a .head-reserved) (c .before .before .if1 .left) in
+    rw (h, not-false (a .reserved) (c .before .if2 .left), not-true (a .typed) (c .if3 .taken))
 
 returns-4 : tie.Need-returns-4
 returns-4 c =
     let a = c .before .before .before .args in
-    rw (not-false (a .head-reserved) (c .before .before .if1 .left), not-false (a .reserved) (c .before .if2 .left), not-false (a .typed) (c .if3 .left))
+    let h = not-false (a .head-reserved) (c .before .before .if1 .left) in
+    rw (h, not-false (a .reserved) (c .before .if2 .left), not-false (a .typed) (c .if3 .left))
 
 pub decided-spec : {M : Type 1} → statement M
 decided-spec = tie.close (tie.spec returns returns-2 returns-3 returns-4)

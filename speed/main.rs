@@ -13,6 +13,13 @@ struct Written {
 
 #[repr(C)]
 #[derive(Clone, Copy)]
+struct Read {
+    refusal: u32,
+    consumed: usize,
+}
+
+#[repr(C)]
+#[derive(Clone, Copy)]
 struct Unit {
     refusal: u32,
     found: u32,
@@ -44,6 +51,12 @@ extern "C" {
         out: *mut u8,
         out_len: usize,
     ) -> Written;
+    fn vvcc_strict_record(
+        record: *const u8,
+        record_len: usize,
+        scratch: *mut u8,
+        scratch_len: usize,
+    ) -> Read;
     fn vvcc_next_unit(stream: *const u8, len: usize, from: usize) -> Unit;
     fn vvcc_next_item_unit(item: *const u8, len: usize, length_size: u8, from: usize) -> Unit;
 }
@@ -90,6 +103,20 @@ fn still_stream(compact: &[u8], stored: &[u8], out: &mut [u8]) -> usize {
     };
     assert_eq!(w.refusal, 0);
     w.len
+}
+
+/// How many bytes of a record are consumed when it is read strictly.
+fn strict_record(record: &[u8], scratch: &mut [u8]) -> usize {
+    let r = unsafe {
+        vvcc_strict_record(
+            record.as_ptr(),
+            record.len(),
+            scratch.as_mut_ptr(),
+            scratch.len(),
+        )
+    };
+    assert_eq!(r.refusal, 0);
+    r.consumed
 }
 
 /// The units of a stream or an item in a `Vec`, as the original returns them; `next` is one step.
@@ -353,6 +380,41 @@ fn still_of(seed: u64, len: usize) -> (Vec<u8>, Vec<u8>) {
     (compact, Bytes(seed).unit([0x80, 0x40], len))
 }
 
+/// The full record of a still whose compact record has an SPS and `units` - 1 PPSs of 64 bytes.
+fn still_record_of(units: usize) -> Vec<u8> {
+    let (mut compact, _) = still_of(0, 4);
+    compact.truncate(13);
+    compact[0] |= units as u8 - 2;
+    let mut bytes = Bytes(units as u64);
+    for _ in 1..units {
+        compact.push(64);
+        compact.extend(bytes.unit([0x00, 0x81], 64));
+    }
+    let c = CompactVvcConfig::parse(&compact).unwrap();
+    c.to_full(1, 8, 16, 8).unwrap().serialize()
+}
+
+/// A record read strictly. The original has no such call: it reads the record and writes it again, and the bytes are compared.
+fn strict_read(t: &Table, name: &str, record: &[u8]) {
+    if !t.wants(name) {
+        return;
+    }
+    let mut scratch = vec![0u8; 4 * record.len()];
+    assert_eq!(strict_record(record, &mut scratch), record.len());
+    t.row(
+        name,
+        record.len(),
+        1 + (4 << 20) / record.len(),
+        || {
+            black_box(strict_record(black_box(record), &mut scratch));
+        },
+        || {
+            let record = black_box(record);
+            assert!(VvcConfig::parse(record).unwrap().serialize() == record);
+        },
+    );
+}
+
 /// Stills converted one after another into one lent output.
 fn stills(t: &Table, name: &str, stills: &[(Vec<u8>, Vec<u8>)]) {
     if !t.wants(name) {
@@ -419,4 +481,6 @@ fn main() {
         .map(|k| still_of(k as u64, 4096 + k * 37 * 1024 / 1200))
         .collect();
     stills(&t, "a month's 1,200 stills, 4 to 41 KB", &month);
+    strict_read(&t, "strict read, record of 2 units", &still_record_of(2));
+    strict_read(&t, "strict read, record of 33 units", &still_record_of(33));
 }

@@ -235,7 +235,8 @@ pub fn strict_record_into(record: &[u8], scratch: &mut [u8]) -> Result<usize, Re
 
 /// Reads a full record strictly and returns how many bytes were consumed: for an archive that stores a record only if its reserved bits are the
 /// standard's and its arrays have types that a record may have. The bytes that were consumed end with the last array; others may follow. What
-/// was read, written again as a full record, is exactly those bytes. Refusals: 23; 3, then in byte order 1 and 2; 25; 26.
+/// was read, written again as a full record, is exactly those bytes, unless its unit list has more than 2^30 bytes. Refusals: 23; 3, then in byte
+/// order 1 and 2; 25; 26.
 ///
 /// ```
 /// // a record without arrays and one byte after it, then the same with a reserved bit changed

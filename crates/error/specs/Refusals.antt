@@ -30,3 +30,4 @@ numberOf R.InputTooLong = 23
 numberOf R.NotOneStill = 24
 numberOf R.ReservedBit = 25
 numberOf R.ArrayType = 26
+numberOf R.ConfigurationVersion = 27

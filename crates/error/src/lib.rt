@@ -49,7 +49,7 @@ pub enum Refusal {
     BufferTooShort = 20,
     // the unit list is malformed (SCOPE 2)
     UnitList = 21,
-    // a value does not fit its field (SCOPE 3.9), or the bit depth does not fit a byte (SCOPE 4.3)
+    // a value does not fit its field (SCOPE 3.9 and 4.11), or the bit depth does not fit a byte (SCOPE 4.3)
     FieldTooWide = 22,
     // an input has more than 2^30 bytes
     InputTooLong = 23,
@@ -59,6 +59,8 @@ pub enum Refusal {
     ReservedBit = 25,
     // an array of a full record has a type outside 12 to 17 and 23 (SCOPE 4.10)
     ArrayType = 26,
+    // the first byte of an HEVC record is not 1 (SCOPE 4.11)
+    ConfigurationVersion = 27,
 }
 
 // The number of a refusal.

@@ -49,6 +49,7 @@ stands c =
     or (λ w. said refl (lit< tt) (w .2) (w .1 .given .1))  -- NotOneStill
     or (λ w. said refl (lit< tt) (w .2) (w .1 .given .1))  -- ReservedBit
     or (λ w. said refl (lit< tt) (w .2) (w .1 .given .1))  -- ArrayType
+    or (λ w. said refl (lit< tt) (w .2) (w .1 .given .1))  -- ConfigurationVersion
     ) (c .match .came)
 
 cast-result : tie.Need-cast-result
@@ -89,5 +90,6 @@ number-spec =
     (λ c. search needs)  -- NotOneStill
     (λ c. search needs)  -- ReservedBit
     (λ c. search needs)  -- ArrayType
+    (λ c. search needs)  -- ConfigurationVersion
     cast-result
     returns)

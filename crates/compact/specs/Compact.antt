@@ -38,7 +38,7 @@ pub record CompactParsed : Type 0 where
 
 -- the unit list of one array with complete 0 and type 0 (SCOPE 3.2)
 abbrev pub oneArray : List (List ℕ) → List ℕ
-oneArray us = encode (record { complete = 0; unitType = 0; units = us } ∷ [])
+oneArray us = encode (record { complete = 0; reservedBit = 0; unitType = 0; units = us } ∷ [])
 
 -- what is returned, and the list, for r as read from s
 abbrev pub parsedWith : List ℕ → CompactVvcConfig × List Span → CompactParsed × List ℕ

@@ -11,7 +11,7 @@ use borrow.Author.Tests.{eq-eqb}
 use Rattle.parse.specs.Logic.{if_then_else_}
 use Rattle.boxes.specs.Bytes.{toChunk}
 use Rattle.nal.specs.Header.{largestUnitType, typeOr31}
-use Rattle.unit_list.specs.UnitList.{Array, unitsOf, encodeUnits, encodeArray, encodeArrays, encode}
+use Rattle.unit_list.specs.UnitList.{Array, completeByte, unitsOf, encodeUnits, encodeArray, encodeArrays, encode}
 use Rattle.unit_list.proofs.Arrays.{Sound, sound-none, sound-more}
 use Rattle.unit_list.proofs.Encode.{length-toChunk}
 use Rattle.grouping.specs.Grouping.{havingType, without, firsts, group, grouped}
@@ -99,7 +99,7 @@ types-have (u ∷ us) e = (
 module _ (us : List (List ℕ)) (types : Every (λ u. typeOr31 u ≤ largestUnitType) us) where
   groups-sound : (ts : List ℕ) → EachOf (Has-units us) ts → Sound (map (group us) ts)
   groups-sound [] e = sound-none
-  groups-sound (t ∷ ts) e = sound-more {a = group us t} (omega arith) (omega (arith, e .0 .1)) (groups-sound ts (e .1))
+  groups-sound (t ∷ ts) e = sound-more {a = group us t} (omega arith) (omega arith) (omega (arith, e .0 .1)) (groups-sound ts (e .1))
 
   pub grouped-sound : Sound (grouped us)
   unfolding grouped
@@ -144,7 +144,7 @@ unfolding encodeArrays encodeArray unitsOf
 arrays-long [] e = omega arith
 arrays-long (a ∷ xs) e =
     let r = every-parts _ (a .units) (unitsOf xs) e in
-    let rest = a .complete ∷ a .unitType ∷ encodeUnits 4 (a .units) in
+    let rest = completeByte a ∷ a .unitType ∷ encodeUnits 4 (a .units) in
     omega (
       arith,
       length-append (toChunk 4 rest) (encodeArrays 4 xs),

@@ -24,7 +24,7 @@ firsts (t ∷ ts) = t ∷ without t (firsts ts)
 
 -- the array of type t: complete, with the units of that type
 abbrev pub group : List (List ℕ) → ℕ → Array (List ℕ)
-group us t = record { complete = 1; unitType = t; units = havingType t us }
+group us t = record { complete = 1; reservedBit = 0; unitType = t; units = havingType t us }
 
 -- one array for each type that occurs, in the order in which the types first occur (SCOPE 3.8)
 unfoldable pub grouped : List (List ℕ) → List (Array (List ℕ))

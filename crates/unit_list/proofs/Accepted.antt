@@ -21,7 +21,7 @@ room-lengths (a ∷ us) = let e = room-lengths us in omega arith
 
 pub sound-held : (s : List ℕ) {xs : List (Array Span)} → Sound xs → Sound (heldArrays s xs)
 sound-held s sound-none = sound-none
-sound-held s (sound-more one small h) = sound-more one small (sound-held s h)
+sound-held s (sound-more one bit small h) = sound-more one bit small (sound-held s h)
 
 -- what an accepted list says: its length, its arrays and where its units lie, each and all together
 pub record Accepted (s : List ℕ) (xs : List (Array Span)) : Type 0 where

@@ -16,12 +16,12 @@ use Rattle.boxes.specs.Parts.{nowhere}
 use Rattle.boxes.specs.declared.Span.{Span}
 use Rattle.boxes.proofs.Fields.{uint-there, uint-short, chunk-read, chunk-advances}
 use Rattle.boxes.proofs.Numbers.{be-one}
-use Rattle.unit_list.specs.UnitList.{Array, array, arrayRest, largestType, unitsOf}
+use Rattle.unit_list.specs.UnitList.{Array, array, arrayRest, arrayWith, largestType, unitsOf}
 
--- each array's complete and type are small
+-- each array's complete, reserved bit and type are small
 pub data Sound {U : Type 0} : List (Array U) → Type 0 where
   sound-none : Sound []
-  sound-more : {a : Array U} {xs : List (Array U)} → a .complete ≤ 1 → a .unitType ≤ largestType → Sound xs → Sound (a ∷ xs)
+  sound-more : {a : Array U} {xs : List (Array U)} → a .complete ≤ 1 → a .reservedBit ≤ 1 → a .unitType ≤ largestType → Sound xs → Sound (a ∷ xs)
 
 -- a refusal to read, whatever its number
 abbrev pub IsRefused : {A : Type 0} → Parsed A → Type 0
@@ -157,12 +157,12 @@ module _ (w : ℕ) (s : List ℕ) (p : ℕ) where
     byte-short : (i : ℕ) → a .start + a .len ≤ i → uint 1 (take (a .start + a .len) s) i ≡ refused 1
     byte-short i h = let l = rest-long in uint-short 1 (take (a .start + a .len) s) i (omega arith)
 
-    pub array-complete : 1 < getD s (a .start) 0 → IsRefused (array w s p)
+    pub array-complete : 3 < getD s (a .start) 0 → IsRefused (array w s p)
     unfolding array inside arrayRest
     array-complete h =
         elim (decLe (a .len) 0) [
           | yes k ↦ rw (e, byte-short (a .start) (omega arith)) tt
-          | no k ↦ rw (e, byte-there (a .start) (omega arith), lt-ltb 1 (getD s (a .start) 0) h) tt
+          | no k ↦ rw (e, byte-there (a .start) (omega arith), lt-ltb 3 (getD s (a .start) 0) h) tt
         ]
 
     pub array-short : a .len < 2 → IsRefused (array w s p)
@@ -171,26 +171,26 @@ module _ (w : ℕ) (s : List ℕ) (p : ℕ) where
         elim (decLe (a .len) 0) [
           | yes k ↦ rw (e, byte-short (a .start) (omega arith)) tt
           | no k ↦
-              elim (decLe (getD s (a .start) 0) 1) [
-                | yes j ↦ rw (e, byte-there (a .start) (omega arith), le-ltb 1 (getD s (a .start) 0) j, byte-short (a .start + 1) (omega arith)) tt
+              elim (decLe (getD s (a .start) 0) 3) [
+                | yes j ↦ rw (e, byte-there (a .start) (omega arith), le-ltb 3 (getD s (a .start) 0) j, byte-short (a .start + 1) (omega arith)) tt
                 | no j ↦ array-complete (omega arith)
               ]
         ]
 
-    module _ (two : 2 ≤ a .len) (complete : getD s (a .start) 0 ≤ 1) where
+    module _ (two : 2 ≤ a .len) (complete : getD s (a .start) 0 ≤ 3) where
       pub array-type : largestType < getD s (a .start + 1) 0 → IsRefused (array w s p)
       unfolding array inside arrayRest
       array-type h = rw (
         e,
         byte-there (a .start) (omega arith),
-        le-ltb 1 (getD s (a .start) 0) complete,
+        le-ltb 3 (getD s (a .start) 0) complete,
         byte-there (a .start + 1) (omega arith),
         lt-ltb largestType (getD s (a .start + 1) 0) h,
       ) tt
 
       -- an array with its units
       abbrev pub headed : List Span → Array Span
-      headed us = record { complete = getD s (a .start) 0; unitType = getD s (a .start + 1) 0; units = us }
+      headed us = arrayWith (getD s (a .start) 0) (getD s (a .start + 1) 0) us
 
       module _ (small : getD s (a .start + 1) 0 ≤ largestType) where
         pub array-reads : array w s p ≡ bind (many (chunk w) (take (a .start + a .len) s) (a .start + 2)) (λ us r. value (headed us) r)
@@ -200,7 +200,7 @@ module _ (w : ℕ) (s : List ℕ) (p : ℕ) where
             rw (
               e,
               byte-there (a .start) (omega arith),
-              le-ltb 1 (getD s (a .start) 0) complete,
+              le-ltb 3 (getD s (a .start) 0) complete,
               byte-there (a .start + 1) (omega arith),
               le-ltb largestType (getD s (a .start + 1) 0) small,
               two-on,
@@ -216,6 +216,7 @@ module _ (w : ℕ) (s : List ℕ) (some : 1 ≤ w) where
     pub next : p < q
     pub fits : q ≤ length s
     pub complete : x .complete ≤ 1
+    pub reserved : x .reservedBit ≤ 1
     pub unitType : x .unitType ≤ largestType
     pub lies : Lies w q p (x .units)
 
@@ -233,25 +234,25 @@ module _ (w : ℕ) (s : List ℕ) (some : 1 ≤ w) where
   pub array-read : (p : ℕ) (x : Array Span) (q : ℕ) → array w s p ≡ value x q → ArrayRead p x q
   array-read p x q e = chunked (chunk w s p) refl
     where
-      units : (a : Span) → chunk w s p ≡ value a (a .start + a .len) → 2 ≤ a .len → getD s (a .start) 0 ≤ 1 → getD s (a .start + 1) 0 ≤ largestType
+      units : (a : Span) → chunk w s p ≡ value a (a .start + a .len) → 2 ≤ a .len → getD s (a .start) 0 ≤ 3 → getD s (a .start + 1) 0 ≤ largestType
           → (o : Parsed (List Span)) → many (chunk w) (take (a .start + a .len) s) (a .start + 2) ≡ o
-          → bind o (λ us r. value (record { complete = getD s (a .start) 0; unitType = getD s (a .start + 1) 0; units = us }) r) ≡ value x q
+          → bind o (λ us r. value (arrayWith (getD s (a .start) 0) (getD s (a .start + 1) 0) us) r) ≡ value x q
           → ArrayRead p x q
       units a c two one small (refused n) f g = absurd (let z : _≡_ {A = ℕ} 0 1 = cc in omega arith)
       units a c two one small (value us r) f g =
-          let y : record { complete = getD s (a .start) 0; unitType = getD s (a .start + 1) 0; units = us } ≡ x = cc in
+          let y : arrayWith (getD s (a .start) 0) (getD s (a .start + 1) 0) us ≡ x = cc in
           let z : r ≡ q = cc in
           let b = chunk-read w s p a (a .start + a .len) c in
           let h = units-run p a c two us r f in
           let i : a .start + a .len ≡ q = omega arith in
-          rw (← y, ← i) (record { next = omega arith; fits = b .fits; complete = one; unitType = small; lies = h .1 })
+          rw (← y, ← i) (record { next = omega arith; fits = b .fits; complete = omega arith; reserved = omega arith; unitType = small; lies = h .1 })
 
       headed-well : (a : Span) → chunk w s p ≡ value a (a .start + a .len) → ArrayRead p x q
       headed-well a c =
           elim (decLe 2 (a .len)) [
             | no k ↦ absurd (not-refused (array w s p) x q e (array-short w s p a c (omega arith)))
             | yes two ↦
-                elim (decLe (getD s (a .start) 0) 1) [
+                elim (decLe (getD s (a .start) 0) 3) [
                   | no k ↦ absurd (not-refused (array w s p) x q e (array-complete w s p a c (omega arith)))
                   | yes one ↦
                       elim (decLe (getD s (a .start + 1) 0) largestType) [
@@ -275,24 +276,24 @@ module _ (w : ℕ) (s : List ℕ) (some : 1 ≤ w) where
 
   -- the arrays from one on whose head is good: its units, and the arrays after it
   module _ (p n : ℕ) (left : p < length s) (a : Span) (c : chunk w s p ≡ value a (a .start + a .len)) (two : 2 ≤ a .len)
-      (one : getD s (a .start) 0 ≤ 1) (small : getD s (a .start + 1) 0 ≤ largestType) where
+      (one : getD s (a .start) 0 ≤ 3) (small : getD s (a .start + 1) 0 ≤ largestType) where
     pub arrays-step : outcomeOr n (many (array w) s p)
         ≡ andThen (outcomeOr n (many (chunk w) (take (a .start + a .len) s) (a .start + 2)))
-        (λ us. more (record { complete = getD s (a .start) 0; unitType = getD s (a .start + 1) 0; units = us })
+        (λ us. more (arrayWith (getD s (a .start) 0) (getD s (a .start + 1) 0) us)
         (outcomeOr n (many (array w) s (a .start + a .len))))
     arrays-step = go (many (chunk w) (take (a .start + a .len) s) (a .start + 2)) refl
       where
         go : (o : Parsed (List Span)) → many (chunk w) (take (a .start + a .len) s) (a .start + 2) ≡ o → outcomeOr n (many (array w) s p)
             ≡ andThen (outcomeOr n o)
-            (λ us. more (record { complete = getD s (a .start) 0; unitType = getD s (a .start + 1) 0; units = us })
+            (λ us. more (arrayWith (getD s (a .start) 0) (getD s (a .start + 1) 0) us)
             (outcomeOr n (many (array w) s (a .start + a .len))))
         go (refused m) f = run-refused (array w) s p n left (rw (array-reads w s p a c two one small, f) tt)
         go (value us r) f =
             let h = units-run p a c two us r f in
             let g : array w s p
-            ≡ value (record { complete = getD s (a .start) 0; unitType = getD s (a .start + 1) 0; units = us }) (a .start + a .len) =
+            ≡ value (arrayWith (getD s (a .start) 0) (getD s (a .start + 1) 0) us) (a .start + a .len) =
             array-reads w s p a c two one small ∙ rw (f, h .0) in
-            run-step (array w) s p n left array-advances (record { complete = getD s (a .start) 0; unitType = getD s (a .start + 1) 0; units = us })
+            run-step (array w) s p n left array-advances (arrayWith (getD s (a .start) 0) (getD s (a .start + 1) 0) us)
             (a .start + a .len) g
 
   -- the arrays of a run lie before the end
@@ -308,4 +309,4 @@ module _ (w : ℕ) (s : List ℕ) (some : 1 ≤ w) where
   pub arrays-sound : (p : ℕ) (xs : List (Array Span)) (r : ℕ) → many (array w) s p ≡ value xs r → Sound xs
   arrays-sound =
       run-value (array w) s array-advances (λ p xs r. Sound xs) (λ p h. sound-none)
-      (λ p a q xs r x m. let b = array-read p a q x in sound-more (b .complete) (b .unitType) m)
+      (λ p a q xs r x m. let b = array-read p a q x in sound-more (b .complete) (b .reserved) (b .unitType) m)

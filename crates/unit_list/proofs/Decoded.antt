@@ -17,7 +17,7 @@ use Rattle.boxes.specs.Parts.{held}
 use Rattle.boxes.specs.declared.Span.{Span}
 use Rattle.boxes.proofs.Numbers.{be-take, be-one}
 use Rattle.boxes.proofs.Fields.{uint-there, uint-short, chunk-read, chunk-advances}
-use Rattle.unit_list.specs.UnitList.{Array, array, arrayRest, largestType, decode, heldArray}
+use Rattle.unit_list.specs.UnitList.{Array, array, arrayRest, arrayWith, completeByte, largestType, decode, heldArray}
 use Rattle.unit_list.specs.UnitList.{heldArrays, encodeUnits, encodeArray, encodeArrays, encode}
 use Rattle.unit_list.proofs.Arrays.{Sound, run-value, chunks-run, array-read, array-advances}
 use Rattle.unit_list.proofs.Left.{decode-versionless, decode-arrays}
@@ -38,12 +38,13 @@ after (refused n) f b r e = absurd (let z : _≡_ {A = ℕ} 0 1 = cc in omega ar
 
 -- equal answers with an array have equal fields
 array-made : (c t : ℕ) (us : List Span) (r : ℕ) (x : Array Span) (q : ℕ)
-    → _≡_ {A = Parsed (Array Span)} (value (record { complete = c; unitType = t; units = us }) r) (value x q)
-    → (x .complete ≡ c) × (x .unitType ≡ t) × (_≡_ {A = Parsed (List Span)} (value us r) (value (x .units) q))
+    → _≡_ {A = Parsed (Array Span)} (value (arrayWith c t us) r) (value x q)
+    → (completeByte x ≡ c) × (x .unitType ≡ t) × (_≡_ {A = Parsed (List Span)} (value us r) (value (x .units) q))
 array-made c t us r x q e =
-    let y : record { complete = c; unitType = t; units = us } ≡ x = cc in
+    let y : arrayWith c t us ≡ x = cc in
     let z : r ≡ q = cc in
-    (ap (λ (y : Array Span). y .complete) (sym y), ap (λ (y : Array Span). y .unitType) (sym y), rw z (ap (λ (y : Array Span). value (y .units) q) y))
+    let b : c / 2 * 2 + c % 2 ≡ c = omega arith in
+    (ap (λ (y : Array Span). completeByte y) (sym y) ∙ b, ap (λ (y : Array Span). y .unitType) (sym y), rw z (ap (λ (y : Array Span). value (y .units) q) y))
 
 -- a byte that was read
 record ByteRead (s : List ℕ) (p n q : ℕ) : Type 0 where
@@ -73,7 +74,7 @@ record ArrayTaken (w : ℕ) (s : List ℕ) (p : ℕ) (x : Array Span) (q : ℕ) 
   last : ℕ
   chunked : chunk w s p ≡ value rest last
   two : 2 ≤ rest .len
-  complete : x .complete ≡ getD s (rest .start) 0
+  complete : completeByte x ≡ getD s (rest .start) 0
   unitType : x .unitType ≡ getD s (rest .start + 1) 0
   units : many (chunk w) (take (rest .start + rest .len) s) (rest .start + 2) ≡ value (x .units) q
 
@@ -87,8 +88,8 @@ module _ (w : ℕ) (s : List ℕ) (p : ℕ) (x : Array Span) (q : ℕ) where
       let l : length t ≡ a .given .start + a .given .len = length-take-le (a .given .start + a .given .len) s (omega arith) in
       let c = after (uint 1 t (a .given .start)) _ x q (a .rest) in
       let c-is = byte-read t (a .given .start) (c .given) (c .place) (c .first) in
-      let c-ok = after ((if ltb 1 (c .given) then refusing 21 else give tt) t (c .place)) _ x q (c .rest) in
-      let c-on = passed (ltb 1 (c .given)) 21 t (c .place) (c-ok .given) (c-ok .place) (c-ok .first) in
+      let c-ok = after ((if ltb 3 (c .given) then refusing 21 else give tt) t (c .place)) _ x q (c .rest) in
+      let c-on = passed (ltb 3 (c .given)) 21 t (c .place) (c-ok .given) (c-ok .place) (c-ok .first) in
       let u = after (uint 1 t (c-ok .place)) _ x q (c-ok .rest) in
       let u-is = byte-read t (c-ok .place) (u .given) (u .place) (u .first) in
       let u-ok = after ((if ltb largestType (u .given) then refusing 21 else give tt) t (u .place)) _ x q (u .rest) in
@@ -132,7 +133,7 @@ module _ (s : List ℕ) (all : (i : ℕ) → getD s i 0 < 256) where
   held-again : (a : Span) → held s a ++ drop (a .start + a .len) s ≡ drop (a .start) s
   held-again a = rw (← drop-drop (a .len) (a .start) s) (take-append-drop (a .len) (drop (a .start) s))
 
-  -- an array's complete and type, before its units
+  -- an array's complete byte and type, before its units
   headed : (c u : ℕ) (rest : List ℕ) (i : ℕ) → c ≡ getD s i 0 → u ≡ getD s (i + 1) 0 → i + 2 ≤ length s → rest ≡ drop (i + 2) s
       → c ∷ u ∷ rest ≡ drop i s
   headed c u rest i f g h e =
@@ -164,7 +165,7 @@ module _ (s : List ℕ) (all : (i : ℕ) → getD s i 0 < 256) where
           (λ p a q us r c n h. unit-again p a q us c (n (let k = chunk-read w (take e s) p a q c in omega arith)))
           p us r m h
 
-    -- an array: its length, complete, type and units
+    -- an array: its length, complete byte, type and units
     array-again : (p : ℕ) (x : Array Span) (q : ℕ) → array w s p ≡ value x q → encodeArray w (heldArray s x) ++ drop q s ≡ drop p s
     unfolding encodeArray
     array-again p x q e =
@@ -178,10 +179,10 @@ module _ (s : List ℕ) (all : (i : ℕ) → getD s i 0 < 256) where
         let us : encodeUnits w (map (held s) (x .units)) ++ drop e s ≡ drop (i + 2) s =
         units-again e (omega arith) (i + 2) (x .units) q (omega arith) (t .units) in
         let start : i ≡ p + w = k .start in
-        let rest : (x .complete ∷ x .unitType ∷ encodeUnits w (map (held s) (x .units))) ++ drop e s ≡ drop (p + w) s =
-        headed (x .complete) (x .unitType) (encodeUnits w (map (held s) (x .units)) ++ drop e s) i (t .complete) (t .unitType) (omega arith) us
+        let rest : (completeByte x ∷ x .unitType ∷ encodeUnits w (map (held s) (x .units))) ++ drop e s ≡ drop (p + w) s =
+        headed (completeByte x) (x .unitType) (encodeUnits w (map (held s) (x .units)) ++ drop e s) i (t .complete) (t .unitType) (omega arith) us
         ∙ ap (λ (n : ℕ). drop n s) start in
-        rw end (chunk-again w p e (x .complete ∷ x .unitType ∷ encodeUnits w (map (held s) (x .units))) (omega arith) (omega arith) rest)
+        rw end (chunk-again w p e (completeByte x ∷ x .unitType ∷ encodeUnits w (map (held s) (x .units))) (omega arith) (omega arith) rest)
 
     -- arrays up to the end
     arrays-again : (p : ℕ) (xs : List (Array Span)) (r : ℕ) → p ≤ length s → many (array w) s p ≡ value xs r

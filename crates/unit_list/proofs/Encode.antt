@@ -1,5 +1,5 @@
 -- A list decoded after encoding: the same arrays, lying where they were written.
-use Prim.Native.Nat.{ℕ, _+_, _^_, _≤_, _<_}
+use Prim.Native.Nat.{ℕ, _+_, _/_, _%_, _^_, _≤_, _<_}
 use mathlib.Core.Path.{_≡_, refl, sym, ap, _∙_}
 use mathlib.Core.List.{List, [], _∷_, _++_, map, append-nil, append-assoc}
 use native.Mathlib.Omega.{arith}
@@ -13,7 +13,7 @@ use Rattle.boxes.specs.Parts.{held}
 use Rattle.boxes.specs.declared.Span.{Span}
 use Rattle.boxes.proofs.Numbers.{length-toBe}
 use Rattle.boxes.proofs.Fields.{chunk-toChunk, held-toChunk, chunk-advances}
-use Rattle.unit_list.specs.UnitList.{Array, array, largestType, decode, unitsOf, heldArray}
+use Rattle.unit_list.specs.UnitList.{Array, array, largestType, completeByte, decode, unitsOf, heldArray}
 use Rattle.unit_list.specs.UnitList.{heldArrays, encodeUnits, encodeArray, encodeArrays, encode}
 use Rattle.unit_list.specs.Answers.{listUnits}
 use Rattle.unit_list.proofs.Arrays.{Sound, sound-none, sound-more, array-reads, array-advances}
@@ -26,7 +26,8 @@ placedUnits w p [] = []
 placedUnits w p (u ∷ us) = record { start = p + w; len = length u } ∷ placedUnits w (p + w + length u) us
 
 abbrev pub placedArray : ℕ → ℕ → Array (List ℕ) → Array Span
-placedArray w p a = record { complete = a .complete; unitType = a .unitType; units = placedUnits w (p + w + 2) (a .units) }
+placedArray w p a =
+    record { complete = a .complete; reservedBit = a .reservedBit; unitType = a .unitType; units = placedUnits w (p + w + 2) (a .units) }
 
 unfoldable pub placedArrays : ℕ → ℕ → List (Array (List ℕ)) → List (Array Span)
 placedArrays w p [] = []
@@ -76,10 +77,10 @@ module _ (w : ℕ) (s : List ℕ) where
 
 -- what follows an array's length, and what comes before its units
 abbrev restOf : ℕ → Array (List ℕ) → List ℕ
-restOf w a = a .complete ∷ a .unitType ∷ encodeUnits w (a .units)
+restOf w a = completeByte a ∷ a .unitType ∷ encodeUnits w (a .units)
 
 abbrev headOf : ℕ → Array (List ℕ) → List ℕ
-headOf w a = toBe w (length (restOf w a)) ++ (a .complete ∷ a .unitType ∷ [])
+headOf w a = toBe w (length (restOf w a)) ++ (completeByte a ∷ a .unitType ∷ [])
 
 -- one array between others
 module _ (w : ℕ) (s : List ℕ) (a : Array (List ℕ)) (pre post : List ℕ) (p : ℕ) (e : s ≡ pre ++ (encodeArray w a ++ post)) (l : length pre ≡ p)
@@ -90,12 +91,12 @@ module _ (w : ℕ) (s : List ℕ) (a : Array (List ℕ)) (pre post : List ℕ) (
 
   length-head : length (pre ++ headOf w a) ≡ p + w + 2
   length-head = length-append pre (headOf w a)
-      ∙ rw (length-append (toBe w (length (restOf w a))) (a .complete ∷ a .unitType ∷ []), length-toBe w (length (restOf w a)), l) (omega arith)
+      ∙ rw (length-append (toBe w (length (restOf w a))) (completeByte a ∷ a .unitType ∷ []), length-toBe w (length (restOf w a)), l) (omega arith)
 
   units-after : pre ++ encodeArray w a ≡ (pre ++ headOf w a) ++ encodeUnits w (a .units)
   unfolding encodeArray toChunk
   units-after =
-      ap (λ (x : List ℕ). pre ++ x) (sym (append-assoc (toBe w (length (restOf w a))) (a .complete ∷ a .unitType ∷ []) (encodeUnits w (a .units))))
+      ap (λ (x : List ℕ). pre ++ x) (sym (append-assoc (toBe w (length (restOf w a))) (completeByte a ∷ a .unitType ∷ []) (encodeUnits w (a .units))))
       ∙ sym (append-assoc pre (headOf w a) (encodeUnits w (a .units)))
 
   split : s ≡ (pre ++ headOf w a) ++ (encodeUnits w (a .units) ++ post)
@@ -106,7 +107,7 @@ module _ (w : ℕ) (s : List ℕ) (a : Array (List ℕ)) (pre post : List ℕ) (
   pub array-held : heldArray s (placedArray w p a) ≡ a
   array-held =
       let k = length-array in
-      ap (λ (us : List (List ℕ)). record { complete = a .complete; unitType = a .unitType; units = us })
+      ap (λ (us : List (List ℕ)). record { complete = a .complete; reservedBit = a .reservedBit; unitType = a .unitType; units = us })
       (units-hold w s (a .units) (pre ++ headOf w a) post (p + w + 2) split length-head (omega arith))
 
   -- its bytes from complete on
@@ -119,18 +120,18 @@ module _ (w : ℕ) (s : List ℕ) (a : Array (List ℕ)) (pre post : List ℕ) (
   before : length (pre ++ toBe w (length (restOf w a))) ≡ p + w
   before = length-append pre (toBe w (length (restOf w a))) ∙ rw (length-toBe w (length (restOf w a)), l)
 
-  complete-at : getD s (p + w) 0 ≡ a .complete
+  complete-at : getD s (p + w) 0 ≡ completeByte a
   complete-at =
-      rw bytes-at (getD-at (pre ++ toBe w (length (restOf w a))) (a .complete) (a .unitType ∷ (encodeUnits w (a .units) ++ post)) 0 (p + w) before)
+      rw bytes-at (getD-at (pre ++ toBe w (length (restOf w a))) (completeByte a) (a .unitType ∷ (encodeUnits w (a .units) ++ post)) 0 (p + w) before)
 
   type-at : getD s (p + w + 1) 0 ≡ a .unitType
   type-at =
-      let m : length ((pre ++ toBe w (length (restOf w a))) ++ (a .complete ∷ [])) ≡ p + w + 1 =
-      length-append (pre ++ toBe w (length (restOf w a))) (a .complete ∷ []) ∙ rw before (omega arith) in
+      let m : length ((pre ++ toBe w (length (restOf w a))) ++ (completeByte a ∷ [])) ≡ p + w + 1 =
+      length-append (pre ++ toBe w (length (restOf w a))) (completeByte a ∷ []) ∙ rw before (omega arith) in
       rw bytes-at
       (ap (λ (x : List ℕ). getD x (p + w + 1) 0)
-      (sym (append-assoc (pre ++ toBe w (length (restOf w a))) (a .complete ∷ []) (a .unitType ∷ (encodeUnits w (a .units) ++ post))))
-      ∙ getD-at ((pre ++ toBe w (length (restOf w a))) ++ (a .complete ∷ [])) (a .unitType) (encodeUnits w (a .units) ++ post) 0 (p + w + 1) m)
+      (sym (append-assoc (pre ++ toBe w (length (restOf w a))) (completeByte a ∷ []) (a .unitType ∷ (encodeUnits w (a .units) ++ post))))
+      ∙ getD-at ((pre ++ toBe w (length (restOf w a))) ++ (completeByte a ∷ [])) (a .unitType) (encodeUnits w (a .units) ++ post) 0 (p + w + 1) m)
 
   rest-at : take (p + w + length (restOf w a)) s ≡ (pre ++ headOf w a) ++ encodeUnits w (a .units)
   rest-at =
@@ -138,18 +139,20 @@ module _ (w : ℕ) (s : List ℕ) (a : Array (List ℕ)) (pre post : List ℕ) (
       let m : length (pre ++ encodeArray w a) ≡ p + w + length (restOf w a) = length-append pre (encodeArray w a) ∙ rw l (omega arith) in
       rw (e, ← append-assoc pre (encodeArray w a) post) (take-at (pre ++ encodeArray w a) post (p + w + length (restOf w a)) m) ∙ units-after
 
-  module _ (some : 1 ≤ w) (one : a .complete ≤ 1) (small : a .unitType ≤ largestType) where
+  module _ (some : 1 ≤ w) (one : a .complete ≤ 1) (bit : a .reservedBit ≤ 1) (small : a .unitType ≤ largestType) where
     pub array-written : array w s p ≡ value (placedArray w p a) (p + length (encodeArray w a))
     array-written =
         let k = length-array in
+        let low : completeByte a % 2 ≡ a .complete = omega arith in
+        let high : completeByte a / 2 ≡ a .reservedBit = omega arith in
         let c : chunk w s p ≡ value (record { start = p + w; len = length (restOf w a) }) (p + w + length (restOf w a)) =
         unfold encodeArray in rw (e, ← l) (chunk-toChunk w pre (restOf w a) post (omega arith)) in
         let u = units-written w some (take (p + w + length (restOf w a)) s) (a .units) (pre ++ headOf w a)
         (p + w + 2) rest-at length-head (omega arith) in
         let m : length (take (p + w + length (restOf w a)) s) ≡ p + length (encodeArray w a) =
         ap length rest-at ∙ length-append (pre ++ headOf w a) (encodeUnits w (a .units)) ∙ rw length-head (omega arith) in
-        array-reads w s p (record { start = p + w; len = length (restOf w a) }) c (omega arith) (rw complete-at one) (rw type-at small)
-        ∙ rw (u, m, complete-at, type-at)
+        array-reads w s p (record { start = p + w; len = length (restOf w a) }) c (omega arith) (rw complete-at (omega arith)) (rw type-at small)
+        ∙ rw (u, m, complete-at, type-at, low, high)
 
 -- arrays one after the other
 module _ (w : ℕ) (s : List ℕ) where
@@ -159,12 +162,12 @@ module _ (w : ℕ) (s : List ℕ) where
   arrays-written some sound-none pre p e l f =
       let n : length s ≡ p = ap length (e ∙ append-nil pre) ∙ l in
       many-nil (array w) s p (omega arith) ∙ rw (sym n)
-  arrays-written some (sound-more {a = a} {xs = xs} one small h) pre p e l f =
+  arrays-written some (sound-more {a = a} {xs = xs} one bit small h) pre p e l f =
       let k = length-append (encodeArray w a) (encodeArrays w xs) in
       let n = ap length e ∙ length-append pre (encodeArray w a ++ encodeArrays w xs) in
       let g : length (encodeArray w a) < 256 ^ w = omega arith in
       let j = length-array w s a pre (encodeArrays w xs) p e l g in
-      let c = array-written w s a pre (encodeArrays w xs) p e l g some one small in
+      let c = array-written w s a pre (encodeArrays w xs) p e l g some one bit small in
       let m : length (pre ++ encodeArray w a) ≡ p + length (encodeArray w a) = length-append pre (encodeArray w a) ∙ rw l in
       many-step (array w) s (array-advances w s some) p (placedArray w p a) (p + length (encodeArray w a)) (omega arith) c
       ∙ rw (arrays-written some h (pre ++ encodeArray w a) (p + length (encodeArray w a))

@@ -11,7 +11,7 @@ use Rattle.boxes.specs.Bytes.{chunk}
 use Rattle.boxes.specs.declared.Span.{Span}
 use Rattle.boxes.proofs.Fields.{uint-there, uint-short}
 use Rattle.boxes.proofs.Numbers.{be-one}
-use Rattle.unit_list.specs.UnitList.{Array, unitList, decode}
+use Rattle.unit_list.specs.UnitList.{Array, unitList, arrayWith, decode}
 use Rattle.unit_list.specs.inner.Walk.{typed, typedUnits, typedList, typedUnitsFrom, arrayUnitsFrom, arraysFrom, front}
 use Rattle.unit_list.specs.inner.Walk.{arraysStepped, unitsStepped, stepped, Fits, Entered, ArrayStepFits, UnitStepFits, StepFits}
 use Rattle.unit_list.specs.declared.ListCursor.{ListCursor}
@@ -64,7 +64,7 @@ module _ (s : List ℕ) (c : ListCursor) (e : c .at ≡ c .end) where
     where
       go : (u : Outcome (List Span)) (o : Outcome (List (Array Span)))
           → andThen u (λ us. andThen o (λ xs. accept (typed (d .«unit_type») us ++ typedUnits xs)))
-          ≡ andThen (andThen u (λ us. more (record { complete = b; unitType = d .«unit_type»; units = us }) o)) (λ xs. accept (typedUnits xs))
+          ≡ andThen (andThen u (λ us. more (arrayWith b (d .«unit_type») us) o)) (λ xs. accept (typedUnits xs))
       go (refuse m) o = refl
       go (accept us) (refuse m) = refl
       go (accept us) (accept xs) = refl

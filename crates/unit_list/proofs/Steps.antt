@@ -99,10 +99,10 @@ module _ (s : List ℕ) (c : ListCursor) where
       pub arrays-short : a .len < 2 → refuse 21 ≡ arraysFrom s c
       arrays-short h = arrays-refused (array-short 4 s (c .end) a read h)
 
-      pub arrays-complete : 1 < getD s (a .start) 0 → refuse 21 ≡ arraysFrom s c
+      pub arrays-complete : 3 < getD s (a .start) 0 → refuse 21 ≡ arraysFrom s c
       arrays-complete h = arrays-refused (array-complete 4 s (c .end) a read h)
 
-      module _ (two : 2 ≤ a .len) (one : getD s (a .start) 0 ≤ 1) where
+      module _ (two : 2 ≤ a .len) (one : getD s (a .start) 0 ≤ 3) where
         pub arrays-type : largestType < getD s (a .start + 1) 0 → refuse 21 ≡ arraysFrom s c
         arrays-type h = arrays-refused (array-type 4 s (c .end) a read two one h)
 

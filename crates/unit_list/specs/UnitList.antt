@@ -1,6 +1,6 @@
 -- The unit list (SCOPE 2; the original's `arrays`): the byte 01, then arrays. An array: a length of 4 bytes for all that follows in it,
--- complete (0 or 1), type (0 to 31), then units, each after its length of 4 bytes.
-use Prim.Native.Nat.{ℕ}
+-- the complete byte (bit 0 complete, bit 1 the array's reserved bit, no other bits), type (0 to 63), then units, each after its length of 4 bytes.
+use Prim.Native.Nat.{ℕ, _+_, _*_, _/_, _%_}
 use mathlib.Core.Bool.{not}
 use mathlib.Core.List.{List, [], _∷_, _++_, map}
 use lib.Dec.{eqb, ltb}
@@ -11,25 +11,34 @@ use Rattle.boxes.specs.Bytes.{uint, chunk, toChunk, inside}
 use Rattle.boxes.specs.Parts.{held}
 use Rattle.boxes.specs.declared.Span.{Span}
 
--- An array (the original's VvcNalArray). Its units are spans (U is Span) or bytes (U is List ℕ).
+-- An array (the original's VvcNalArray and NalArray). Its units are spans (U is Span) or bytes (U is List ℕ).
 pub record Array (U : Type 0) : Type 0 where
   pub complete : ℕ
+  pub reservedBit : ℕ  -- that of HEVC's arrays; 0 in VVC's
   pub unitType : ℕ
   pub units : List U
 
--- the largest type that an array may have
+-- the largest type that an array may have: HEVC's types have 6 bits, VVC's have 5
 abbrev pub largestType : ℕ
-largestType = 31
+largestType = 63
+
+-- an array with the complete byte b
+abbrev pub arrayWith : {U : Type 0} → ℕ → ℕ → List U → Array U
+arrayWith b t us = record { complete = b % 2; reservedBit = b / 2; unitType = t; units = us }
+
+-- the complete byte of an array
+abbrev pub completeByte : {U : Type 0} → Array U → ℕ
+completeByte a = a .reservedBit * 2 + a .complete
 
 -- what follows an array's length; the lengths of its units have w bytes
 unfoldable pub arrayRest : ℕ → Parser (Array Span)
 arrayRest w = do
-  c ← uint 1
-  refuseIf (ltb 1 c) 21
+  b ← uint 1  -- the complete byte
+  refuseIf (ltb 3 b) 21
   t ← uint 1
   refuseIf (ltb largestType t) 21
   us ← many (chunk w)
-  give (record { complete = c; unitType = t; units = us })
+  give (arrayWith b t us)
 
 -- an array: its length, and what follows, which is read within that length
 unfoldable pub array : ℕ → Parser (Array Span)
@@ -48,8 +57,8 @@ unitList = do
   refuseIf (not (eqb version 1)) 21
   many (array listWidth)
 
--- The arrays of a list. Refusals: 23; then 21 for a list without a byte, a version other than 01, complete above 1, a type above 31, or a
--- field or a length that goes past the end of its list or array.
+-- The arrays of a list. Refusals: 23; then 21 for a list without a byte, a version other than 01, a complete byte above 3, a type above 63,
+-- or a field or a length that goes past the end of its list or array.
 unfoldable pub decode : List ℕ → Outcome (List (Array Span))
 decode s = lentInput s (outcomeOr 21 (unitList s 0))
 
@@ -65,7 +74,7 @@ unitsOfType t (a ∷ xs) = if eqb (a .unitType) t then a .units ++ unitsOfType t
 
 -- an array with the bytes that its units have in s
 abbrev pub heldArray : List ℕ → Array Span → Array (List ℕ)
-heldArray s a = record { complete = a .complete; unitType = a .unitType; units = map (held s) (a .units) }
+heldArray s a = record { complete = a .complete; reservedBit = a .reservedBit; unitType = a .unitType; units = map (held s) (a .units) }
 
 abbrev pub heldArrays : List ℕ → List (Array Span) → List (Array (List ℕ))
 heldArrays s xs = map (heldArray s) xs
@@ -77,7 +86,7 @@ encodeUnits w (u ∷ us) = toChunk w u ++ encodeUnits w us
 
 -- an array after its length
 unfoldable pub encodeArray : ℕ → Array (List ℕ) → List ℕ
-encodeArray w a = toChunk w (a .complete ∷ a .unitType ∷ encodeUnits w (a .units))
+encodeArray w a = toChunk w (completeByte a ∷ a .unitType ∷ encodeUnits w (a .units))
 
 unfoldable pub encodeArrays : ℕ → List (Array (List ℕ)) → List ℕ
 encodeArrays w [] = []

@@ -17,7 +17,7 @@ ghost use Rattle.boxes.specs.Places.{inFirst, placeOf, placeFound, PlaceFits};
 ghost use Rattle.unit_list.specs.Answers.{listUnits, listUnitsOfType};
 
 // The largest type that an array may have.
-pub const LARGEST_TYPE: u8 = 31;
+pub const LARGEST_TYPE: u8 = 63;
 
 // Where a walk over a list is: from place `at` on come the units that are left of the array that ends at `end` and has type `unit_type`; from
 // `end` on come the next arrays.
@@ -40,7 +40,7 @@ pub enum ListStep {
     Malformed,
 }
 
-// One step over whole arrays: complete of an array and the cursor before its units; the end; or that the list is malformed.
+// One step over whole arrays: the complete byte of an array and the cursor before its units; the end; or that the list is malformed.
 pub enum ArrayStep {
     Array(u8, ListCursor),
     End,

@@ -55,7 +55,7 @@ pub fn start(list: &[u8]) -> ListStart
     })
 }
 
-// The array after a cursor's end: its length, complete and type are read, its units are not.
+// The array after a cursor's end: its length, complete byte and type are read, its units are not.
 pub fn array_step(list: &[u8], c: ListCursor) -> ArrayStep
     requires { ⌜ Fits (now list) c ⌝ }
     ensures { λ r. ⌜ (arraysStepped (now (list .entry)) r ≡ arraysFrom (now (list .entry)) c) × ArrayStepFits (now (list .entry)) c r ⌝ }
@@ -72,7 +72,7 @@ pub fn array_step(list: &[u8], c: ListCursor) -> ArrayStep
     let from = rest.start;
     let complete = list[from];
     let unit_type = list[from + 1];
-    if 1 < complete {
+    if 3 < complete {
         return ArrayStep::Malformed;
     }
     if LARGEST_TYPE < unit_type {

@@ -9,7 +9,7 @@ ghost use lib.Seq.{sets};
 ghost use Rattle.boxes.specs.Bytes.{toBe, toChunk};
 ghost use Rattle.boxes.specs.Parts.{held};
 
-// Stores what comes before an array's units: the number of bytes after the length, complete, type.
+// Stores what comes before an array's units: the number of bytes after the length, the complete byte, the type.
 pub fn put_array_head(out: &mut [u8], at: usize, rest: usize, complete: u8, unit_type: u8)
     requires { ⌜ at + 6 ≤ length (now out) ⌝ }
     ensures { λ _. ⌜ now (out .exit) ≡ sets (now (out .entry)) at (toBe 4 rest ++ (complete ∷ «unit_type» ∷ [])) ⌝ }

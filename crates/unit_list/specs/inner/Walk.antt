@@ -9,7 +9,7 @@ use Rattle.parse.specs.Parse.{Parsed, value, refused, many, outcomeOr}
 use Rattle.parse.specs.inner.Walk.{more}
 use Rattle.boxes.specs.Bytes.{chunk}
 use Rattle.boxes.specs.declared.Span.{Span}
-use Rattle.unit_list.specs.UnitList.{Array, array, largestType, listWidth, decode}
+use Rattle.unit_list.specs.UnitList.{Array, array, arrayWith, largestType, listWidth, decode}
 use Rattle.unit_list.specs.declared.ListCursor.{ListCursor}
 use Rattle.unit_list.specs.declared.ListStart.{ListStart}
 use Rattle.unit_list.specs.declared.ListStart.the-variants.{At, Refused}
@@ -108,20 +108,19 @@ UnitStepFits s c L.Malformed = Unit {0}
 
 -- what a step over whole arrays says of the arrays after a cursor's end: the units of this one, and the arrays after it
 abbrev pub arraysStepped : List ℕ → ArrayStep → Outcome (List (Array Span))
-arraysStepped s (A.Array complete c) =
-    andThen (arrayUnitsFrom s c) (λ us. more (record { complete = complete; unitType = c .«unit_type»; units = us }) (arraysFrom s c))
+arraysStepped s (A.Array b c) = andThen (arrayUnitsFrom s c) (λ us. more (arrayWith b (c .«unit_type») us) (arraysFrom s c))
 arraysStepped s A.End = accept []
 arraysStepped s A.Malformed = refuse 21
 
--- an array's units follow its length, complete and type (6 bytes); complete and type are in range
+-- an array's units follow its length, complete byte and type (6 bytes); complete byte and type are in range
 pub record Entered (s : List ℕ) (c : ListCursor) (b : ℕ) (d : ListCursor) : Type 0 where
   pub first : d .at ≡ c .end + 6
-  pub complete : b ≤ 1
+  pub complete : b ≤ 3
   pub unitType : d .«unit_type» ≤ largestType
   pub fits : Fits s d
 
 abbrev pub ArrayStepFits : List ℕ → ListCursor → ArrayStep → Type 0
-ArrayStepFits s c (A.Array complete d) = Entered s c complete d
+ArrayStepFits s c (A.Array b d) = Entered s c b d
 ArrayStepFits s c A.End = c .end ≡ length s
 ArrayStepFits s c A.Malformed = Unit {0}
 

@@ -1,8 +1,9 @@
 -- Laws of big-endian numbers of every width: read where they lie, and read after writing.
 use Prim.Native.Nat.{ℕ, zero, suc, _+_, _*_, _/_, _%_, _^_, _≤_, _<_}
-use mathlib.Core.Path.{_≡_, refl, _∙_}
-use mathlib.Core.List.{List, [], _∷_, _++_, append-assoc}
+use mathlib.Core.Path.{_≡_, refl, sym, ap, _∙_}
+use mathlib.Core.List.{List, [], _∷_, _++_, append-nil, append-assoc}
 use native.Mathlib.Omega.{arith}
+use native.Mathlib.Nat.{mul-assoc, pow-suc}
 use native.Mathlib.Numerals.{add-one}
 use lib.ListN.{length, getD, take, length-append}
 use lib.Seq.{getD-append-add, getD-at, getD-take}
@@ -80,3 +81,30 @@ below-four n (suc (suc (suc (suc (suc w))))) h k = absurd (omega arith)
 pub be-one : (s : List ℕ) (p : ℕ) → be s p 1 ≡ getD s p 0
 unfolding be
 be-one s p = let e : p + 0 ≡ p = omega arith in rw e (omega arith)
+
+-- a number of two parts: read, and written
+more-bytes : (m w : ℕ) → m * 256 ^ suc w ≡ m * 256 ^ w * 256
+more-bytes m w = ap (λ (x : ℕ). m * x) (pow-suc 256 w) ∙ sym (mul-assoc m (256 ^ w) 256)
+
+pub be-append : (s : List ℕ) (p v w : ℕ) → be s p (v + w) ≡ be s p v * 256 ^ w + be s (p + v) w
+unfolding be
+be-append s p v zero = let e : v + 0 ≡ v = omega arith in rw e (omega arith)
+be-append s p v (suc w) =
+    let e : v + suc w ≡ suc (v + w) = omega arith in
+    let f : p + (v + w) ≡ p + v + w = omega arith in
+    let a = be-append s p v w in
+    let g = more-bytes (be s p v) w in
+    rw (e, f) (omega arith)
+
+pub toBe-append : (v w m n : ℕ) → n < 256 ^ w → toBe (v + w) (m * 256 ^ w + n) ≡ toBe v m ++ toBe w n
+unfolding toBe
+toBe-append v zero m n h =
+    let e : v + 0 ≡ v = omega arith in
+    let f : m * 1 + n ≡ m = omega arith in
+    rw (e, f) (sym (append-nil (toBe v m)))
+toBe-append v (suc w) m n h =
+    let e : v + suc w ≡ suc (v + w) = omega arith in
+    let g : m * 256 ^ suc w ≡ m * 256 ^ w * 256 = more-bytes m w in
+    let high : (m * 256 ^ suc w + n) / 256 ≡ m * 256 ^ w + n / 256 = omega arith in
+    let low : (m * 256 ^ suc w + n) % 256 ≡ n % 256 = omega arith in
+    rw (e, high, low, toBe-append v w m (n / 256) (omega arith)) (append-assoc (toBe v m) (toBe w (n / 256)) (n % 256 ∷ []))

@@ -6,6 +6,7 @@ ghost use mathlib.Core.List.{[]};
 ghost use Prim.Native.Nat.{_+_, _≤_, _<_, _^_};
 ghost use lib.ListN.{length, getD, set};
 ghost use lib.Seq.{sets};
+ghost use Rattle.parse.specs.Logic.{bit};
 ghost use Rattle.boxes.specs.Bytes.{be, toBe, outside};
 ghost use Rattle.boxes.specs.Parts.{PartOf};
 ghost use Rattle.boxes.specs.Places.{placeOf, PlaceFits};
@@ -16,6 +17,13 @@ pub fn wide(x: u8) -> usize
     ensures { λ r. ⌜ (r ≡ x) × (r < 256) ⌝ }
 {
     x as usize
+}
+
+// 1 for a flag that is set.
+pub fn bit_of(b: bool) -> u8
+    ensures { λ r. ⌜ (r ≡ bit b) × (r ≤ 1) ⌝ }
+{
+    if b { 1 } else { 0 }
 }
 
 // Whether a prefix size is outside 1 to 4.

@@ -20,7 +20,7 @@ use Rattle.full.specs.RoundTrip.{Wide, readBack}
 unfoldable pub use Rattle.full.specs.RoundTrip.{withPtl}
 use Rattle.full.specs.declared.VvcConfig.{VvcConfig}
 use Rattle.record_arrays.proofs.ArraysRoundTrip.{byte-there, number-there}
-use Rattle.parse.proofs.General.{both-true}
+use Rattle.parse.proofs.General.{both-true, bit-le}
 use Rattle.boxes.proofs.PrefixSizes.{size-fits}
 
 -- PTL p, written with n sublayers, is read as q
@@ -163,10 +163,6 @@ module _ (h : VvcConfig) (q : VvcPtlRecord) (w : Writable h q) (s pre post : Lis
   parts : (1 ≤ h .«length_size») × (h .«length_size» ≤ 4) × ((if h .«ptl_present_flag» then ptlPartFits h else true) ≡ true)
   unfolding headFits
   parts = let a = both-true _ _ (w .fits) in let b = size-fits _ (a .0) in (b .0, b .1, a .1)
-
-  bit-le : (c : Bool) → bit c ≤ 1
-  bit-le true = omega arith
-  bit-le false = omega arith
 
   size-minus : firstByte / 2 % 4 ≡ h .«length_size» - 1
   size-minus = let a = parts .0 in let b = parts .1 in omega (arith, bit-le (h .«ptl_present_flag»))

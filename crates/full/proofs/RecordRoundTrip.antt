@@ -3,18 +3,19 @@ use Prim.Native.Nat.{ℕ, _+_, _^_, _≤_}
 use native.Mathlib.Omega.{arith}
 use mathlib.Core.Path.{_≡_, refl, sym, ap, _∙_, subst}
 use mathlib.Core.Bool.{Bool, true, false, not}
-use mathlib.Core.List.{List, [], _∷_, _++_, append-nil, append-assoc}
-use lib.Dec.{eqb}
-use lib.ListN.{length, length-append}
-use borrow.Author.Tests.{leb-true, le-leb, eqb-false}
+use mathlib.Core.List.{List, [], _∷_}
+use lib.Dec.{leb, eqb}
+use lib.ListN.{length}
+use borrow.Author.Tests.{le-leb, eqb-false}
 use Rattle.parse.specs.Logic.{if_then_else_}
 use Rattle.parse.specs.Outcome.{accept, refuse}
 use Rattle.parse.specs.Parse.{value}
 use Rattle.unit_list.specs.UnitList.{Array, encode}
 use Rattle.unit_list.proofs.Arrays.{Sound}
 use Rattle.record_arrays.specs.Write.{arraysBytes, arraysFit}
+use Rattle.record_arrays.specs.declared.Codec.the-variants.{Vvc}
 use Rattle.ptl.specs.declared.VvcPtlRecord.{VvcPtlRecord}
-use Rattle.full.specs.Read.{vvcRecord, parseFull}
+use Rattle.full.specs.Read.{vvcHead, vvcRecord, parseFull}
 use Rattle.ptl_record.specs.AsWritten.{asWritten}
 use Rattle.ptl_record.proofs.AsWritten.{Canonical, kept}
 use Rattle.ptl_record.proofs.RoundTrip as P
@@ -23,53 +24,29 @@ use Rattle.full.specs.RoundTrip.{withPtl, readBack}
 pub use Rattle.full.specs.RoundTrip.{Typed}
 unfoldable pub use Rattle.full.specs.RoundTrip.{headRead}
 use Rattle.full.specs.declared.VvcConfig.{VvcConfig}
-use Rattle.record_arrays.proofs.ArraysRoundTrip.{allPlacedInRecord, arrays-read, arrays-held, byte-there}
+use Rattle.record_arrays.proofs.RecordRead.{headedBytes, from-head, headed-read, headed-held}
 use Rattle.full.proofs.HeadRoundTrip.{ReadsAs, small, Writable, head-read}
 use Rattle.parse.proofs.General.{both-true}
 use Rattle.boxes.specs.Bytes.{outside}
 
 module _ (h : VvcConfig) (q : VvcPtlRecord) (xs : List (Array (List ℕ))) (w : Writable h q) (sound : Sound xs) (fits : recordFits h xs ≡ true) where
-  abbrev s : List ℕ
-  s = fullBytes h xs
-
-  arrays-fit : (length xs ≤ 255) × (arraysFit xs ≡ true)
+  arrays-fit : arraysFit Vvc xs ≡ true
   unfolding recordFits
-  arrays-fit = let a = both-true (headFits h) _ fits in let b = both-true _ _ (a .1) in (leb-true (length xs) 255 (b .0), b .1)
+  arrays-fit = let a = both-true (headFits h) _ fits in both-true (leb (length xs) 255) _ (a .1) .1
 
-  from-head : s ≡ [] ++ (headBytes h ++ (length xs ∷ arraysBytes xs))
-  unfolding fullBytes
-  from-head = append-assoc (headBytes h) (length xs ∷ []) (arraysBytes xs)
-
-  from-arrays : s ≡ (headBytes h ++ (length xs ∷ [])) ++ (arraysBytes xs ++ [])
-  unfolding fullBytes
-  from-arrays = ap (λ (x : List ℕ). (headBytes h ++ (length xs ∷ [])) ++ x) (sym (append-nil (arraysBytes xs)))
-
-  before : length (headBytes h ++ (length xs ∷ [])) ≡ length (headBytes h) + 1
-  before = length-append (headBytes h) (length xs ∷ [])
-
-  length-record : length s ≡ length (headBytes h) + 1 + length (arraysBytes xs)
-  unfolding fullBytes
-  length-record = omega (arith, length-append (headBytes h ++ (length xs ∷ [])) (arraysBytes xs), before)
-
-  record-read : vvcRecord s 0 ≡ value (readBack (h .«ptl_present_flag») h q, allPlacedInRecord (length (headBytes h) + 1) xs) (length s)
-  unfolding vvcRecord
-  record-read =
+  head-first : vvcHead (headedBytes Vvc (headBytes h) xs) 0 ≡ value (readBack (h .«ptl_present_flag») h q) (length (headBytes h))
+  head-first =
       let c : 0 + length (headBytes h) ≡ length (headBytes h) = omega arith in
-      rw (
-        head-read h q w s [] (length xs ∷ arraysBytes xs) 0 from-head refl,
-        c,
-        byte-there s (headBytes h) (arraysBytes xs) (length xs) (length (headBytes h)) from-head refl,
-        arrays-read s sound (headBytes h ++ (length xs ∷ [])) [] (length (headBytes h) + 1) from-arrays before (arrays-fit .1),
-        sym length-record,
-      )
+      head-read h q w (headedBytes Vvc (headBytes h) xs) [] (length xs ∷ arraysBytes Vvc xs) 0 (from-head Vvc (headBytes h) xs) refl ∙ rw c
 
-  pub read-written : length s ≤ 2 ^ 30
-      → parseFull s ≡ accept (record { head = readBack (h .«ptl_present_flag») h q; consumed = length s; listLength = length (encode xs) }, encode xs)
-  unfolding parseFull
+  pub read-written : length (fullBytes h xs) ≤ 2 ^ 30
+      → parseFull (fullBytes h xs)
+      ≡ accept (record { head = readBack (h .«ptl_present_flag») h q; consumed = length (fullBytes h xs); listLength = length (encode xs) }, encode xs)
+  unfolding parseFull vvcRecord fullBytes
   read-written l = rw (
-    le-leb (length s) (2 ^ 30) l,
-    record-read,
-    arrays-held s sound (headBytes h ++ (length xs ∷ [])) [] (length (headBytes h) + 1) from-arrays before (arrays-fit .1),
+    le-leb (length (headedBytes Vvc (headBytes h) xs)) (2 ^ 30) l,
+    headed-read Vvc (headBytes h) xs sound arrays-fit vvcHead _ head-first,
+    headed-held Vvc (headBytes h) xs sound arrays-fit,
   )
 
 module _ (h : VvcConfig) (t : Typed h) (xs : List (Array (List ℕ))) (sound : Sound xs) where

@@ -3,18 +3,19 @@ use Prim.Native.Nat.{ℕ, _+_, _/_, _%_}
 use mathlib.Core.Bool.{true, false}
 use mathlib.Core.List.{List}
 use lib.Dec.{eqb}
-use lib.ListN.{length}
 use Rattle.parse.specs.Logic.{if_then_else_}
-use Rattle.parse.specs.Outcome.{Outcome, accept, refuse, lentInput}
-use Rattle.parse.specs.Parse.{Parsed, value, refused, Parser, _>>=_, _>>_, give, refuseIf, times}
+use Rattle.parse.specs.Outcome.{Outcome, lentInput}
+use Rattle.parse.specs.Parse.{Parser, _>>=_, _>>_, give, refuseIf, times}
 use Rattle.boxes.specs.Bytes.{uint}
 use Rattle.boxes.specs.declared.Span.{Span}
-use Rattle.unit_list.specs.UnitList.{Array, encode, heldArrays}
+use Rattle.unit_list.specs.UnitList.{Array}
 use Rattle.bit_reader.specs.Bits.{isSet}
 use Rattle.ptl.specs.Ptl.{zeroPtl}
 use Rattle.ptl.specs.declared.VvcPtlRecord.{VvcPtlRecord}
 use Rattle.ptl_record.specs.Read.{vvcPtlRecord}
 use Rattle.record_arrays.specs.Read.{recordArray}
+use Rattle.record_arrays.specs.Record.{RecordParsed, recordParsed}
+use Rattle.record_arrays.specs.declared.Codec.the-variants.{Vvc}
 use Rattle.full.specs.declared.VvcConfig.{VvcConfig}
 
 -- a head without the PTL flag: the fields under the flag are 0
@@ -76,21 +77,13 @@ unfoldable pub vvcRecord : Parser (VvcConfig × List (Array Span))
 vvcRecord = do
   head ← vvcHead
   n ← uint 1  -- num_of_arrays
-  arrays ← times n recordArray
+  arrays ← times n (recordArray Vvc)
   give (head, arrays)
 
 -- what reading returns: the head, the number of bytes consumed, and the length of the list
-pub record FullParsed : Type 0 where
-  pub head : VvcConfig
-  pub consumed : ℕ
-  pub listLength : ℕ
-
--- what is returned, and the list, for what was read from s
-abbrev pub fullParsed : List ℕ → Parsed (VvcConfig × List (Array Span)) → Outcome (FullParsed × List ℕ)
-fullParsed s (refused e) = refuse e
-fullParsed s (value r p) =
-    accept (record { head = r .0; consumed = p; listLength = length (encode (heldArrays s (r .1))) }, encode (heldArrays s (r .1)))
+abbrev pub FullParsed : Type 0
+FullParsed = RecordParsed VvcConfig
 
 -- `full_read::parse`. Refusals: 23, then in byte order 3, 1 and 2; with an output 20
 unfoldable pub parseFull : List ℕ → Outcome (FullParsed × List ℕ)
-parseFull s = lentInput s (fullParsed s (vvcRecord s 0))
+parseFull s = lentInput s (recordParsed s (vvcRecord s 0))

@@ -10,6 +10,7 @@ use Rattle.parse.specs.Parse.{value, Parser, _>>=_, _>>_, give, times}
 use Rattle.boxes.specs.Bytes.{uint}
 use Rattle.nal.specs.Kinds.{isRecordType}
 use Rattle.record_arrays.specs.Read.{recordArray}
+use Rattle.record_arrays.specs.declared.Codec.the-variants.{Vvc}
 use Rattle.full.specs.Read.{vvcHead}
 use Rattle.full.specs.declared.VvcConfig.{VvcConfig}
 
@@ -44,7 +45,7 @@ peek s p = value (getD s p 0) p
 unfoldable pub arrayByte : Parser ℕ
 arrayByte = do
   b ← peek
-  recordArray
+  recordArray Vvc
   give b
 
 -- the bytes that the arrays of a record begin with

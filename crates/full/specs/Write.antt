@@ -10,6 +10,7 @@ use Rattle.boxes.specs.Bytes.{toBe, outside}
 use Rattle.unit_list.specs.UnitList.{Array, decode, heldArrays}
 use Rattle.ptl_record.specs.Write.{ptlBytes, ptlFits}
 use Rattle.record_arrays.specs.Write.{arraysBytes, arraysFit}
+use Rattle.record_arrays.specs.declared.Codec.the-variants.{Vvc}
 use Rattle.full.specs.declared.VvcConfig.{VvcConfig}
 
 -- the fields under ptl_present_flag
@@ -30,7 +31,7 @@ headBytes h =
 
 -- the record: head, num_of_arrays, arrays
 unfoldable pub fullBytes : VvcConfig → List (Array (List ℕ)) → List ℕ
-fullBytes h xs = headBytes h ++ (length xs ∷ []) ++ arraysBytes xs
+fullBytes h xs = headBytes h ++ (length xs ∷ []) ++ arraysBytes Vvc xs
 
 -- every value under ptl_present_flag fits its field
 unfoldable pub ptlPartFits : VvcConfig → Bool
@@ -44,7 +45,7 @@ headFits h = not (outside (h .«length_size»)) && (if h .«ptl_present_flag» t
 
 -- every value fits its field, and there are at most 255 arrays; else 22
 unfoldable pub recordFits : VvcConfig → List (Array (List ℕ)) → Bool
-recordFits h xs = headFits h && (leb (length xs) 255 && arraysFit xs)
+recordFits h xs = headFits h && (leb (length xs) 255 && arraysFit Vvc xs)
 
 -- the record of a head and arrays. Refusals: 3, 22
 unfoldable pub writeFull : VvcConfig → List (Array (List ℕ)) → Outcome (List ℕ)

@@ -21,12 +21,8 @@ use Rattle.ptl_record.specs.declared.PtlRecordAnswer.{PtlRecordAnswer}
 use Rattle.ptl_record.specs.declared.PtlRecordAnswer.the-variants as P
 use Rattle.ptl_record.specs.declared.PtlRecordRead.{PtlRecordRead}
 use Rattle.ptl_record.proofs.Reading.{Reach, reach-bind, reach-value, reach-uint, reach-byte}
-use Rattle.full.specs.Read.{plainHead, headWithPtl, vvcHead, zeroHead, headFields}
-use Rattle.full.specs.declared.VvcConfig.{VvcConfig}
-use Rattle.full_read.specs.inner.Heads.{headAnswerOf, headReadOf, sizesAfter}
-use Rattle.full_read.specs.declared.head.HeadAnswer.{HeadAnswer}
-use Rattle.full_read.specs.declared.head.HeadAnswer.the-variants as H
-use Rattle.full_read.specs.declared.head.HeadRead.{HeadRead}
+use Rattle.full.specs.Read.{plainHead, headWithPtl, vvcHead, headFields}
+use Rattle.full_read.specs.inner.Heads.{sizesAfter}
 
 -- after the PTL: three numbers of two bytes
 module _ (s : List ℕ) where
@@ -81,16 +77,6 @@ module _ (size : ℕ) (s : List ℕ) where
 
       pub ptl-refused : (e : Refusal) → r .answer ≡ P.Refused e → headWithPtl size s 1 ≡ refused (numberOf e)
       ptl-refused e h = known (P.Refused e) h
-
-module _ (r : HeadRead) (x : Parsed VvcConfig) (f : headReadOf r ≡ orZeros zeroHead x) where
-  head-said : x ≡ headAnswerOf (r .answer) (r .head)
-  head-said = sym (ap (λ (y : Parsed VvcConfig × VvcConfig). y .0) f ∙ zeros-beside zeroHead x)
-
-  pub head-read : (q : ℕ) → r .answer ≡ H.Read q → x ≡ value (r .head) q
-  head-read q e = head-said ∙ ap (λ (a : HeadAnswer). headAnswerOf a (r .head)) e
-
-  pub head-refused : (e : Refusal) → r .answer ≡ H.Refused e → x ≡ refused (numberOf e)
-  head-refused e h = head-said ∙ ap (λ (a : HeadAnswer). headAnswerOf a (r .head)) h
 
 -- the first byte
 module _ (s : List ℕ) where

@@ -1,7 +1,7 @@
 -- Strict reading: the rules first, then what the ordinary reader returns.
 use Prim.Native.Nat.{ℕ, zero, suc, _+_, _-_, _/_, _%_, _^_, _≤_, _<_}
 use mathlib.Core.Path.{_≡_, refl, sym, ap, _∙_}
-use mathlib.Core.List.{List, [], _∷_}
+use mathlib.Core.List.{List, _∷_}
 use native.Mathlib.Omega.{arith}
 use native.Mathlib.Decide.{decLe}
 use lib.Dec.{eqb, ltb}
@@ -12,7 +12,6 @@ use Rattle.parse.specs.Outcome.{Outcome, accept, refuse, andThen}
 use Rattle.parse.specs.Parse.{Parsed, value, refused, bind, Parser, give, refuseIf, times, outcome}
 use Rattle.parse.proofs.Gives.{Gives, gives-value, gives-any, gives-bind}
 use Rattle.parse.proofs.General.{if-elim}
-use Rattle.parse.proofs.Lent.{lent-too-long}
 use Rattle.boxes.specs.Bytes.{uint}
 use Rattle.boxes.specs.declared.Span.{Span}
 use Rattle.bit_reader.specs.Bits.{isSet}
@@ -20,16 +19,19 @@ use Rattle.unit_list.specs.UnitList.{Array}
 use Rattle.ptl.specs.Ptl.{levels}
 use Rattle.ptl_record.specs.Read.{octets, vvcPtlRecord}
 use Rattle.record_arrays.specs.Read.{recordArray}
+use Rattle.record_arrays.specs.Record.{recordParsed}
+use Rattle.record_arrays.specs.declared.Codec.the-variants.{Vvc}
 use Rattle.record_arrays_read.specs.inner.Arrays.{countedArrays}
-use Rattle.full.specs.Read.{FullParsed, fullParsed, vvcRecord, parseFull, headWithPtl, vvcHead}
+use Rattle.record_arrays_read.specs.inner.Given.{refusedWith}
+use Rattle.record_arrays_read.proofs.Given.{with-head, split, read-too-long}
+use Rattle.full.specs.Read.{FullParsed, parseFull, headWithPtl, vvcHead, zeroHead}
 use Rattle.full.specs.Rules.{arrayByte, recordArrayBytes, reservedKept, typesKept}
 use Rattle.full.specs.Strict.{holdsOr, parseStrict}
 use Rattle.full.specs.declared.VvcConfig.{VvcConfig}
 use Rattle.record_rules.specs.inner.Rules.{SmallHead, countedBytes, rulesKept}
 use Rattle.full_read.specs.Answers.{fullGiven, strictGiven}
-use Rattle.full_read.specs.inner.Heads.{refusedWith}
 use Rattle.full_read.specs.inner.Strict.{rulesAfter, strictRules}
-use Rattle.full_read.proofs.Given.{with-head, split}
+use Rattle.full_read.proofs.Given.{reads-record}
 
 -- ---- the counts of a head that was read
 
@@ -84,22 +86,22 @@ module _ (s : List ℕ) where
   alike-more a b (refused e) (refused f) h = h
 
   -- n arrays, and the bytes that they begin with
-  bytes-alike : (n p : ℕ) → Alike (times n recordArray s p) (times n arrayByte s p)
+  bytes-alike : (n p : ℕ) → Alike (times n (recordArray Vvc) s p) (times n arrayByte s p)
   unfolding times arrayByte
   bytes-alike zero p = refl
-  bytes-alike (suc n) p = go (λ q. bytes-alike n q) (recordArray s p)
+  bytes-alike (suc n) p = go (λ q. bytes-alike n q) (recordArray Vvc s p)
     where
-      go : ((q : ℕ) → Alike (times n recordArray s q) (times n arrayByte s q)) → (x : Parsed (Array Span))
-          → Alike (bind x (λ a q. bind (times n recordArray s q) (λ rest r. value (a ∷ rest) r)))
+      go : ((q : ℕ) → Alike (times n (recordArray Vvc) s q) (times n arrayByte s q)) → (x : Parsed (Array Span))
+          → Alike (bind x (λ a q. bind (times n (recordArray Vvc) s q) (λ rest r. value (a ∷ rest) r)))
           (bind (bind x (λ a q. value (getD s p 0) q)) (λ b q. bind (times n arrayByte s q) (λ rest r. value (b ∷ rest) r)))
-      go h (value a q) = alike-more a (getD s p 0) (times n recordArray s q) (times n arrayByte s q) (h q)
+      go h (value a q) = alike-more a (getD s p 0) (times n (recordArray Vvc) s q) (times n arrayByte s q) (h q)
       go h (refused e) = refl
 
-  counted-alike : (p : ℕ) → Alike (countedArrays s p) (countedBytes s p)
+  counted-alike : (p : ℕ) → Alike (countedArrays Vvc s p) (countedBytes s p)
   unfolding countedArrays countedBytes
   counted-alike p = go (uint 1 s p)
     where
-      go : (x : Parsed ℕ) → Alike (bind x (λ n r. times n recordArray s r)) (bind x (λ n r. times n arrayByte s r))
+      go : (x : Parsed ℕ) → Alike (bind x (λ n r. times n (recordArray Vvc) s r)) (bind x (λ n r. times n arrayByte s r))
       go (value n r) = bytes-alike n r
       go (refused e) = refl
 
@@ -118,7 +120,7 @@ module _ (s : List ℕ) where
       andThen (holdsOr 25 (reservedKept s (r .0 .head) bs)) (λ _. andThen (holdsOr 26 (typesKept bs)) (λ _. accept r))))
 
   after-head : (h : VvcConfig) (x : Parsed (List (Array Span))) (y : Parsed (List ℕ)) → Alike x y
-      → then-rules (fullParsed s (with-head h x)) (outcome y) ≡ andThen (rulesKept s h (outcome y)) (λ _. fullParsed s (with-head h x))
+      → then-rules (recordParsed s (with-head h x)) (outcome y) ≡ andThen (rulesKept s h (outcome y)) (λ _. recordParsed s (with-head h x))
   after-head h (value xs q) (value bs r) e = tests-then (holdsOr 25 (reservedKept s h bs)) (holdsOr 26 (typesKept bs)) _
   after-head h (value xs q) (refused f) e = absurd e
   after-head h (refused n) (value bs r) e = absurd e
@@ -131,11 +133,11 @@ module _ (s : List ℕ) where
 
   -- what the ordinary reader reads after a head
   abbrev read-after : Parsed VvcConfig → Outcome (FullParsed × List ℕ)
-  read-after x = fullParsed s (bind x (λ h q. with-head h (countedArrays s q)))
+  read-after x = recordParsed s (bind x (λ h q. with-head h (countedArrays Vvc s q)))
 
   after-parsed : (x : Parsed VvcConfig)
       → then-rules (read-after x) (outcome (bind x (λ h q. countedBytes s q))) ≡ andThen (rulesAfter s x) (λ _. read-after x)
-  after-parsed (value h q) = after-head h (countedArrays s q) (countedBytes s q) (counted-alike s q)
+  after-parsed (value h q) = after-head h (countedArrays Vvc s q) (countedBytes s q) (counted-alike s q)
   after-parsed (refused e) = refl
 
   module _ (lent : length s ≤ 2 ^ 30) where
@@ -146,7 +148,7 @@ module _ (s : List ℕ) where
     after-lent : parseStrict s ≡ andThen (strictRules s) (λ _. parseFull s)
     unfolding parseStrict recordArrayBytes
     after-lent =
-        let f = split s [] lent in
+        let f = split (reads-record s) lent in
         ap (λ (o : Outcome (FullParsed × List ℕ)). then-rules o (outcome (recordArrayBytes s 0))) f
         ∙ ap (λ (y : Parsed (List ℕ)). then-rules (read-after (vvcHead s 0)) (outcome y)) (bytes-split (vvcHead s 0))
         ∙ after-parsed (vvcHead s 0)
@@ -154,8 +156,7 @@ module _ (s : List ℕ) where
 
   module _ (long : 2 ^ 30 < length s) where
     full-long : parseFull s ≡ refuse 23
-    unfolding parseFull
-    full-long = lent-too-long s (fullParsed s (vvcRecord s 0)) long
+    full-long = read-too-long (reads-record s) long
 
     after-long : parseStrict s ≡ andThen (strictRules s) (λ _. parseFull s)
     unfolding parseStrict strictRules
@@ -186,7 +187,8 @@ module _ (s : List ℕ) where
 
 module _ (s : List ℕ) (out : List ℕ) where
   -- a rule is broken
-  pub strict-refused : (n : ℕ) → strictRules s ≡ refuse n → (y : Outcome FullParsed × VvcConfig) → y ≡ refusedWith n → (y, out) ≡ strictGiven s out
+  pub strict-refused : (n : ℕ) → strictRules s ≡ refuse n → (y : Outcome FullParsed × VvcConfig) → y ≡ refusedWith zeroHead n
+      → (y, out) ≡ strictGiven s out
   strict-refused n e y f =
       let g : parseStrict s ≡ refuse n = rules-first s ∙ rw e in
       rw (f, g)

@@ -2,7 +2,8 @@
 use Prim.Native.Nat.{ℕ}
 use mathlib.Core.List.{List}
 use Rattle.error.specs.Refusals.{numberOf}
-use Rattle.parse.specs.Outcome.{Outcome, accept, refuse, handsBack, lentOutput}
+use Rattle.parse.specs.Outcome.{Outcome, accept, refuse}
+use Rattle.record_arrays.specs.Record.{recordGiven}
 use Rattle.full.specs.Read.{FullParsed, parseFull, zeroHead}
 use Rattle.full.specs.Strict.{parseStrict}
 use Rattle.full.specs.declared.VvcConfig.{VvcConfig}
@@ -21,8 +22,8 @@ fullOf r = (fullAnswerOf (r .answer) (r .head), r .head)
 
 -- `full_read::parse` with an output: the answer, the head, and the output after the call
 abbrev pub fullGiven : List ℕ → List ℕ → (Outcome FullParsed × VvcConfig) × List ℕ
-fullGiven s out = (handsBack (λ r. r .head) zeroHead (lentOutput (parseFull s) out .0), lentOutput (parseFull s) out .1)
+fullGiven s out = recordGiven zeroHead (parseFull s) out
 
 -- `full_read::parse_strict`, the same
 abbrev pub strictGiven : List ℕ → List ℕ → (Outcome FullParsed × VvcConfig) × List ℕ
-strictGiven s out = (handsBack (λ r. r .head) zeroHead (lentOutput (parseStrict s) out .0), lentOutput (parseStrict s) out .1)
+strictGiven s out = recordGiven zeroHead (parseStrict s) out

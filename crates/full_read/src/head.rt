@@ -4,6 +4,7 @@ use error::Refusal;
 use full::VvcConfig;
 use ptl::VvcPtlRecord;
 use ptl_record::PtlRecordAnswer;
+use record_arrays_read::HeadAnswer;
 ghost use mathlib.Core.Path.{_≡_};
 ghost use Prim.Native.Nat.{_+_, _≤_, _^_};
 ghost use lib.ListN.{length};
@@ -13,12 +14,6 @@ ghost use Rattle.parse.specs.inner.Answers.{orZeros};
 ghost use Rattle.boxes.specs.Bytes.{be};
 ghost use Rattle.full.specs.Read.{vvcHead, headWithPtl, zeroHead, headFields};
 ghost use Rattle.full_read.specs.inner.Heads.{headReadOf, sizesAfter};
-
-// The place after a head, or a refusal.
-pub enum HeadAnswer {
-    Read(usize),
-    Refused(Refusal),
-}
 
 // The answer with the head, which is all zeros on a refusal.
 pub struct HeadRead {

@@ -4,15 +4,17 @@ pub mod head;
 use error::LARGEST_INPUT;
 use error::Refusal;
 use full::VvcConfig;
-use head::HeadAnswer;
+use record_arrays::Codec;
+use record_arrays_read::HeadAnswer;
 use record_arrays_read::ListRead;
 use record_rules::RulesTest;
 ghost use mathlib.Core.Path.{_≡_};
 ghost use Rattle.error.specs.Refusals.{numberOf};
 ghost use Rattle.record_arrays_read.specs.inner.Arrays.{listOf};
+ghost use Rattle.record_arrays_read.specs.inner.Given.{besideHead, refusedWith};
 ghost use Rattle.record_rules.specs.inner.Rules.{rulesOf};
+ghost use Rattle.full.specs.Read.{zeroHead};
 ghost use Rattle.full_read.specs.Answers.{fullOf, fullGiven, strictGiven};
-ghost use Rattle.full_read.specs.inner.Heads.{besideHead, refusedWith};
 ghost use Rattle.full_read.specs.inner.Strict.{strictRules};
 
 // A full record that was read: how many bytes were consumed, and the length of the list in the output.
@@ -29,7 +31,7 @@ pub struct FullRead {
 
 // A refusal, with a head of zeros.
 fn refused(e: Refusal) -> FullRead
-    ensures { λ r. ⌜ fullOf r ≡ refusedWith (numberOf e) ⌝ }
+    ensures { λ r. ⌜ fullOf r ≡ refusedWith zeroHead (numberOf e) ⌝ }
 {
     let head = full::plain_head(0);
     let answer = FullAnswer::Refused(e);
@@ -41,7 +43,7 @@ fn refused(e: Refusal) -> FullRead
 
 // The answer of the arrays, with the head; on a refusal the head is zeros.
 fn with_head(head: VvcConfig, list: ListRead) -> FullRead
-    ensures { λ r. ⌜ fullOf r ≡ besideHead head (listOf list) ⌝ }
+    ensures { λ r. ⌜ fullOf r ≡ besideHead zeroHead head (listOf list) ⌝ }
 {
     match list {
         ListRead::Read(consumed, len) => FullRead {
@@ -66,7 +68,7 @@ pub fn parse(record: &[u8], out: &mut [u8]) -> FullRead
     match answer {
         HeadAnswer::Read(at) => with_head(
             head,
-            record_arrays_read::arrays::read_list(record, at, out),
+            record_arrays_read::arrays::read_list(Codec::Vvc, record, at, out),
         ),
         HeadAnswer::Refused(e) => refused(e),
     }

@@ -7,12 +7,11 @@ use native.Mathlib.Omega.{arith}
 use lib.ListN.{length, set, length-append}
 use lib.Seq.{sets}
 use Rattle.parse.specs.Logic.{if_then_else_, bit}
-use Rattle.parse.proofs.General.{both-true}
+use Rattle.parse.proofs.General.{both-true, sets-then}
 use Rattle.boxes.specs.Bytes.{toBe, outside}
 use Rattle.boxes.proofs.Numbers.{length-toBe}
 use Rattle.boxes.proofs.PrefixSizes.{size-fits}
 use Rattle.ptl_record.specs.Write.{ptlBytes}
-use Rattle.ptl_record.proofs.Writing.{sets-then}
 use Rattle.full.specs.Write.{ptlPart, headBytes, ptlPartFits, headFits}
 use Rattle.full.specs.declared.VvcConfig.{VvcConfig}
 

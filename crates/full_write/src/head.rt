@@ -1,6 +1,8 @@
 // Internal: the head of a full record tested, measured and stored.
 use boxes::place;
+use error::Refusal;
 use full::VvcConfig;
+use record_arrays_write::record::HeadSize;
 ghost use mathlib.Core.Bool.{true};
 ghost use mathlib.Core.List.{_++_};
 ghost use mathlib.Core.Path.{_≡_};
@@ -8,7 +10,9 @@ ghost use Prim.Native.Nat.{_+_, _*_, _≤_};
 ghost use lib.ListN.{length};
 ghost use lib.Seq.{sets};
 ghost use Rattle.boxes.specs.Bytes.{toBe};
+ghost use Rattle.record_arrays_write.specs.inner.Record.{HeadIs, HeadShort};
 ghost use Rattle.full.specs.Write.{ptlPart, headBytes, ptlPartFits, headFits};
+ghost use Rattle.full_write.specs.inner.Head.{headWritten};
 
 // Whether every value under the PTL flag fits its field.
 fn ptl_part_fits(h: VvcConfig) -> bool
@@ -33,7 +37,7 @@ fn ptl_part_fits(h: VvcConfig) -> bool
 }
 
 // Whether every value that is written fits its field.
-pub fn head_fits(h: VvcConfig) -> bool
+fn head_fits(h: VvcConfig) -> bool
     ensures { λ r. ⌜ r ≡ headFits h ⌝ }
 {
     if place::outside(h.length_size) {
@@ -46,7 +50,7 @@ pub fn head_fits(h: VvcConfig) -> bool
 }
 
 // The length of a head.
-pub fn head_len(h: VvcConfig) -> usize
+fn head_len(h: VvcConfig) -> usize
     requires { ⌜ headFits h ≡ true ⌝ }
     ensures { λ r. ⌜ (r ≡ length (headBytes h)) × (r ≤ 1104) ⌝ }
 {
@@ -54,6 +58,19 @@ pub fn head_len(h: VvcConfig) -> usize
         return 10 + ptl_record_write::write::ptl_len(h.native_ptl, h.num_sublayers);
     }
     1
+}
+
+// The length of a head. Refusals: 3, 22.
+pub fn head_size(h: VvcConfig) -> HeadSize
+    ensures { λ r. ⌜ HeadIs (headWritten h) r × HeadShort r ⌝ }
+{
+    if h.length_size == 3 {
+        return HeadSize::Refused(Refusal::PrefixSizeThree);
+    }
+    if !head_fits(h) {
+        return HeadSize::Refused(Refusal::FieldTooWide);
+    }
+    HeadSize::Len(head_len(h))
 }
 
 // The first two bytes under the PTL flag as one number: ols_idx 9, num_sublayers 3, constant_frame_rate 2, chroma_format_idc 2.
@@ -74,10 +91,10 @@ fn put_picture(out: &mut [u8], at: usize, width: u16, height: u16, rate: u16)
     place::put_number(out, at + 4, 2, rate as usize);
 }
 
-// Stores the fields under the PTL flag, and returns the place after them.
-fn put_ptl_part(out: &mut [u8], at: usize, h: VvcConfig) -> usize
+// Stores the fields under the PTL flag.
+fn put_ptl_part(out: &mut [u8], at: usize, h: VvcConfig)
     requires { ⌜ (ptlPartFits h ≡ true) × (at + length (ptlPart h) ≤ length (now out)) ⌝ }
-    ensures { λ r. ⌜ (r ≡ at + length (ptlPart h)) × (now (out .exit) ≡ sets (now (out .entry)) at (ptlPart h)) × (r ≤ at + 1103) ⌝ }
+    ensures { λ _. ⌜ now (out .exit) ≡ sets (now (out .entry)) at (ptlPart h) ⌝ }
 {
     let word = word_of(
         h.ols_idx,
@@ -95,18 +112,16 @@ fn put_ptl_part(out: &mut [u8], at: usize, h: VvcConfig) -> usize
         h.max_picture_height,
         h.avg_frame_rate,
     );
-    after + 6
 }
 
-// Stores a head at the front of the output, and returns the place after it.
-pub fn put_head(out: &mut [u8], h: VvcConfig) -> usize
+// Stores a head at the front of the output.
+pub fn put_head(out: &mut [u8], h: VvcConfig)
     requires { ⌜ (headFits h ≡ true) × (length (headBytes h) ≤ length (now out)) ⌝ }
-    ensures { λ r. ⌜ (r ≡ length (headBytes h)) × (now (out .exit) ≡ sets (now (out .entry)) 0 (headBytes h)) × (r ≤ 1104) ⌝ }
+    ensures { λ _. ⌜ now (out .exit) ≡ sets (now (out .entry)) 0 (headBytes h) ⌝ }
 {
-    let flag = ptl_record_write::write::bit_of(h.ptl_present_flag);
+    let flag = place::bit_of(h.ptl_present_flag);
     place::put(out, 0, 248 + (h.length_size - 1) * 2 + flag);
     if h.ptl_present_flag {
-        return put_ptl_part(out, 1, h);
+        put_ptl_part(out, 1, h);
     }
-    1
 }

@@ -20,6 +20,7 @@ use Rattle.unit_list.proofs.Encode.{length-toChunk}
 use Rattle.bit_reader.specs.Bits.{isSet}
 use Rattle.ptl_record.specs.Read.{vvcPtlRecord}
 use Rattle.record_arrays.specs.Read.{holdsOne, recordArray}
+use Rattle.record_arrays.specs.declared.Codec.the-variants.{Vvc}
 use Rattle.full.specs.Read.{FullParsed, plainHead, headWithPtl, vvcHead, vvcRecord, parseFull}
 use Rattle.full.specs.declared.VvcConfig.{VvcConfig}
 use Rattle.full.proofs.Parsed.{read-as}
@@ -65,20 +66,22 @@ module _ (s : List ℕ) where
     few : 4 * p + length (encodeArray 4 (heldArray s a)) ≤ 4 * q
     streamed : 2 * p + room 4 (a .units) ≤ 2 * q
     one : AllBytes s → a .complete ≤ 1
+    bit : a .reservedBit ≤ 1
     small : a .unitType ≤ largestType
     inside : q ≤ length s
 
-  gives-array : (p : ℕ) → Gives (recordArray s p) (ArrayFits p)
+  gives-array : (p : ℕ) → Gives (recordArray Vvc s p) (ArrayFits p)
   unfolding recordArray encodeArray
   gives-array p =
       gives-bind (uint 1 s p) _ (gives-uint s 1 p) (λ b q u.
-      gives-bind ((if holdsOne (b % 32) then give 1 else uint 2) s q) _ (gives-count (holdsOne (b % 32)) q (u .inside)) (λ n r c.
+      gives-bind ((if holdsOne Vvc (b % 32) then give 1 else uint 2) s q) _ (gives-count (holdsOne Vvc (b % 32)) q (u .inside)) (λ n r c.
       gives-bind (times n (chunk 2) s r) _ (gives-units n r (c .inside)) (λ us z v.
-      let l = length-toChunk 4 (b / 128 ∷ b % 32 ∷ encodeUnits 4 (map (held s) us)) in
+      let l = length-toChunk 4 ((0 * 2 + b / 128) ∷ b % 32 ∷ encodeUnits 4 (map (held s) us)) in
       gives-value _ z (record {
         few = omega (arith, encoded-room us, u .next, c .after, c .some, v .few, v .along);
         streamed = omega (arith, u .next, c .after, v .few);
         one = λ all. omega (arith, u .is, be-one s p, all p);
+        bit = omega arith;
         small = omega arith;
         inside = v .inside;
       }))))
@@ -89,17 +92,17 @@ module _ (s : List ℕ) where
     sound : AllBytes s → Sound xs
     inside : q ≤ length s
 
-  gives-arrays : (n p : ℕ) → p ≤ length s → Gives (times n recordArray s p) (ArraysFit p)
+  gives-arrays : (n p : ℕ) → p ≤ length s → Gives (times n (recordArray Vvc) s p) (ArraysFit p)
   unfolding times encodeArrays unitsOf room
   gives-arrays zero p h = gives-value [] p (record { few = omega arith; streamed = omega arith; sound = λ all. sound-none; inside = h })
   gives-arrays (suc n) p h =
-      gives-bind (recordArray s p) _ (gives-array p) (λ a q u.
-      gives-bind (times n recordArray s q) _ (gives-arrays n q (u .inside)) (λ xs r v.
+      gives-bind (recordArray Vvc s p) _ (gives-array p) (λ a q u.
+      gives-bind (times n (recordArray Vvc) s q) _ (gives-arrays n q (u .inside)) (λ xs r v.
       let l = length-append (encodeArray 4 (heldArray s a)) (encodeArrays 4 (heldArrays s xs)) in
       gives-value (a ∷ xs) r (record {
         few = omega (arith, u .few, v .few);
         streamed = omega (arith, room-append 4 (a .units) (unitsOf xs), u .streamed, v .streamed);
-        sound = λ all. sound-more (u .one all) (u .small) (v .sound all);
+        sound = λ all. sound-more (u .one all) (u .bit) (u .small) (v .sound all);
         inside = v .inside;
       })))
 
@@ -141,7 +144,7 @@ module _ (s : List ℕ) where
   gives-record =
       gives-bind (vvcHead s 0) _ gives-head (λ h p g.
       gives-bind (uint 1 s p) _ (gives-uint s 1 p) (λ n q u.
-      gives-bind (times n recordArray s q) _ (gives-arrays n q (u .inside)) (λ xs r v.
+      gives-bind (times n (recordArray Vvc) s q) _ (gives-arrays n q (u .inside)) (λ xs r v.
       gives-value (h, xs) r (record {
         size = g;
         few = omega (arith, u .next, v .few, v .inside);

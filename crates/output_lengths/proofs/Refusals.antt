@@ -13,8 +13,9 @@ use Rattle.parse.specs.Steps.{orRefuse}
 use Rattle.parse.specs.Parse.{Parsed, value, refused, bind, Parser, _>>=_, give, refusing, refuseIf, here, times, many, manyUpTo, outcome, outcomeOr}
 use Rattle.boxes.specs.Bytes.{uint, bytes, chunk, outside}
 use Rattle.boxes.specs.Parts.{held}
+use Rattle.boxes.specs.declared.Span.{Span}
 use Rattle.nal.specs.Header.{typeOr31}
-use Rattle.unit_list.specs.UnitList.{unitList, decode}
+use Rattle.unit_list.specs.UnitList.{Array, unitList, decode}
 use Rattle.unit_list.specs.Answers.{listUnits}
 use Rattle.rbsp.specs.Rbsp.{rbsp}
 use Rattle.bit_reader.specs.Bits.{u, isSet, skip, align, zerosBeforeOne, ue}
@@ -29,7 +30,9 @@ use Rattle.compact.specs.Compact.{atEnd, compactRecord, parseCompact}
 use Rattle.compact.specs.ItemData.{restore}
 use Rattle.compact.specs.declared.CompactVvcConfig.{CompactVvcConfig}
 use Rattle.record_arrays.specs.Read.{holdsOne, recordArray}
-use Rattle.full.specs.Read.{headWithPtl, vvcHead, vvcRecord, fullParsed, parseFull}
+use Rattle.record_arrays.specs.Record.{recordParsed}
+use Rattle.record_arrays.specs.declared.Codec.the-variants.{Vvc}
+use Rattle.full.specs.Read.{headWithPtl, vvcHead, vvcRecord, parseFull}
 use Rattle.full.specs.Write.{serializeFull}
 use Rattle.full.specs.Rules.{peek, arrayByte, recordArrayBytes, reservedKept, typesKept}
 use Rattle.full.specs.Strict.{holdsOr, parseStrict}
@@ -268,11 +271,11 @@ never-head =
     never-bind (never-refuse-if (eqb (b / 2 % 4) 2) 3 (λ e. omega arith)) (λ _.
     never-if (isSet (b % 2)) (never-with-ptl _) (never-give _)))
 
-never-array : NeverShort recordArray
+never-array : NeverShort (recordArray Vvc)
 unfolding recordArray
 never-array =
     never-bind (never-uint 1) (λ b.
-    never-bind (never-if (holdsOne (b % 32)) (never-give 1) (never-uint 2)) (λ n.
+    never-bind (never-if (holdsOne Vvc (b % 32)) (never-give 1) (never-uint 2)) (λ n.
     never-bind (never-times n (never-chunk 2)) (λ us.
     never-give _)))
 
@@ -310,7 +313,7 @@ parse-not-short : (s : List ℕ) → NotShort (parseFull s)
 unfolding parseFull
 parse-not-short s = not-short-lent s _ (go (vvcRecord s 0) (never-record .at s 0))
   where
-    go : (x : _) → ((n : ℕ) → x ≡ refused n → n ≡ 20 → ⊥) → NotShort (fullParsed s x)
+    go : {H : Type 0} (x : Parsed (H × List (Array Span))) → ((n : ℕ) → x ≡ refused n → n ≡ 20 → ⊥) → NotShort (recordParsed s x)
     go (value r p) h = tt
     go (refused n) h = h n refl
 

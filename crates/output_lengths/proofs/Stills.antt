@@ -20,6 +20,7 @@ use Rattle.compact.specs.Compact.{CompactParsed, parseCompact}
 use Rattle.compact.specs.ItemData.{stillUnit, restore}
 use Rattle.compact.specs.declared.CompactVvcConfig.{CompactVvcConfig}
 use Rattle.record_arrays.specs.Write.{arraysBytes}
+use Rattle.record_arrays.specs.declared.Codec.the-variants.{Vvc}
 use Rattle.full.specs.Write.{headBytes, fullBytes, serializeFull}
 use Rattle.full.specs.declared.VvcConfig.{VvcConfig}
 use Rattle.expand.specs.Expand.{FullHead, expandedHead, toFull}
@@ -77,7 +78,7 @@ module _ (C : List ℕ) (all : AllBytes C) (r : CompactParsed) (list : List ℕ)
       let l = ap length w in
       omega (
         arith,
-        length-append (headBytes head ++ (length (grouped units) ∷ [])) (arraysBytes (grouped units)),
+        length-append (headBytes head ++ (length (grouped units) ∷ [])) (arraysBytes Vvc (grouped units)),
         length-append (headBytes head) (length (grouped units) ∷ []),
         head-long c pic (k .ptl) (k .writable),
         arrays-long (grouped units),

@@ -4,11 +4,11 @@ use mathlib.Core.Path.{_≡_, refl, sym, ap, _∙_}
 use mathlib.Core.Bool.{Bool, true, false, _&&_}
 use mathlib.Core.List.{List, [], _∷_, _++_}
 use native.Mathlib.Omega.{arith}
-use lib.Dec.{leb}
+use lib.Dec.{leb, eqb}
 use lib.ListN.{length, set, drop}
 use lib.Seq.{sets, sets-eq, set-comm}
-use borrow.Author.Tests.{le-leb, lt-leb, leb-true, leb-false}
-use Rattle.parse.specs.Logic.{if_then_else_}
+use borrow.Author.Tests.{le-leb, lt-leb, leb-true, leb-false, eqb-true, eqb-false}
+use Rattle.parse.specs.Logic.{if_then_else_, bit}
 
 -- ---- tests
 
@@ -29,6 +29,20 @@ pub both-true : (a b : Bool) → a && b ≡ true → (a ≡ true) × (b ≡ true
 both-true true b e = (refl, e)
 both-true false b e = absurd (let w : _≡_ {A = ℕ} 0 1 = cc in omega arith)
 
+-- ---- flags as numbers
+
+pub bit-le : (b : Bool) → bit b ≤ 1
+bit-le true = omega arith
+bit-le false = omega arith
+
+-- a bit, read as a flag and written as a number
+pub bit-flag : (n : ℕ) → n ≤ 1 → bit (eqb n 1) ≡ n
+bit-flag n h = go (eqb n 1) refl
+  where
+    go : (t : Bool) → eqb n 1 ≡ t → bit t ≡ n
+    go true e = sym (eqb-true n 1 e)
+    go false e = let d = eqb-false n 1 e in omega arith
+
 -- ---- stores
 
 module _ {A : Type 0} where
@@ -37,6 +51,10 @@ module _ {A : Type 0} where
   sets-append d i [] ys = ap (λ (j : ℕ). sets d j ys) (omega arith)
   sets-append d i (x ∷ xs) ys =
       ap (λ (j : ℕ). sets (sets (set d i x) (suc i) xs) j ys) (omega arith) ∙ sets-append (set d i x) (suc i) xs ys
+
+  -- the same, at the place where the first run ends
+  pub sets-then : (d : List A) (i k : ℕ) (xs ys : List A) → k ≡ i + length xs → sets (sets d i xs) k ys ≡ sets d i (xs ++ ys)
+  sets-then d i k xs ys e = rw e (sets-append d i xs ys)
 
   -- a store after a run may come before it
   pub set-before : (d : List A) (i j : ℕ) (a : A) (xs : List A) → i + length xs ≤ j → sets (set d j a) i xs ≡ set (sets d i xs) j a

@@ -27,6 +27,7 @@ use Rattle.grouping.proofs.GroupedFits.{Every, grouped-sound, grouped-few, grou
 use Rattle.compact.specs.ItemData.{restore}
 use Rattle.compact.specs.declared.CompactVvcConfig.{CompactVvcConfig}
 use Rattle.record_arrays.specs.Write.{arraysBytes}
+use Rattle.record_arrays.specs.declared.Codec.the-variants.{Vvc}
 use Rattle.full.specs.Read.{parseFull}
 use Rattle.full.specs.Write.{headBytes, fullBytes, ptlPartFits, headFits, recordFits, writeFull, serializeFull}
 use Rattle.full.specs.declared.VvcConfig.{VvcConfig}
@@ -112,7 +113,7 @@ module _ (c : CompactVvcConfig) (pic : Picture) (ptl : VvcPtlRecord) (us : List 
       let n = k .few in
       omega (
         arith,
-        length-append (headBytes head ++ (length (grouped us) ∷ [])) (arraysBytes (grouped us)),
+        length-append (headBytes head ++ (length (grouped us) ∷ [])) (arraysBytes Vvc (grouped us)),
         length-append (headBytes head) (length (grouped us) ∷ []),
         head-long c pic ptl (k .ptl-ok),
         arrays-long (grouped us),

@@ -16,6 +16,7 @@ use Rattle.ptl_record.proofs.RoundTrip as P
 use Rattle.compact.specs.declared.CompactVvcConfig.{CompactVvcConfig}
 use Rattle.record_arrays.specs.Read.{holdsOne}
 use Rattle.record_arrays.specs.Write.{arrayBytes, arraysBytes}
+use Rattle.record_arrays.specs.declared.Codec.the-variants.{Vvc}
 use Rattle.full.specs.Write.{headBytes, ptlPart}
 use Rattle.full.specs.declared.VvcConfig.{VvcConfig}
 use Rattle.expand.specs.Expand.{expandedHead}
@@ -29,11 +30,11 @@ encoded-append w (u ∷ us) vs =
     omega (arith, length-append (toChunk w u) (encodeUnits w us), length-append (toChunk w u) (encodeUnits w (us ++ vs)), encoded-append w us vs)
 
 -- arrays of a full record: at most three bytes for each beside their units
-pub arrays-long : (xs : List (Array (List ℕ))) → length (arraysBytes xs) ≤ 3 * length xs + length (encodeUnits 2 (unitsOf xs))
+pub arrays-long : (xs : List (Array (List ℕ))) → length (arraysBytes Vvc xs) ≤ 3 * length xs + length (encodeUnits 2 (unitsOf xs))
 unfolding arraysBytes arrayBytes unitsOf
 arrays-long [] = omega arith
 arrays-long (a ∷ xs) =
-    let n = count-long (holdsOne (a .unitType)) (length (a .units)) in
+    let n = count-long (holdsOne Vvc (a .unitType)) (length (a .units)) in
     let m = arrays-long xs in
     let l = encoded-append 2 (a .units) (unitsOf xs) in
     simp (length-append) (omega (arith, n, m, l))

@@ -20,6 +20,7 @@ use Rattle.compact.specs.Compact.{parseCompact}
 use Rattle.compact.specs.ItemData.{restore}
 use Rattle.compact.specs.declared.CompactVvcConfig.{CompactVvcConfig}
 use Rattle.record_arrays.specs.Read.{holdsOne}
+use Rattle.record_arrays.specs.declared.Codec.the-variants.{Vvc}
 use Rattle.full.specs.Read.{parseFull}
 use Rattle.full.specs.Write.{fullBytes, serializeFull}
 use Rattle.full.specs.declared.VvcConfig.{VvcConfig}
@@ -45,7 +46,7 @@ module _ (C S : List ℕ) (still : Still C S) where
   known = facts C (still .bytes) (still .read) (still .list) (still .reads)
 
   -- OPI and DCI are the types without a count
-  single : (t : ℕ) → holdsOne t ≡ true → length (havingType t us) ≤ 1
+  single : (t : ℕ) → holdsOne Vvc t ≡ true → length (havingType t us) ≤ 1
   single t h = go (eqb t 12) (eqb t 13) refl refl h
     where
       go : (a b : Bool) → eqb t 12 ≡ a → eqb t 13 ≡ b → (a || b) ≡ true → length (havingType t us) ≤ 1

@@ -10,6 +10,7 @@ use lib.Seq.{length-take-le, getD-take, getD-set-same}
 use borrow.Author.Tests.{eq-eqb, ne-eqb, ltb-false}
 use Rattle.parse.specs.Parse.{value}
 use Rattle.parse.specs.Logic.{bit}
+use Rattle.parse.proofs.General.{bit-le}
 use Rattle.bit_reader.specs.Bits.{isSet}
 use Rattle.ptl.specs.Ptl.{padded, presentFlags, withoutFlags}
 use Rattle.ptl.specs.declared.VvcPtlRecord.{VvcPtlRecord}
@@ -21,7 +22,7 @@ use Rattle.ptl_record.specs.inner.Places.{words, levelsLen, levelsAt, fl
 use Rattle.ptl_record.proofs.Reading.{reads-after}
 use Rattle.ptl_record.proofs.Writing.{Fitting, fitting, flagged, with-first, info-long, length-withFlags, length-front, length-ptl}
 use Rattle.ptl_record.proofs.AsWritten.{Canonical, kept, bytes-again}
-use Rattle.ptl_record.proofs.Standing.{Stands, stands-left, stands-right, stands-between, stands-head, stands-take, bit-le}
+use Rattle.ptl_record.proofs.Standing.{Stands, stands-left, stands-right, stands-between, stands-head, stands-take}
 use Rattle.ptl_record.proofs.Standing.{isSet-bit, flags-cleared, flag-small, len-back, flags-back, levels-back, words-back}
 
 -- a PTL whose fields fit their places and whose arrays are as the struct has them

@@ -8,6 +8,7 @@ use native.Mathlib.Omega.{arith}
 use lib.ListN.{length, getD, take, drop, length-append, length-take, length-drop, List·getD-append}
 use lib.Seq.{getD-append-add, getD-take, getD-drop, ext-getD}
 use Rattle.parse.specs.Logic.{if_then_else_, bit}
+use Rattle.parse.proofs.General.{bit-le}
 use Rattle.boxes.specs.Bytes.{be, toBe}
 use Rattle.boxes.proofs.Numbers.{be-same, be-toBe, length-toBe}
 use Rattle.bit_reader.specs.Bits.{isSet}
@@ -59,10 +60,6 @@ stands-take s i xs st =
     (λ k h. getD-take (length xs) (drop i s) k 0 (omega arith) ∙ getD-drop i s k 0 ∙ st .same k (omega arith))
 
 -- ---- the constraint bytes
-
-pub bit-le : (b : Bool) → bit b ≤ 1
-bit-le true = omega arith
-bit-le false = omega arith
 
 pub isSet-bit : (b : Bool) → isSet (bit b) ≡ b
 isSet-bit true = refl

@@ -7,19 +7,15 @@ use native.Mathlib.Omega.{arith}
 use native.Mathlib.Decide.{decLe}
 use lib.Dec.{leb, ltb}
 use lib.ListN.{length, getD, set, take, length-append}
-use lib.Seq.{sets, length-take-le}
+use lib.Seq.{length-take-le}
 use borrow.Author.Tests.{leb-true, eq-eqb, ne-eqb}
 use Rattle.parse.specs.Logic.{if_then_else_, bit}
-use Rattle.parse.proofs.General.{both-true, sets-append}
+use Rattle.parse.proofs.General.{both-true}
 use Rattle.boxes.proofs.Numbers.{length-toBe}
 use Rattle.ptl.specs.declared.VvcPtlRecord.{VvcPtlRecord}
 use Rattle.ptl_record.specs.Write.{constraintInfo, withFlags, hasLevel, flagByte, levelBytes}
 use Rattle.ptl_record.specs.Write.{levelPart, subProfileBytes, ptlBytes, ptlFits, frontBytes}
 use Rattle.ptl_record.specs.inner.Places.{oneLevel}
-
--- one run of stores after another, at the place where the first ends
-pub sets-then : (d : List ℕ) (i k : ℕ) (xs ys : List ℕ) → k ≡ i + length xs → sets (sets d i xs) k ys ≡ sets d i (xs ++ ys)
-sets-then d i k xs ys e = rw e (sets-append d i xs ys)
 
 -- ---- the constraint bytes
 

@@ -9,12 +9,12 @@ use lib.ListN.{length, getD, set, take, length-append}
 use lib.Seq.{sets, take-suc, length-take-le, take-set-lt}
 use borrow.Author.Tests.{eq-eqb, ne-eqb}
 use Rattle.parse.specs.Logic.{bit}
-use Rattle.parse.proofs.General.{sets-append}
+use Rattle.parse.proofs.General.{sets-append, sets-then}
 use Rattle.boxes.specs.Bytes.{toBe}
 use Rattle.ptl.specs.declared.VvcPtlRecord.{VvcPtlRecord}
 use Rattle.ptl_record.specs.Write.{constraintInfo, withFlags, hasLevel, flagByte, levelBytes, levelPart, subProfileBytes, ptlBytes, frontBytes}
 use Rattle.ptl_record.specs.inner.Places.{oneLevel}
-use Rattle.ptl_record.proofs.Writing.{sets-then, flagged, with-first, length-subs, levels-split}
+use Rattle.ptl_record.proofs.Writing.{flagged, with-first, length-subs, levels-split}
 use Rattle.ptl_record.proofs.Standing.{length-one}
 use Rattle.ptl_record_write.specs.inner.Places.{firstConstraintByte}
 

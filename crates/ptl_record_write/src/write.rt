@@ -6,7 +6,6 @@ ghost use mathlib.Core.Path.{_≡_};
 ghost use Prim.Native.Nat.{_+_, _*_, _≤_, _<_};
 ghost use lib.ListN.{length, take};
 ghost use lib.Seq.{sets};
-ghost use Rattle.parse.specs.Logic.{bit};
 ghost use Rattle.ptl_record.specs.Write.{constraintInfo, withFlags, hasLevel, flagByte, levelBytes};
 ghost use Rattle.ptl_record.specs.Write.{levelPart, subProfileBytes, ptlBytes, ptlFits, frontBytes};
 ghost use Rattle.ptl_record.specs.inner.Places.{oneLevel};
@@ -26,13 +25,6 @@ pub fn ptl_fits(p: VvcPtlRecord) -> bool
         return false;
     }
     p.num_sub_profiles <= 255
-}
-
-// 1 for a flag that is set.
-pub fn bit_of(b: bool) -> u8
-    ensures { λ r. ⌜ (r ≡ bit b) × (r ≤ 1) ⌝ }
-{
-    if b { 1 } else { 0 }
 }
 
 // How many constraint bytes are written: 1 where there are none.
@@ -65,7 +57,7 @@ fn levels_len(p: VvcPtlRecord, m: usize) -> usize
     let mut n: usize = 0;
     let mut i: usize = 0;
     while i < m {
-        n += place::wide(bit_of(has_level(p, i)));
+        n += place::wide(place::bit_of(has_level(p, i)));
         i += 1;
     }
     n
@@ -98,8 +90,8 @@ fn first_byte(p: VvcPtlRecord) -> u8
     ensures { λ r. ⌜ r ≡ firstConstraintByte p ⌝ }
 {
     let n = p.num_bytes_constraint_info;
-    let frame_only = bit_of(p.ptl_frame_only_constraint_flag);
-    let multilayer = bit_of(p.ptl_multilayer_enabled_flag);
+    let frame_only = place::bit_of(p.ptl_frame_only_constraint_flag);
+    let multilayer = place::bit_of(p.ptl_multilayer_enabled_flag);
     let flags = frame_only * 128 + multilayer * 64;
     if n == 0 {
         flags
@@ -124,7 +116,7 @@ fn put_front(out: &mut [u8], at: usize, p: VvcPtlRecord) -> usize
     ensures { λ r. ⌜ (r ≡ at + length (frontBytes p)) × (now (out .exit) ≡ sets (now (out .entry)) at (frontBytes p)) × (r ≤ at + 66) ⌝ }
 {
     let n = constraint_len(p);
-    let tier = bit_of(p.general_tier_flag);
+    let tier = place::bit_of(p.general_tier_flag);
     place::put(out, at, n as u8);
     place::put(out, at + 1, p.general_profile_idc * 2 + tier);
     place::put(out, at + 2, p.general_level_idc);
@@ -140,7 +132,7 @@ fn flag_byte(p: VvcPtlRecord, m: usize) -> u8
     let mut f: u8 = 0;
     let mut i: usize = 0;
     while i < m {
-        f = bit_of(has_level(p, i)) * 128 + f / 2;
+        f = place::bit_of(has_level(p, i)) * 128 + f / 2;
         i += 1;
     }
     f

@@ -1,5 +1,5 @@
 -- The arrays of a full record read after writing: the same arrays, lying where they were written.
-use Prim.Native.Nat.{ℕ, _+_, _*_, _/_, _%_, _^_, _≤_, _<_}
+use Prim.Native.Nat.{ℕ, _+_, _/_, _^_, _≤_, _<_}
 use native.Mathlib.Omega.{arith}
 use mathlib.Core.Path.{_≡_, refl, sym, ap, _∙_}
 use mathlib.Core.Bool.{Bool, true, false}
@@ -20,8 +20,10 @@ use Rattle.boxes.proofs.Fields.{uint-there, chunk-toChunk, held-toChunk}
 use Rattle.unit_list.specs.UnitList.{Array, largestType, encodeUnits, heldArray, heldArrays}
 use Rattle.unit_list.proofs.Arrays.{Sound, sound-none, sound-more}
 use Rattle.unit_list.proofs.Encode.{placedUnits, length-toChunk}
-use Rattle.record_arrays.specs.Read.{holdsOne, recordArray}
-use Rattle.record_arrays.specs.Write.{arrayBytes, arraysBytes, unitsFit, arrayFits, arraysFit}
+use Rattle.record_arrays.specs.Read.{reservedIn, typeIn, holdsOne, recordArray}
+use Rattle.record_arrays.specs.Write.{firstByte, arrayBytes, arraysBytes, unitsFit, firstFits, arrayFits, arraysFit}
+use Rattle.record_arrays.specs.declared.Codec.{Codec}
+use Rattle.record_arrays.specs.declared.Codec.the-variants.{Vvc, Hevc}
 
 -- one byte after others
 pub byte-there : (s pre post : List ℕ) (b p : ℕ) → s ≡ pre ++ (b ∷ post) → length pre ≡ p → uint 1 s p ≡ value b (p + 1)
@@ -90,44 +92,64 @@ fits-below [] e = tt
 fits-below (u ∷ us) e = let r = both-true _ _ e in (omega (arith, leb-true (length u) 65535 (r .0)), fits-below us (r .1))
 
 -- the count of an array
-abbrev countPart : Array (List ℕ) → List ℕ
-countPart a = if holdsOne (a .unitType) then [] else toBe 2 (length (a .units))
-
-abbrev firstByte : Array (List ℕ) → ℕ
-firstByte a = a .complete * 128 + a .unitType
+abbrev countPart : Codec → Array (List ℕ) → List ℕ
+countPart c a = if holdsOne c (a .unitType) then [] else toBe 2 (length (a .units))
 
 -- the spans of an array's units when the array is written from place p on
-abbrev pub placedInRecord : ℕ → Array (List ℕ) → Array Span
-placedInRecord p a = record { complete = a .complete; unitType = a .unitType; units = placedUnits 2 (p + 1 + length (countPart a)) (a .units) }
+abbrev pub placedInRecord : Codec → ℕ → Array (List ℕ) → Array Span
+placedInRecord k p a = record {
+  complete = a .complete;
+  reservedBit = a .reservedBit;
+  unitType = a .unitType;
+  units = placedUnits 2 (p + 1 + length (countPart k a)) (a .units);
+}
 
-unfoldable pub allPlacedInRecord : ℕ → List (Array (List ℕ)) → List (Array Span)
-allPlacedInRecord p [] = []
-allPlacedInRecord p (a ∷ xs) = placedInRecord p a ∷ allPlacedInRecord (p + length (arrayBytes a)) xs
+unfoldable pub allPlacedInRecord : Codec → ℕ → List (Array (List ℕ)) → List (Array Span)
+allPlacedInRecord k p [] = []
+allPlacedInRecord k p (a ∷ xs) = placedInRecord k p a ∷ allPlacedInRecord k (p + length (arrayBytes k a)) xs
 
-module _ (s : List ℕ) (a : Array (List ℕ)) (pre post : List ℕ) (p : ℕ) (e : s ≡ pre ++ (arrayBytes a ++ post)) (l : length pre ≡ p)
-    (one : a .complete ≤ 1) (small : a .unitType ≤ largestType) (fits : arrayFits a ≡ true) where
-  split-first : s ≡ pre ++ (firstByte a ∷ (countPart a ++ (encodeUnits 2 (a .units) ++ post)))
+-- the first byte of an array that fits says what the array has
+record FirstSays (k : Codec) (a : Array (List ℕ)) : Type 0 where
+  complete : firstByte a / 128 ≡ a .complete
+  reservedBit : reservedIn k (firstByte a) ≡ a .reservedBit
+  unitType : typeIn k (firstByte a) ≡ a .unitType
+
+first-says : (k : Codec) (a : Array (List ℕ)) → a .complete ≤ 1 → a .reservedBit ≤ 1 → a .unitType ≤ largestType
+    → firstFits k (a .reservedBit) (a .unitType) ≡ true → FirstSays k a
+first-says Vvc a one bit small fits =
+    let f = both-true _ _ fits in
+    let r = eqb-true (a .reservedBit) 0 (f .0) in
+    let t = leb-true (a .unitType) 31 (f .1) in
+    record { complete = omega arith; reservedBit = omega arith; unitType = omega arith }
+first-says Hevc a one bit small fits = record { complete = omega arith; reservedBit = omega arith; unitType = omega arith }
+
+module _ (k : Codec) (s : List ℕ) (a : Array (List ℕ)) (pre post : List ℕ) (p : ℕ) (e : s ≡ pre ++ (arrayBytes k a ++ post)) (l : length pre ≡ p)
+    (one : a .complete ≤ 1) (bit : a .reservedBit ≤ 1) (small : a .unitType ≤ largestType) (fits : arrayFits k a ≡ true) where
+  split-first : s ≡ pre ++ (firstByte a ∷ (countPart k a ++ (encodeUnits 2 (a .units) ++ post)))
   unfolding arrayBytes
-  split-first = e ∙ ap (λ (x : List ℕ). pre ++ (firstByte a ∷ x)) (append-assoc (countPart a) (encodeUnits 2 (a .units)) post)
+  split-first = e ∙ ap (λ (x : List ℕ). pre ++ (firstByte a ∷ x)) (append-assoc (countPart k a) (encodeUnits 2 (a .units)) post)
 
-  split-units : s ≡ (pre ++ (firstByte a ∷ countPart a)) ++ (encodeUnits 2 (a .units) ++ post)
-  split-units = split-first ∙ sym (append-assoc pre (firstByte a ∷ countPart a) (encodeUnits 2 (a .units) ++ post))
+  split-units : s ≡ (pre ++ (firstByte a ∷ countPart k a)) ++ (encodeUnits 2 (a .units) ++ post)
+  split-units = split-first ∙ sym (append-assoc pre (firstByte a ∷ countPart k a) (encodeUnits 2 (a .units) ++ post))
 
-  before-units : length (pre ++ (firstByte a ∷ countPart a)) ≡ p + 1 + length (countPart a)
-  before-units = omega (arith, length-append pre (firstByte a ∷ countPart a))
+  before-units : length (pre ++ (firstByte a ∷ countPart k a)) ≡ p + 1 + length (countPart k a)
+  before-units = omega (arith, length-append pre (firstByte a ∷ countPart k a))
 
   all-fit : (leb (length (a .units)) 65535 ≡ true) × (unitsFit (a .units) ≡ true)
-      × ((if holdsOne (a .unitType) then eqb (length (a .units)) 1 else true) ≡ true)
+      × ((if holdsOne k (a .unitType) then eqb (length (a .units)) 1 else true) ≡ true) × (firstFits k (a .reservedBit) (a .unitType) ≡ true)
   unfolding arrayFits
-  all-fit = let r = both-true _ _ fits in let q = both-true _ _ (r .1) in (r .0, q .0, q .1)
+  all-fit = let r = both-true _ _ fits in let q = both-true _ _ (r .1) in let t = both-true _ _ (q .1) in (r .0, q .0, t .0, t .1)
 
-  units-there : times (length (a .units)) (chunk 2) s (p + 1 + length (countPart a))
-      ≡ value (placedUnits 2 (p + 1 + length (countPart a)) (a .units)) (p + 1 + length (countPart a) + length (encodeUnits 2 (a .units)))
-  units-there = units-read 2 s (a .units) (pre ++ (firstByte a ∷ countPart a)) post _ split-units before-units (fits-below (a .units) (all-fit .1))
+  says : FirstSays k a
+  says = first-says k a one bit small (all-fit .3)
 
-  -- the count, or none for types 12 and 13
-  count-there : (c : Bool) → holdsOne (a .unitType) ≡ c
-      → (if c then give 1 else uint 2) s (p + 1) ≡ value (length (a .units)) (p + 1 + length (countPart a))
+  units-there : times (length (a .units)) (chunk 2) s (p + 1 + length (countPart k a))
+      ≡ value (placedUnits 2 (p + 1 + length (countPart k a)) (a .units)) (p + 1 + length (countPart k a) + length (encodeUnits 2 (a .units)))
+  units-there = units-read 2 s (a .units) (pre ++ (firstByte a ∷ countPart k a)) post _ split-units before-units (fits-below (a .units) (all-fit .1))
+
+  -- the count, or none for VVC's types 12 and 13
+  count-there : (c : Bool) → holdsOne k (a .unitType) ≡ c
+      → (if c then give 1 else uint 2) s (p + 1) ≡ value (length (a .units)) (p + 1 + length (countPart k a))
   count-there true h = rw h (let n : length (a .units) ≡ 1 = eqb-true _ 1 (rw h at (all-fit .2)) in rw n (ap (value 1) (omega arith)))
   count-there false h =
       let f : s ≡ (pre ++ (firstByte a ∷ [])) ++ (toBe 2 (length (a .units)) ++ (encodeUnits 2 (a .units) ++ post)) =
@@ -136,66 +158,65 @@ module _ (s : List ℕ) (a : Array (List ℕ)) (pre post : List ℕ) (p : ℕ) (
       (omega (arith, length-append pre (firstByte a ∷ []))) (omega (arith, leb-true (length (a .units)) 65535 (all-fit .0)))
       ∙ ap (value (length (a .units))) (sym (rw (length-toBe 2 (length (a .units))))))
 
-  length-array : length (arrayBytes a) ≡ 1 + length (countPart a) + length (encodeUnits 2 (a .units))
+  length-array : length (arrayBytes k a) ≡ 1 + length (countPart k a) + length (encodeUnits 2 (a .units))
   unfolding arrayBytes
-  length-array = omega (arith, length-append (countPart a) (encodeUnits 2 (a .units)))
+  length-array = omega (arith, length-append (countPart k a) (encodeUnits 2 (a .units)))
 
-  pub array-read : recordArray s p ≡ value (placedInRecord p a) (p + length (arrayBytes a))
+  pub array-read : recordArray k s p ≡ value (placedInRecord k p a) (p + length (arrayBytes k a))
   unfolding recordArray
   array-read =
-      let m : firstByte a % 32 ≡ a .unitType = omega arith in
-      let d : firstByte a / 128 ≡ a .complete = omega arith in
-      let z : p + 1 + length (countPart a) + length (encodeUnits 2 (a .units)) ≡ p + length (arrayBytes a) = omega (arith, length-array) in
+      let z : p + 1 + length (countPart k a) + length (encodeUnits 2 (a .units)) ≡ p + length (arrayBytes k a) = omega (arith, length-array) in
       rw (
-        byte-there s pre (countPart a ++ (encodeUnits 2 (a .units) ++ post)) (firstByte a) p split-first l,
-        m,
-        count-there (holdsOne (a .unitType)) refl,
+        byte-there s pre (countPart k a ++ (encodeUnits 2 (a .units) ++ post)) (firstByte a) p split-first l,
+        says .unitType,
+        count-there (holdsOne k (a .unitType)) refl,
         units-there,
-        d,
+        says .complete,
+        says .reservedBit,
         z,
       )
 
-  pub array-held : heldArray s (placedInRecord p a) ≡ a
+  pub array-held : heldArray s (placedInRecord k p a) ≡ a
   array-held =
-      ap (λ (us : List (List ℕ)). record { complete = a .complete; unitType = a .unitType; units = us })
-      (units-held 2 s (a .units) (pre ++ (firstByte a ∷ countPart a)) post (p + 1 + length (countPart a)) split-units before-units
+      ap (λ (us : List (List ℕ)). record { complete = a .complete; reservedBit = a .reservedBit; unitType = a .unitType; units = us })
+      (units-held 2 s (a .units) (pre ++ (firstByte a ∷ countPart k a)) post (p + 1 + length (countPart k a)) split-units before-units
       (fits-below (a .units) (all-fit .1)))
 
 -- arrays one after the other
-module _ (s : List ℕ) where
-  next-arrays : (a : Array (List ℕ)) (xs : List (Array (List ℕ))) (pre post : List ℕ) → s ≡ pre ++ (arraysBytes (a ∷ xs) ++ post)
-      → s ≡ pre ++ (arrayBytes a ++ (arraysBytes xs ++ post))
+module _ (k : Codec) (s : List ℕ) where
+  next-arrays : (a : Array (List ℕ)) (xs : List (Array (List ℕ))) (pre post : List ℕ) → s ≡ pre ++ (arraysBytes k (a ∷ xs) ++ post)
+      → s ≡ pre ++ (arrayBytes k a ++ (arraysBytes k xs ++ post))
   unfolding arraysBytes
-  next-arrays a xs pre post e = e ∙ ap (λ (x : List ℕ). pre ++ x) (append-assoc (arrayBytes a) (arraysBytes xs) post)
+  next-arrays a xs pre post e = e ∙ ap (λ (x : List ℕ). pre ++ x) (append-assoc (arrayBytes k a) (arraysBytes k xs) post)
 
-  pub arrays-read : {xs : List (Array (List ℕ))} → Sound xs → (pre post : List ℕ) (p : ℕ) → s ≡ pre ++ (arraysBytes xs ++ post) → length pre ≡ p
-      → arraysFit xs ≡ true → times (length xs) recordArray s p ≡ value (allPlacedInRecord p xs) (p + length (arraysBytes xs))
+  pub arrays-read : {xs : List (Array (List ℕ))} → Sound xs → (pre post : List ℕ) (p : ℕ) → s ≡ pre ++ (arraysBytes k xs ++ post) → length pre ≡ p
+      → arraysFit k xs ≡ true → times (length xs) (recordArray k) s p ≡ value (allPlacedInRecord k p xs) (p + length (arraysBytes k xs))
   unfolding arraysBytes allPlacedInRecord arraysFit
-  arrays-read sound-none pre post p e l fits = times-nil recordArray s p ∙ ap (value []) (omega arith)
-  arrays-read (sound-more {a = a} {xs = xs} one small h) pre post p e l fits =
+  arrays-read sound-none pre post p e l fits = times-nil (recordArray k) s p ∙ ap (value []) (omega arith)
+  arrays-read (sound-more {a = a} {xs = xs} one bit small h) pre post p e l fits =
       let g = next-arrays a xs pre post e in
       let f = both-true _ _ fits in
-      let m : length (pre ++ arrayBytes a) ≡ p + length (arrayBytes a) = omega (arith, length-append pre (arrayBytes a)) in
-      let z : p + length (arrayBytes a) + length (arraysBytes xs) ≡ p + length (arrayBytes a ++ arraysBytes xs) =
-      omega (arith, length-append (arrayBytes a) (arraysBytes xs)) in
-      times-step recordArray s (length xs) p (placedInRecord p a) (p + length (arrayBytes a))
-      (array-read s a pre (arraysBytes xs ++ post) p g l one small (f .0))
+      let m : length (pre ++ arrayBytes k a) ≡ p + length (arrayBytes k a) = omega (arith, length-append pre (arrayBytes k a)) in
+      let z : p + length (arrayBytes k a) + length (arraysBytes k xs) ≡ p + length (arrayBytes k a ++ arraysBytes k xs) =
+      omega (arith, length-append (arrayBytes k a) (arraysBytes k xs)) in
+      times-step (recordArray k) s (length xs) p (placedInRecord k p a) (p + length (arrayBytes k a))
+      (array-read k s a pre (arraysBytes k xs ++ post) p g l one bit small (f .0))
       ∙ rw (
-        arrays-read h (pre ++ arrayBytes a) post (p + length (arrayBytes a))
-            (g ∙ sym (append-assoc pre (arrayBytes a) (arraysBytes xs ++ post))) m (f .1),
+        arrays-read h (pre ++ arrayBytes k a) post (p + length (arrayBytes k a))
+            (g ∙ sym (append-assoc pre (arrayBytes k a) (arraysBytes k xs ++ post))) m (f .1),
         z,
       )
 
-  pub arrays-held : {xs : List (Array (List ℕ))} → Sound xs → (pre post : List ℕ) (p : ℕ) → s ≡ pre ++ (arraysBytes xs ++ post) → length pre ≡ p
-      → arraysFit xs ≡ true → heldArrays s (allPlacedInRecord p xs) ≡ xs
+  pub arrays-held : {xs : List (Array (List ℕ))} → Sound xs → (pre post : List ℕ) (p : ℕ) → s ≡ pre ++ (arraysBytes k xs ++ post) → length pre ≡ p
+      → arraysFit k xs ≡ true → heldArrays s (allPlacedInRecord k p xs) ≡ xs
   unfolding allPlacedInRecord arraysFit
   arrays-held sound-none pre post p e l fits = refl
-  arrays-held (sound-more {a = a} {xs = xs} one small h) pre post p e l fits =
+  arrays-held (sound-more {a = a} {xs = xs} one bit small h) pre post p e l fits =
       let g = next-arrays a xs pre post e in
       let f = both-true _ _ fits in
-      let m : length (pre ++ arrayBytes a) ≡ p + length (arrayBytes a) = omega (arith, length-append pre (arrayBytes a)) in
+      let m : length (pre ++ arrayBytes k a) ≡ p + length (arrayBytes k a) = omega (arith, length-append pre (arrayBytes k a)) in
       rw (
-        array-held s a pre (arraysBytes xs ++ post) p g l one small (f .0),
-        arrays-held h (pre ++ arrayBytes a) post (p + length (arrayBytes a))
-            (g ∙ sym (append-assoc pre (arrayBytes a) (arraysBytes xs ++ post))) m (f .1),
+        array-held k s a pre (arraysBytes k xs ++ post) p g l one bit small (f .0),
+        arrays-held h (pre ++ arrayBytes k a) post (p + length (arrayBytes k a))
+            (g ∙ sym (append-assoc pre (arrayBytes k a) (arraysBytes k xs ++ post))) m (f .1),
       )

@@ -1,1 +1,4 @@
 pub mod ArraysRoundTrip
+pub mod RecordLength
+pub mod RecordRead
+pub mod Parsed

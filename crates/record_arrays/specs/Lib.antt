@@ -1,3 +1,4 @@
 pub mod Read
+pub mod Record
 pub mod Write
 pub mod inner

@@ -1,3 +1,4 @@
 pub mod Repeated
 pub mod RecordArrays
 pub mod Lists
+pub mod Given

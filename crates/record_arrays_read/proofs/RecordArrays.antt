@@ -1,5 +1,5 @@
 -- Laws of the arrays of a record: the head of an array, one array measured and stored, and the bytes of many.
-use Prim.Native.Nat.{ℕ, _+_, _-_, _/_, _%_, _≤_, _<_}
+use Prim.Native.Nat.{ℕ, _+_, _-_, _*_, _/_, _≤_, _<_}
 use mathlib.Core.Path.{_≡_, refl, sym, ap, _∙_, subst}
 use mathlib.Core.Bool.{Bool, true, false}
 use mathlib.Core.List.{List, [], _∷_, _++_, append-assoc}
@@ -23,8 +23,9 @@ use Rattle.unit_list.specs.declared.ChunkRead.{ChunkRead}
 use Rattle.unit_list.specs.declared.ChunkRead.the-variants as C
 use Rattle.unit_list.proofs.Encode.{length-toChunk}
 use Rattle.unit_list.proofs.Steps.{chunk-bytes, chunk-refused}
-use Rattle.record_arrays.specs.Read.{holdsOne, recordArray}
+use Rattle.record_arrays.specs.Read.{reservedIn, typeIn, holdsOne, recordArray}
 use Rattle.record_arrays.specs.inner.Counts.{countLen}
+use Rattle.record_arrays.specs.declared.Codec.{Codec}
 use Rattle.record_arrays_read.specs.inner.Arrays.{arrayHead, arrayHeadOf, ArrayHeadFits, unitsInList}
 use Rattle.record_arrays_read.specs.inner.Arrays.{arrayInList, arraysInList, roomTaken, storedBytes, StoredAt}
 use Rattle.record_arrays_read.specs.declared.ArrayHead.{ArrayHead}
@@ -69,11 +70,11 @@ module _ (s : List ℕ) (p : ℕ) (r : ChunkRead) (said : chunkStepped r ≡ chu
 
 -- ### the head of an array
 
-abbrev headWith : ℕ → ℕ → ArrayHead
-headWith b n = record { complete = b / 128; «unit_type» = b % 32; count = n }
+abbrev headWith : Codec → ℕ → ℕ → ArrayHead
+headWith k b n = record { complete = b / 128; «reserved_bit» = reservedIn k b; «unit_type» = typeIn k b; count = n }
 
-module _ (s : List ℕ) (p : ℕ) where
-  pub array-none : length s ≤ p → arrayHead s p ≡ refused 1
+module _ (k : Codec) (s : List ℕ) (p : ℕ) where
+  pub array-none : length s ≤ p → arrayHead k s p ≡ refused 1
   unfolding arrayHead
   array-none h = rw (uint-short 1 s p (omega arith))
 
@@ -90,92 +91,97 @@ module _ (s : List ℕ) (p : ℕ) where
     count-there true h = ap (value 1) (omega arith)
     count-there false h = uint-there 2 s (p + 1) (omega arith)
 
-    pub array-short : length s < p + 1 + countLen (getD s p 0 % 32) → arrayHead s p ≡ refused 1
+    pub array-short : length s < p + 1 + countLen k (typeIn k (getD s p 0)) → arrayHead k s p ≡ refused 1
     unfolding arrayHead
-    array-short h = rw (first, count-short (holdsOne (getD s p 0 % 32)) h)
+    array-short h = rw (first, count-short (holdsOne k (typeIn k (getD s p 0))) h)
 
-    array-counted : p + 1 + countLen (getD s p 0 % 32) ≤ length s
-        → arrayHead s p
-        ≡ value (headWith (getD s p 0) (if holdsOne (getD s p 0 % 32) then 1 else be s (p + 1) 2)) (p + 1 + countLen (getD s p 0 % 32))
+    array-counted : p + 1 + countLen k (typeIn k (getD s p 0)) ≤ length s
+        → arrayHead k s p
+        ≡ value (headWith k (getD s p 0) (if holdsOne k (typeIn k (getD s p 0)) then 1 else be s (p + 1) 2)) (p + 1 + countLen k (typeIn k (getD s p 0)))
     unfolding arrayHead
-    array-counted h = rw (first, count-there (holdsOne (getD s p 0 % 32)) h)
+    array-counted h = rw (first, count-there (holdsOne k (typeIn k (getD s p 0))) h)
 
     -- the same for fields that were read one by one
-    pub array-headed : (complete t len n : ℕ) → complete ≡ getD s p 0 / 128 → t ≡ getD s p 0 % 32 → len ≡ countLen t
-        → n ≡ (if holdsOne t then 1 else be s (p + 1) 2) → p + 1 + len ≤ length s
-        → value (record { complete = complete; «unit_type» = t; count = n }) (p + 1 + len) ≡ arrayHead s p
-    array-headed complete t len n c e l k h =
-        let m : len ≡ countLen (getD s p 0 % 32) = l ∙ ap countLen e in
-        rw (k, m, e, c) (sym (array-counted (omega arith)))
+    pub array-headed : (complete bit t len n : ℕ) → complete ≡ getD s p 0 / 128 → bit ≡ reservedIn k (getD s p 0) → t ≡ typeIn k (getD s p 0)
+        → len ≡ countLen k t → n ≡ (if holdsOne k t then 1 else be s (p + 1) 2) → p + 1 + len ≤ length s
+        → value (record { complete = complete; «reserved_bit» = bit; «unit_type» = t; count = n }) (p + 1 + len) ≡ arrayHead k s p
+    array-headed complete bit t len n c b e l g h =
+        let m : len ≡ countLen k (typeIn k (getD s p 0)) = l ∙ ap (countLen k) e in
+        rw (g, m, e, c, b) (sym (array-counted (omega arith)))
 
 -- what the answer says when it is known
-pub record HeadAt (s : List ℕ) (p : ℕ) (h : ArrayHead) (q : ℕ) : Type 0 where
-  pub read : arrayHead s p ≡ value h q
+pub record HeadAt (k : Codec) (s : List ℕ) (p : ℕ) (h : ArrayHead) (q : ℕ) : Type 0 where
+  pub read : arrayHead k s p ≡ value h q
   pub after : p + 1 ≤ q
   pub inside : q ≤ length s
+  pub complete : h .complete ≤ 1
+  pub bit : h .«reserved_bit» ≤ 1
 
-module _ (s : List ℕ) (p : ℕ) (r : ArrayHeadRead) (f : (arrayHeadOf r ≡ arrayHead s p) × ArrayHeadFits s p r) where
-  pub head-short : r ≡ A.Short → arrayHead s p ≡ refused 1
+module _ (k : Codec) (s : List ℕ) (p : ℕ) (r : ArrayHeadRead) (f : (arrayHeadOf r ≡ arrayHead k s p) × ArrayHeadFits s p r) where
+  pub head-short : r ≡ A.Short → arrayHead k s p ≡ refused 1
   head-short e = sym (f .0) ∙ ap arrayHeadOf e
 
-  pub head-at : (h : ArrayHead) (q : ℕ) → r ≡ A.Head h q → HeadAt s p h q
+  pub head-at : (h : ArrayHead) (q : ℕ) → r ≡ A.Head h q → HeadAt k s p h q
   head-at h q e =
-      let g = subst (λ (r : ArrayHeadRead). (arrayHeadOf r ≡ arrayHead s p) × ArrayHeadFits s p r) e f in
-      record { read = sym (g .0); after = g .1 .0; inside = g .1 .1 }
+      let g = subst (λ (r : ArrayHeadRead). (arrayHeadOf r ≡ arrayHead k s p) × ArrayHeadFits s p r) e f in
+      record { read = sym (g .0); after = g .1 .0; inside = g .1 .1; complete = g .1 .2; bit = g .1 .3 }
 
 -- ### one array
 
 abbrev withUnits : ArrayHead → List Span → Array Span
-withUnits h us = record { complete = h .complete; unitType = h .«unit_type»; units = us }
+withUnits h us = record { complete = h .complete; reservedBit = h .«reserved_bit»; unitType = h .«unit_type»; units = us }
 
 -- an array is its head and its units
 abbrev after-head : (s : List ℕ) → ArrayHead → ℕ → Parsed (Array Span)
 after-head s h q = bind (times (h .count) (chunk 2) s q) (λ us r. value (withUnits h us) r)
 
-counted : (s : List ℕ) (b : ℕ) (x : Parsed ℕ)
-    → bind x (λ n r. bind (times n (chunk 2) s r) (λ us t. value (withUnits (headWith b n) us) t))
-    ≡ bind (bind x (λ n r. value (headWith b n) r)) (after-head s)
+counted : (k : Codec) (s : List ℕ) (b : ℕ) (x : Parsed ℕ)
+    → bind x (λ n r. bind (times n (chunk 2) s r) (λ us t. value (withUnits (headWith k b n) us) t))
+    ≡ bind (bind x (λ n r. value (headWith k b n) r)) (after-head s)
 unfolding times
-counted s b (value n r) = refl
-counted s b (refused e) = refl
+counted k s b (value n r) = refl
+counted k s b (refused e) = refl
 
-array-split : (s : List ℕ) (p : ℕ) → recordArray s p ≡ bind (arrayHead s p) (after-head s)
+array-split : (k : Codec) (s : List ℕ) (p : ℕ) → recordArray k s p ≡ bind (arrayHead k s p) (after-head s)
 unfolding recordArray arrayHead
-array-split s p = go (uint 1 s p)
+array-split k s p = go (uint 1 s p)
   where
     go : (x : Parsed ℕ)
-        → bind x (λ b q. bind ((if holdsOne (b % 32) then give 1 else uint 2) s q)
-        (λ n r. bind (times n (chunk 2) s r) (λ us t. value (withUnits (headWith b n) us) t)))
-        ≡ bind (bind x (λ b q. bind ((if holdsOne (b % 32) then give 1 else uint 2) s q) (λ n r. value (headWith b n) r))) (after-head s)
-    go (value b q) = counted s b ((if holdsOne (b % 32) then give 1 else uint 2) s q)
+        → bind x (λ b q. bind ((if holdsOne k (typeIn k b) then give 1 else uint 2) s q)
+        (λ n r. bind (times n (chunk 2) s r) (λ us t. value (withUnits (headWith k b n) us) t)))
+        ≡ bind (bind x (λ b q. bind ((if holdsOne k (typeIn k b) then give 1 else uint 2) s q) (λ n r. value (headWith k b n) r))) (after-head s)
+    go (value b q) = counted k s b ((if holdsOne k (typeIn k b) then give 1 else uint 2) s q)
     go (refused e) = refl
 
--- what comes before the units of an array in a list
+-- the complete byte and what comes before the units of an array in a list
+abbrev completeOf : ArrayHead → ℕ
+completeOf h = h .«reserved_bit» * 2 + h .complete
+
 abbrev headBytes : ArrayHead → ℕ → List ℕ
-headBytes h rest = toBe 4 rest ++ (h .complete ∷ h .«unit_type» ∷ [])
+headBytes h rest = toBe 4 rest ++ (completeOf h ∷ h .«unit_type» ∷ [])
 
 head-long : (h : ArrayHead) (rest : ℕ) → length (headBytes h rest) ≡ 6
-head-long h rest = length-append (toBe 4 rest) (h .complete ∷ h .«unit_type» ∷ []) ∙ rw (length-toBe 4 rest)
+head-long h rest = length-append (toBe 4 rest) (completeOf h ∷ h .«unit_type» ∷ []) ∙ rw (length-toBe 4 rest)
 
 array-bytes : (s : List ℕ) (h : ArrayHead) (us : List Span)
     → arrayInList s (withUnits h us) ≡ headBytes h (2 + length (unitsInList s us)) ++ unitsInList s us
 unfolding encodeArray toChunk
 array-bytes s h us =
-    let e : length (h .complete ∷ h .«unit_type» ∷ unitsInList s us) ≡ 2 + length (unitsInList s us) = omega arith in
-    rw e (sym (append-assoc (toBe 4 (2 + length (unitsInList s us))) (h .complete ∷ h .«unit_type» ∷ []) (unitsInList s us)))
+    let e : length (completeOf h ∷ h .«unit_type» ∷ unitsInList s us) ≡ 2 + length (unitsInList s us) = omega arith in
+    rw e (sym (append-assoc (toBe 4 (2 + length (unitsInList s us))) (completeOf h ∷ h .«unit_type» ∷ []) (unitsInList s us)))
 
 array-long : (s : List ℕ) (h : ArrayHead) (us : List Span) → length (arrayInList s (withUnits h us)) ≡ 6 + length (unitsInList s us)
 array-long s h us =
     let l = head-long h (2 + length (unitsInList s us)) in
     ap length (array-bytes s h us) ∙ length-append (headBytes h (2 + length (unitsInList s us))) (unitsInList s us) ∙ omega arith
 
-module _ (s : List ℕ) (p : ℕ) where
-  pub array-refused : (e : ℕ) → arrayHead s p ≡ refused e → recordArray s p ≡ refused e
-  array-refused e w = array-split s p ∙ ap (λ (x : Parsed ArrayHead). bind x (after-head s)) w
+module _ (k : Codec) (s : List ℕ) (p : ℕ) where
+  pub array-refused : (e : ℕ) → arrayHead k s p ≡ refused e → recordArray k s p ≡ refused e
+  array-refused e w = array-split k s p ∙ ap (λ (x : Parsed ArrayHead). bind x (after-head s)) w
 
-  module _ (h : ArrayHead) (q : ℕ) (w : arrayHead s p ≡ value h q) where
-    pub array-units : recordArray s p ≡ bind (times (h .count) (chunk 2) s q) (λ us r. value (withUnits h us) r)
-    array-units = array-split s p ∙ ap (λ (x : Parsed ArrayHead). bind x (after-head s)) w
+  module _ (h : ArrayHead) (q : ℕ) (w : arrayHead k s p ≡ value h q) where
+    pub array-units : recordArray k s p ≡ bind (times (h .count) (chunk 2) s q) (λ us r. value (withUnits h us) r)
+    array-units = array-split k s p ∙ ap (λ (x : Parsed ArrayHead). bind x (after-head s)) w
 
     -- measured
     array-measured : (x : Parsed (List Span)) (m : Parsed ℕ) → m ≡ roomTaken unitsInList s 0 x
@@ -184,11 +190,11 @@ module _ (s : List ℕ) (p : ℕ) where
     array-measured (refused j) m e = rw e
 
     pub array-room : (m : Parsed ℕ) → m ≡ roomTaken unitsInList s 0 (times (h .count) (chunk 2) s q)
-        → bind m (λ room r. value (6 + room) r) ≡ roomTaken arrayInList s 0 (recordArray s p)
+        → bind m (λ room r. value (6 + room) r) ≡ roomTaken arrayInList s 0 (recordArray k s p)
     array-room m e = array-measured (times (h .count) (chunk 2) s q) m e ∙ ap (roomTaken arrayInList s 0) (sym array-units)
 
     -- stored
-    module _ (out : List ℕ) (to : ℕ) (stores : Puts (arrayInList s) (outcome (recordArray s p)) out to) where
+    module _ (out : List ℕ) (to : ℕ) (stores : Puts (arrayInList s) (outcome (recordArray k s p)) out to) where
       units-of : (x : Parsed (List Span)) → outcome (bind x (λ us r. value (withUnits h us) r)) ≡ accept (stores .it)
           → Puts (unitsInList s) (outcome x) out (to + 6)
       units-of (value us r) g =
@@ -228,7 +234,7 @@ module _ (s : List ℕ) (p : ℕ) where
           }
 
       pub stored-array : (d : List ℕ) (r : Stored) → StoredAt unitsInList s (times (h .count) (chunk 2) s q) out (to + 6) d r
-          → (e : List ℕ) → e ≡ sets d to (headBytes h (r .to - to - 4)) → StoredAt arrayInList s (recordArray s p) out to e r
+          → (e : List ℕ) → e ≡ sets d to (headBytes h (r .to - to - 4)) → StoredAt arrayInList s (recordArray k s p) out to e r
       stored-array d r i e v = rw array-units (stored-of (times (h .count) (chunk 2) s q) stores-units d r i e v)
 
 -- ### arrays

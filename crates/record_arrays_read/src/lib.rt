@@ -1,13 +1,14 @@
-// Internal to full read: the arrays of a full record read into a unit list (SCOPE 3.10).
+// Internal to full read and HEVC read: the arrays of a full record read into a unit list (SCOPE 3.10 and 4.11).
 pub mod arrays;
 pub mod list;
 pub mod room;
 
 use error::Refusal;
 
-// What comes before the units of an array: complete, type, and the number of units.
+// What comes before the units of an array: complete, reserved bit, type, and the number of units.
 pub struct ArrayHead {
     pub complete: u8,
+    pub reserved_bit: u8,
     pub unit_type: u8,
     pub count: usize,
 }
@@ -21,5 +22,11 @@ pub enum ArrayHeadRead {
 // The place after the arrays of a record, and the length of their list in the output.
 pub enum ListRead {
     Read(usize, usize),
+    Refused(Refusal),
+}
+
+// The place after the head of a record, or a refusal.
+pub enum HeadAnswer {
+    Read(usize),
     Refused(Refusal),
 }

@@ -1,5 +1,6 @@
 // Internal: the arrays of a full record, known to be complete, stored as those of a unit list.
 use super::ArrayHeadRead;
+use record_arrays::Codec;
 use unit_list::ChunkRead;
 use unit_list::walk;
 use unit_list::write;
@@ -41,33 +42,34 @@ fn put_units(record: &[u8], from: usize, count: usize, out: &mut [u8], to: usize
     Stored { from: at, to: next }
 }
 
-// Stores the array at a place of the record: its units first, then its length, complete and type before them.
-fn put_array(record: &[u8], at: usize, out: &mut [u8], to: usize) -> Stored
-    requires { ⌜ (length (now «record») ≤ 2 ^ 30) × Puts (arrayInList (now «record»)) (outcome (recordArray (now «record») at)) (now out) to ⌝ }
-    ensures { λ r. ⌜ StoredAt arrayInList (now («record» .entry)) (recordArray (now («record» .entry)) at) (now (out .entry)) to
+// Stores the array at a place of the record: its units first, then its length, complete byte and type before them.
+fn put_array(codec: Codec, record: &[u8], at: usize, out: &mut [u8], to: usize) -> Stored
+    requires { ⌜ (length (now «record») ≤ 2 ^ 30) × Puts (arrayInList (now «record»)) (outcome (recordArray codec (now «record») at)) (now out) to ⌝ }
+    ensures { λ r. ⌜ StoredAt arrayInList (now («record» .entry)) (recordArray codec (now («record» .entry)) at) (now (out .entry)) to
         (now (out .exit)) r ⌝ }
 {
-    let ArrayHeadRead::Head(head, units) = super::arrays::array_head(record, at) else {
+    let ArrayHeadRead::Head(head, units) = super::arrays::array_head(codec, record, at) else {
         return Stored { from: at, to: to };
     };
     let stored = put_units(record, units, head.count, out, to + 6);
     let rest = stored.to - to - 4;
-    write::put_array_head(out, to, rest, head.complete, head.unit_type);
+    let complete = head.reserved_bit * 2 + head.complete;
+    write::put_array_head(out, to, rest, complete, head.unit_type);
     stored
 }
 
 // Stores `count` arrays from place `from` of the record.
-pub fn put_arrays(record: &[u8], from: usize, count: usize, out: &mut [u8], to: usize)
+pub fn put_arrays(codec: Codec, record: &[u8], from: usize, count: usize, out: &mut [u8], to: usize)
     requires { ⌜ (length (now «record») ≤ 2 ^ 30)
-        × Puts (arraysInList (now «record»)) (outcome (times count recordArray (now «record») from)) (now out) to ⌝ }
+        × Puts (arraysInList (now «record»)) (outcome (times count (recordArray codec) (now «record») from)) (now out) to ⌝ }
     ensures { λ _. ⌜ now (out .exit)
-        ≡ sets (now (out .entry)) to (storedBytes arraysInList (now («record» .entry)) (times count recordArray (now («record» .entry)) from)) ⌝ }
+        ≡ sets (now (out .entry)) to (storedBytes arraysInList (now («record» .entry)) (times count (recordArray codec) (now («record» .entry)) from)) ⌝ }
 {
     let mut left = count;
     let mut at = from;
     let mut next = to;
     while 0 < left {
-        let stored = put_array(record, at, out, next);
+        let stored = put_array(codec, record, at, out, next);
         at = stored.from;
         next = stored.to;
         left -= 1;

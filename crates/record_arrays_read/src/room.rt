@@ -1,5 +1,6 @@
 // Internal: the bytes that the arrays of a full record take in a unit list.
 use super::ArrayHeadRead;
+use record_arrays::Codec;
 use unit_list::ChunkRead;
 use unit_list::walk;
 ghost use mathlib.Core.Path.{_≡_};
@@ -37,12 +38,12 @@ fn units_room(record: &[u8], from: usize, count: usize) -> ListRoom
 }
 
 // Measures the array at place `at`.
-pub fn array_room(record: &[u8], at: usize) -> ListRoom
+pub fn array_room(codec: Codec, record: &[u8], at: usize) -> ListRoom
     requires { ⌜ length (now «record») ≤ 2 ^ 30 ⌝ }
-    ensures { λ r. ⌜ (listRoomOf r ≡ roomTaken arrayInList (now («record» .entry)) 0 (recordArray (now («record» .entry)) at))
+    ensures { λ r. ⌜ (listRoomOf r ≡ roomTaken arrayInList (now («record» .entry)) 0 (recordArray codec (now («record» .entry)) at))
         × RoomFits (now («record» .entry)) at r ⌝ }
 {
-    let ArrayHeadRead::Head(head, units) = super::arrays::array_head(record, at) else {
+    let ArrayHeadRead::Head(head, units) = super::arrays::array_head(codec, record, at) else {
         return ListRoom::Short;
     };
     let ListRoom::Room(room, ends) = units_room(record, units, head.count) else {
@@ -52,16 +53,16 @@ pub fn array_room(record: &[u8], at: usize) -> ListRoom
 }
 
 // Measures `count` arrays from place `from` on.
-pub fn arrays_room(record: &[u8], from: usize, count: usize) -> ListRoom
+pub fn arrays_room(codec: Codec, record: &[u8], from: usize, count: usize) -> ListRoom
     requires { ⌜ (length (now «record») ≤ 2 ^ 30) × (from ≤ length (now «record»)) ⌝ }
-    ensures { λ r. ⌜ (listRoomOf r ≡ roomTaken arraysInList (now («record» .entry)) 0 (times count recordArray (now («record» .entry)) from))
+    ensures { λ r. ⌜ (listRoomOf r ≡ roomTaken arraysInList (now («record» .entry)) 0 (times count (recordArray codec) (now («record» .entry)) from))
         × RoomFits (now («record» .entry)) from r ⌝ }
 {
     let mut left = count;
     let mut at = from;
     let mut room: usize = 0;
     while 0 < left {
-        let ListRoom::Room(more, ends) = array_room(record, at) else {
+        let ListRoom::Room(more, ends) = array_room(codec, record, at) else {
             return ListRoom::Short;
         };
         room += more;

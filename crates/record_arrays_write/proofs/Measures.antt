@@ -1,5 +1,5 @@
 -- Laws of measuring: what is measured and what is left are the whole, for units and for arrays.
-use Prim.Native.Nat.{ℕ, _+_, _-_, _*_, _^_, _≤_, _<_}
+use Prim.Native.Nat.{ℕ, _+_, _-_, _^_, _≤_, _<_}
 use mathlib.Core.Path.{_≡_, refl, sym, ap, _∙_, subst}
 use mathlib.Core.Bool.{Bool, true, false, _&&_, and-assoc}
 use mathlib.Core.List.{List, [], _∷_, _++_, map}
@@ -13,7 +13,7 @@ use Rattle.boxes.specs.Parts.{held}
 use Rattle.boxes.specs.declared.Span.{Span}
 use Rattle.boxes.proofs.Numbers.{length-toBe}
 use Rattle.boxes.proofs.Spans.{held-long}
-use Rattle.unit_list.specs.UnitList.{Array, encodeUnits, heldArray, heldArrays}
+use Rattle.unit_list.specs.UnitList.{Array, arrayWith, encodeUnits, heldArray, heldArrays}
 use Rattle.unit_list.specs.inner.Walk.{arrayUnitsFrom, unitsStepped, UnitStepFits, arraysFrom, arraysStepped, ArrayStepFits, Fits, Entered}
 use Rattle.unit_list.specs.declared.ListCursor.{ListCursor}
 use Rattle.unit_list.specs.declared.ListStep.{ListStep}
@@ -22,8 +22,9 @@ use Rattle.unit_list.specs.declared.ArrayStep.{ArrayStep}
 use Rattle.unit_list.specs.declared.ArrayStep.the-variants as A
 use Rattle.unit_list.proofs.Encode.{length-toChunk}
 use Rattle.record_arrays.specs.Read.{holdsOne}
-use Rattle.record_arrays.specs.Write.{arrayBytes, arraysBytes, unitsFit, arrayFits, arraysFit}
+use Rattle.record_arrays.specs.Write.{firstByte, arrayBytes, arraysBytes, unitsFit, arrayFits, arraysFit}
 use Rattle.record_arrays.specs.inner.Counts.{countLen}
+use Rattle.record_arrays.specs.declared.Codec.{Codec}
 use Rattle.record_arrays_write.specs.inner.Measures.{joined, nothing, unitMeasure, arrayBy, unitsMeasure, arraysMeasure}
 use Rattle.record_arrays_write.specs.inner.Measures.{measuredBy, afterMeasured, arrayMeasured, Takes, ArrayWithin}
 use Rattle.record_arrays_write.specs.declared.measure.Measure.{Measure}
@@ -171,36 +172,34 @@ count-small : (b : Bool) → (if b then 0 else 2) ≤ 2
 count-small true = omega arith
 count-small false = omega arith
 
-length-array : (a : Array (List ℕ)) → length (arrayBytes a) ≡ 1 + countLen (a .unitType) + length (encodeUnits 2 (a .units))
+length-array : (k : Codec) (a : Array (List ℕ)) → length (arrayBytes k a) ≡ 1 + countLen k (a .unitType) + length (encodeUnits 2 (a .units))
 unfolding arrayBytes
-length-array a = go (holdsOne (a .unitType))
+length-array k a = go (holdsOne k (a .unitType))
   where
-    go : (b : Bool) → length ((a .complete * 128 + a .unitType) ∷ ((if b then [] else toBe 2 (length (a .units))) ++ encodeUnits 2 (a .units)))
+    go : (b : Bool) → length (firstByte a ∷ ((if b then [] else toBe 2 (length (a .units))) ++ encodeUnits 2 (a .units)))
         ≡ 1 + (if b then 0 else 2) + length (encodeUnits 2 (a .units))
     go true = omega arith
     go false =
         let l = length-append (toBe 2 (length (a .units))) (encodeUnits 2 (a .units)) in
-        let k = length-toBe 2 (length (a .units)) in
+        let m = length-toBe 2 (length (a .units)) in
         omega arith
 
-arrays-none : (s : List ℕ) → accept nothing ≡ measuredBy (arraysMeasure s) (accept [])
+arrays-none : (k : Codec) (s : List ℕ) → accept nothing ≡ measuredBy (arraysMeasure k s) (accept [])
 unfolding arraysBytes arraysFit
-arrays-none s = refl
+arrays-none k s = refl
 
-module _ (s : List ℕ) (complete t : ℕ) where
-  abbrev pub arrayWith : List Span → Array Span
-  arrayWith us = record { complete = complete; unitType = t; units = us }
-
+module _ (k : Codec) (s : List ℕ) (b t : ℕ) where
   array-more : (us : List Span) (xs : List (Array Span))
-      → joined (arrayBy t (unitsMeasure s us)) (arraysMeasure s xs) ≡ arraysMeasure s (arrayWith us ∷ xs)
+      → joined (arrayBy k b t (unitsMeasure s us)) (arraysMeasure k s xs) ≡ arraysMeasure k s (arrayWith b t us ∷ xs)
   unfolding arraysBytes arraysFit arrayFits
   array-more us xs =
-      let l = length-array (heldArray s (arrayWith us)) in
-      let k = length-append (arrayBytes (heldArray s (arrayWith us))) (arraysBytes (heldArrays s xs)) in
+      let l = length-array k (heldArray s (arrayWith b t us)) in
+      let m = length-append (arrayBytes k (heldArray s (arrayWith b t us))) (arraysBytes k (heldArrays s xs)) in
       same-measure (omega arith) (omega arith) refl
 
   arrays-more : (m : Measure) (u : Outcome (List Span)) (rest : Outcome (List (Array Span))) → accept m ≡ measuredBy (unitsMeasure s) u
-      → afterMeasured (arrayBy t m) (measuredBy (arraysMeasure s) rest) ≡ measuredBy (arraysMeasure s) (andThen u (λ us. more (arrayWith us) rest))
+      → afterMeasured (arrayBy k b t m) (measuredBy (arraysMeasure k s) rest)
+      ≡ measuredBy (arraysMeasure k s) (andThen u (λ us. more (arrayWith b t us) rest))
   arrays-more m (refuse n) rest e = absurd (let z : _≡_ {A = ℕ} 0 1 = cc in omega arith)
   arrays-more m (accept us) (refuse n) e = refl
   arrays-more m (accept us) (accept xs) e =
@@ -208,7 +207,7 @@ module _ (s : List ℕ) (complete t : ℕ) where
       rw y (ap accept (array-more us xs))
 
   arrays-unread : (u : Outcome (List Span)) (rest : Outcome (List (Array Span))) → refuse 21 ≡ measuredBy (unitsMeasure s) u
-      → refuse 21 ≡ measuredBy (arraysMeasure s) (andThen u (λ us. more (arrayWith us) rest))
+      → refuse 21 ≡ measuredBy (arraysMeasure k s) (andThen u (λ us. more (arrayWith b t us) rest))
   arrays-unread (refuse n) rest e = e
   arrays-unread (accept us) rest e = absurd (let z : _≡_ {A = ℕ} 0 1 = cc in omega arith)
 
@@ -220,31 +219,37 @@ module _ (s : List ℕ) (here : ListCursor) (r : ArrayStep) (f : (arraysStepped 
   pub array-malformed : r ≡ A.Malformed → arraysFrom s here ≡ refuse 21
   array-malformed e = sym (sym (ap (arraysStepped s) e) ∙ f .0)
 
-  pub end-measured : r ≡ A.End → accept nothing ≡ measuredBy (arraysMeasure s) (arraysFrom s here)
-  end-measured e = arrays-none s ∙ ap (measuredBy (arraysMeasure s)) (sym (array-end e))
+  pub entered : (b : ℕ) (c : ListCursor) → r ≡ A.Array b c → (arraysStepped s (A.Array b c) ≡ arraysFrom s here) × Entered s here b c
+  entered b c e = subst (λ (r : ArrayStep). (arraysStepped s r ≡ arraysFrom s here) × ArrayStepFits s here r) e f
 
-  pub malformed-measured : r ≡ A.Malformed → refuse 21 ≡ measuredBy (arraysMeasure s) (arraysFrom s here)
-  malformed-measured e = ap (measuredBy (arraysMeasure s)) (sym (array-malformed e))
+-- what it adds to the measure
+module _ (k : Codec) (s : List ℕ) (here : ListCursor) (r : ArrayStep) (f : (arraysStepped s r ≡ arraysFrom s here) × ArrayStepFits s here r) where
+  pub end-measured : r ≡ A.End → accept nothing ≡ measuredBy (arraysMeasure k s) (arraysFrom s here)
+  end-measured e = arrays-none k s ∙ ap (measuredBy (arraysMeasure k s)) (sym (array-end s here r f e))
+
+  pub malformed-measured : r ≡ A.Malformed → refuse 21 ≡ measuredBy (arraysMeasure k s) (arraysFrom s here)
+  malformed-measured e = ap (measuredBy (arraysMeasure k s)) (sym (array-malformed s here r f e))
 
   module _ (b : ℕ) (c : ListCursor) (e : r ≡ A.Array b c) where
-    pub entered : (arraysStepped s (A.Array b c) ≡ arraysFrom s here) × Entered s here b c
-    entered = subst (λ (r : ArrayStep). (arraysStepped s r ≡ arraysFrom s here) × ArrayStepFits s here r) e f
+    step : (arraysStepped s (A.Array b c) ≡ arraysFrom s here) × Entered s here b c
+    step = entered s here r f b c e
 
-    pub unread-measured : refuse 21 ≡ measuredBy (unitsMeasure s) (arrayUnitsFrom s c) → refuse 21 ≡ measuredBy (arraysMeasure s) (arraysFrom s here)
-    unread-measured h = arrays-unread s b (c .«unit_type») (arrayUnitsFrom s c) (arraysFrom s c) h ∙ ap (measuredBy (arraysMeasure s)) (entered .0)
+    pub unread-measured : refuse 21 ≡ measuredBy (unitsMeasure s) (arrayUnitsFrom s c)
+        → refuse 21 ≡ measuredBy (arraysMeasure k s) (arraysFrom s here)
+    unread-measured h = arrays-unread k s b (c .«unit_type») (arrayUnitsFrom s c) (arraysFrom s c) h ∙ ap (measuredBy (arraysMeasure k s)) (step .0)
 
     module _ (m : Measure) (h : accept m ≡ measuredBy (unitsMeasure s) (arrayUnitsFrom s c))
         (w : (c .at + m .len ≤ c .end) × (c .at + m .count ≤ c .end)) where
       pub units-few : m .len < 2 ^ 32
-      units-few = let g = entered .1 .fits in omega (arith, w .0, g .within, g .lent)
+      units-few = let g = step .1 .fits in omega (arith, w .0, g .within, g .lent)
 
-      pub array-measured : arrayMeasured s (R.Array (arrayBy (c .«unit_type») m) c) ≡ measuredBy (arraysMeasure s) (arraysFrom s here)
-      array-measured = arrays-more s b (c .«unit_type») m (arrayUnitsFrom s c) (arraysFrom s c) h ∙ ap (measuredBy (arraysMeasure s)) (entered .0)
+      pub array-measured : arrayMeasured k s (R.Array (arrayBy k b (c .«unit_type») m) c) ≡ measuredBy (arraysMeasure k s) (arraysFrom s here)
+      array-measured = arrays-more k s b (c .«unit_type») m (arrayUnitsFrom s c) (arraysFrom s c) h ∙ ap (measuredBy (arraysMeasure k s)) (step .0)
 
-      pub array-takes : Takes s here (arrayBy (c .«unit_type») m) c
+      pub array-takes : Takes s here (arrayBy k b (c .«unit_type») m) c
       array-takes =
-          let g = entered .1 in
-          let k = count-small (holdsOne (c .«unit_type»)) in
+          let g = step .1 in
+          let n = count-small (holdsOne k (c .«unit_type»)) in
           record {
             one = refl;
             len = omega (arith, w .0, g .first);
@@ -253,30 +258,30 @@ module _ (s : List ℕ) (here : ListCursor) (r : ArrayStep) (f : (arraysStepped 
           }
 
 -- the walk from c has come to `here` and has measured v
-pub record MeasuringArrays (s : List ℕ) (c here : ListCursor) (v : Measure) : Type 0 where
+pub record MeasuringArrays (k : Codec) (s : List ℕ) (c here : ListCursor) (v : Measure) : Type 0 where
   pub fits : Fits s here
   pub len : v .len ≤ here .end
   pub count : v .count ≤ here .end
-  pub whole : afterMeasured v (measuredBy (arraysMeasure s) (arraysFrom s here)) ≡ measuredBy (arraysMeasure s) (arraysFrom s c)
+  pub whole : afterMeasured v (measuredBy (arraysMeasure k s) (arraysFrom s here)) ≡ measuredBy (arraysMeasure k s) (arraysFrom s c)
 
-module _ (s : List ℕ) (c : ListCursor) where
-  pub arrays-start : Fits s c → MeasuringArrays s c c nothing
-  arrays-start h = record { fits = h; len = omega arith; count = omega arith; whole = after-start (measuredBy (arraysMeasure s) (arraysFrom s c)) }
+module _ (k : Codec) (s : List ℕ) (c : ListCursor) where
+  pub arrays-start : Fits s c → MeasuringArrays k s c c nothing
+  arrays-start h = record { fits = h; len = omega arith; count = omega arith; whole = after-start (measuredBy (arraysMeasure k s) (arraysFrom s c)) }
 
-  module _ (here : ListCursor) (v : Measure) (i : MeasuringArrays s c here v) (r : ArrayMeasured)
-      (f : (arrayMeasured s r ≡ measuredBy (arraysMeasure s) (arraysFrom s here)) × ArrayWithin s here r) where
-    pub arrays-ended : r ≡ R.End → (accept v ≡ measuredBy (arraysMeasure s) (arraysFrom s c)) × ((v .len ≤ length s) × (v .count ≤ length s))
+  module _ (here : ListCursor) (v : Measure) (i : MeasuringArrays k s c here v) (r : ArrayMeasured)
+      (f : (arrayMeasured k s r ≡ measuredBy (arraysMeasure k s) (arraysFrom s here)) × ArrayWithin s here r) where
+    pub arrays-ended : r ≡ R.End → (accept v ≡ measuredBy (arraysMeasure k s) (arraysFrom s c)) × ((v .len ≤ length s) × (v .count ≤ length s))
     arrays-ended e = (
-      after-end v ∙ ap (afterMeasured v) (sym (ap (arrayMeasured s) e) ∙ f .0) ∙ i .whole,
+      after-end v ∙ ap (afterMeasured v) (sym (ap (arrayMeasured k s) e) ∙ f .0) ∙ i .whole,
       (omega (arith, i .len, i .fits .within), omega (arith, i .count, i .fits .within)),
     )
 
-    pub arrays-refused : r ≡ R.Malformed → refuse 21 ≡ measuredBy (arraysMeasure s) (arraysFrom s c)
-    arrays-refused e = ap (afterMeasured v) (sym (ap (arrayMeasured s) e) ∙ f .0) ∙ i .whole
+    pub arrays-refused : r ≡ R.Malformed → refuse 21 ≡ measuredBy (arraysMeasure k s) (arraysFrom s c)
+    arrays-refused e = ap (afterMeasured v) (sym (ap (arrayMeasured k s) e) ∙ f .0) ∙ i .whole
 
     module _ (m : Measure) (d : ListCursor) (e : r ≡ R.Array m d) where
-      took : (arrayMeasured s (R.Array m d) ≡ measuredBy (arraysMeasure s) (arraysFrom s here)) × Takes s here m d
-      took = subst (λ (r : ArrayMeasured). (arrayMeasured s r ≡ measuredBy (arraysMeasure s) (arraysFrom s here)) × ArrayWithin s here r) e f
+      took : (arrayMeasured k s (R.Array m d) ≡ measuredBy (arraysMeasure k s) (arraysFrom s here)) × Takes s here m d
+      took = subst (λ (r : ArrayMeasured). (arrayMeasured k s r ≡ measuredBy (arraysMeasure k s) (arraysFrom s here)) × ArrayWithin s here r) e f
 
       pub arrays-add : (v .count + m .count < 2 ^ 32) × (v .len + m .len < 2 ^ 32)
       arrays-add =
@@ -287,12 +292,12 @@ module _ (s : List ℕ) (c : ListCursor) where
       pub arrays-less : length s - d .end < length s - here .end
       arrays-less = let t = took .1 in omega (arith, t .on, t .fits .within)
 
-      pub arrays-again : MeasuringArrays s c d (joined v m)
+      pub arrays-again : MeasuringArrays k s c d (joined v m)
       arrays-again =
           let t = took .1 in
           record {
             fits = t .fits;
             len = omega (arith, i .len, t .len);
             count = omega (arith, i .count, t .one, t .on);
-            whole = after-more v m (measuredBy (arraysMeasure s) (arraysFrom s d)) ∙ ap (afterMeasured v) (took .0) ∙ i .whole;
+            whole = after-more v m (measuredBy (arraysMeasure k s) (arraysFrom s d)) ∙ ap (afterMeasured v) (took .0) ∙ i .whole;
           }

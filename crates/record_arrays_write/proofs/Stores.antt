@@ -1,5 +1,5 @@
 -- Laws of storing what is found, one after the other: what is stored and what is left are the whole.
-use Prim.Native.Nat.{ℕ, _+_, _-_, _*_, _≤_, _<_}
+use Prim.Native.Nat.{ℕ, _+_, _-_, _*_, _/_, _%_, _≤_, _<_}
 use mathlib.Core.Path.{_≡_, refl, sym, ap, _∙_}
 use mathlib.Core.Bool.{true, false}
 use mathlib.Core.Logic.{⊎-elim}
@@ -18,7 +18,7 @@ use Rattle.parse.proofs.Stores.{puts-found, Putting, putting-start, putting-nev
 use Rattle.boxes.specs.Bytes.{toBe, toChunk}
 use Rattle.boxes.specs.Parts.{held}
 use Rattle.boxes.specs.declared.Span.{Span}
-use Rattle.unit_list.specs.UnitList.{Array, largestType, heldArray}
+use Rattle.unit_list.specs.UnitList.{Array, arrayWith, largestType, heldArray}
 use Rattle.unit_list.specs.inner.Walk.{arrayUnitsFrom, unitsStepped, UnitStepFits, arraysFrom, arraysStepped, ArrayStepFits, Fits}
 use Rattle.unit_list.specs.inner.Written.{unitBytes}
 use Rattle.unit_list.specs.declared.ListCursor.{ListCursor}
@@ -31,9 +31,10 @@ use Rattle.unit_list.proofs.ArrayStep as array-step
 use Rattle.unit_list.proofs.StoredUnits.{Copying, copying-start, copying-never, copying-done, copying-room, copying-again}
 use Rattle.record_arrays.specs.Read.{holdsOne}
 use Rattle.record_arrays.specs.Write.{arrayBytes, arraysBytes}
+use Rattle.record_arrays.specs.declared.Codec.{Codec}
 use Rattle.record_arrays_write.specs.inner.Measures.{unitsMeasure, measuredBy, countBytes, arrayInRecord, arraysInRecord}
 use Rattle.record_arrays_write.specs.declared.measure.Measure.{Measure}
-use Rattle.record_arrays_write.proofs.Measures.{ahead, units-next, entered, arrayWith}
+use Rattle.record_arrays_write.proofs.Measures.{ahead, units-next, entered}
 
 -- ---- the units of an array
 
@@ -87,114 +88,116 @@ pub three-stored : (d : List ℕ) (to x : ℕ) (xs ys : List ℕ)
     → sets (sets (set d to x) (to + 1) xs) (to + 1 + length xs) ys ≡ sets d to (x ∷ (xs ++ ys))
 three-stored d to x xs ys = rw (add-one to) (sets-append (set d to x) _ xs ys)
 
-module _ (s : List ℕ) (complete t : ℕ) (us : List Span) where
-  pub array-parts : arrayInRecord s complete t us ≡ (complete * 128 + t) ∷ (countBytes s t us ++ unitBytes 2 s us)
+module _ (k : Codec) (s : List ℕ) (b t : ℕ) (us : List Span) where
+  pub array-parts : arrayInRecord k s b t us ≡ (b % 2 * 128 + b / 2 * 64 + t) ∷ (countBytes k s t us ++ unitBytes 2 s us)
   unfolding arrayBytes
   array-parts = refl
 
-  pub array-long : length (arrayInRecord s complete t us) ≡ 1 + length (countBytes s t us) + length (unitBytes 2 s us)
-  array-long = ap length array-parts ∙ (let l = length-append (countBytes s t us) (unitBytes 2 s us) in omega arith)
+  pub array-long : length (arrayInRecord k s b t us) ≡ 1 + length (countBytes k s t us) + length (unitBytes 2 s us)
+  array-long = ap length array-parts ∙ (let l = length-append (countBytes k s t us) (unitBytes 2 s us) in omega arith)
 
 -- the count: none, or two bytes
-module _ (s : List ℕ) (t : ℕ) (o : Outcome (List Span)) where
-  pub count-none : holdsOne t ≡ true → bytesOf (countBytes s t) o ≡ []
+module _ (k : Codec) (s : List ℕ) (t : ℕ) (o : Outcome (List Span)) where
+  pub count-none : holdsOne k t ≡ true → bytesOf (countBytes k s t) o ≡ []
   count-none e = go o
     where
-      go : (o : Outcome (List Span)) → bytesOf (countBytes s t) o ≡ []
+      go : (o : Outcome (List Span)) → bytesOf (countBytes k s t) o ≡ []
       go (accept us) = rw e
       go (refuse n) = refl
 
-  pub count-two : holdsOne t ≡ false → (m : Measure) → accept m ≡ measuredBy (unitsMeasure s) o → bytesOf (countBytes s t) o ≡ toBe 2 (m .count)
+  pub count-two : holdsOne k t ≡ false → (m : Measure) → accept m ≡ measuredBy (unitsMeasure s) o → bytesOf (countBytes k s t) o ≡ toBe 2 (m .count)
   count-two e m = go o
     where
-      go : (o : Outcome (List Span)) → accept m ≡ measuredBy (unitsMeasure s) o → bytesOf (countBytes s t) o ≡ toBe 2 (m .count)
+      go : (o : Outcome (List Span)) → accept m ≡ measuredBy (unitsMeasure s) o → bytesOf (countBytes k s t) o ≡ toBe 2 (m .count)
       go (accept us) h = let y : m ≡ unitsMeasure s us = cc in rw (e, y)
       go (refuse n) h = absurd (let z : _≡_ {A = ℕ} 0 1 = cc in omega arith)
 
-  pub count-never : (out : List ℕ) (to n : ℕ) → Puts (countBytes s t) o out to → refuse n ≡ measuredBy (unitsMeasure s) o → ⊥
+  pub count-never : (out : List ℕ) (to n : ℕ) → Puts (countBytes k s t) o out to → refuse n ≡ measuredBy (unitsMeasure s) o → ⊥
   count-never out to n p h = go o (p .found) h
     where
       go : (o : Outcome (List Span)) → o ≡ accept (p .it) → refuse n ≡ measuredBy (unitsMeasure s) o → ⊥
       go (accept us) e h = let z : _≡_ {A = ℕ} 0 1 = cc in omega arith
-      go (refuse k) e h = let z : _≡_ {A = ℕ} 0 1 = cc in omega arith
+      go (refuse i) e h = let z : _≡_ {A = ℕ} 0 1 = cc in omega arith
 
 -- what the three writes of an array need and leave
-module _ (s : List ℕ) (complete t : ℕ) (o : Outcome (List Span)) (out : List ℕ) (to : ℕ) (h : Puts (arrayInRecord s complete t) o out to) where
-  module _ (b : ℕ) (is : b ≡ complete * 128 + t) (d₁ : List ℕ) (e₁ : d₁ ≡ set out to b) where
+module _ (k : Codec) (s : List ℕ) (b t : ℕ) (o : Outcome (List Span)) (out : List ℕ) (to : ℕ) (h : Puts (arrayInRecord k s b t) o out to) where
+  module _ (x : ℕ) (is : x ≡ b % 2 * 128 + b / 2 * 64 + t) (d₁ : List ℕ) (e₁ : d₁ ≡ set out to x) where
     one-long : length d₁ ≡ length out
     one-long = ap length e₁ ∙ length-set out to _
 
-    pub count-puts : Puts (countBytes s t) o d₁ (to + 1)
-    count-puts = let l = array-long s complete t (h .it) in let k = one-long in record { it = h .it; found = h .found; room = omega (arith, h .room) }
+    pub count-puts : Puts (countBytes k s t) o d₁ (to + 1)
+    count-puts = let l = array-long k s b t (h .it) in let m = one-long in record { it = h .it; found = h .found; room = omega (arith, h .room) }
 
     module _ (d₂ : List ℕ) (at : ℕ)
-        (e₂ : (at ≡ to + 1 + length (bytesOf (countBytes s t) o)) × (d₂ ≡ sets d₁ (to + 1) (bytesOf (countBytes s t) o))) where
+        (e₂ : (at ≡ to + 1 + length (bytesOf (countBytes k s t) o)) × (d₂ ≡ sets d₁ (to + 1) (bytesOf (countBytes k s t) o))) where
       two-long : length d₂ ≡ length out
-      two-long = ap length (e₂ .1) ∙ length-sets d₁ (to + 1) (bytesOf (countBytes s t) o) ∙ one-long
+      two-long = ap length (e₂ .1) ∙ length-sets d₁ (to + 1) (bytesOf (countBytes k s t) o) ∙ one-long
 
-      count-found : bytesOf (countBytes s t) o ≡ countBytes s t (h .it)
-      count-found = ap (bytesOf (countBytes s t)) (h .found)
+      count-found : bytesOf (countBytes k s t) o ≡ countBytes k s t (h .it)
+      count-found = ap (bytesOf (countBytes k s t)) (h .found)
 
       pub units-puts : Puts (unitBytes 2 s) o d₂ at
       units-puts =
-          let l = array-long s complete t (h .it) in
-          let k = two-long in
+          let l = array-long k s b t (h .it) in
+          let n = two-long in
           let m = ap length count-found in
           record { it = h .it; found = h .found; room = omega (arith, h .room, e₂ .0) }
 
       pub array-stored : (d₃ : List ℕ) (end : ℕ) → (end ≡ at + length (bytesOf (unitBytes 2 s) o)) × (d₃ ≡ sets d₂ at (bytesOf (unitBytes 2 s) o))
-          → (end ≡ to + length (bytesOf (arrayInRecord s complete t) o)) × (d₃ ≡ sets out to (bytesOf (arrayInRecord s complete t) o))
+          → (end ≡ to + length (bytesOf (arrayInRecord k s b t) o)) × (d₃ ≡ sets out to (bytesOf (arrayInRecord k s b t) o))
       array-stored d₃ end e₃ =
           let us = h .it in
           let u : bytesOf (unitBytes 2 s) o ≡ unitBytes 2 s us = ap (bytesOf (unitBytes 2 s)) (h .found) in
-          let w : bytesOf (arrayInRecord s complete t) o ≡ arrayInRecord s complete t us = ap (bytesOf (arrayInRecord s complete t)) (h .found) in
-          let l = array-long s complete t us in
+          let w : bytesOf (arrayInRecord k s b t) o ≡ arrayInRecord k s b t us = ap (bytesOf (arrayInRecord k s b t)) (h .found) in
+          let l = array-long k s b t us in
           let m = ap length count-found in
           let n = ap length u in
-          let k = ap length w in (
+          let v = ap length w in (
             omega (arith, e₂ .0, e₃ .0),
-            e₃ .1 ∙ rw (e₂ .1, e₂ .0, e₁, is, u, w, count-found, array-parts s complete t us)
-                (three-stored out to (complete * 128 + t) (countBytes s t us) (unitBytes 2 s us)),
+            e₃ .1 ∙ rw (e₂ .1, e₂ .0, e₁, is, u, w, count-found, array-parts k s b t us)
+                (three-stored out to (b % 2 * 128 + b / 2 * 64 + t) (countBytes k s t us) (unitBytes 2 s us)),
           )
 
 -- ---- arrays
 
-arrays-nil : (s : List ℕ) → arraysInRecord s [] ≡ []
+arrays-nil : (k : Codec) (s : List ℕ) → arraysInRecord k s [] ≡ []
 unfolding arraysBytes
-arrays-nil s = refl
+arrays-nil k s = refl
 
-arrays-first : (s : List ℕ) (a : Array Span) (xs : List (Array Span)) → arraysInRecord s (a ∷ xs) ≡ arrayBytes (heldArray s a) ++ arraysInRecord s xs
+arrays-first : (k : Codec) (s : List ℕ) (a : Array Span) (xs : List (Array Span))
+    → arraysInRecord k s (a ∷ xs) ≡ arrayBytes k (heldArray s a) ++ arraysInRecord k s xs
 unfolding arraysBytes
-arrays-first s a xs = refl
+arrays-first k s a xs = refl
 
 -- the walk from c₀ has come to `here`
-pub record PuttingArrays (s : List ℕ) (c₀ : ListCursor) (out₀ : List ℕ) (to₀ : ℕ) (here : ListCursor) (out : List ℕ) (to : ℕ) : Type 0 where
+pub record PuttingArrays (k : Codec) (s : List ℕ) (c₀ : ListCursor) (out₀ : List ℕ) (to₀ : ℕ) (here : ListCursor) (out : List ℕ) (to : ℕ)
+    : Type 0 where
   pub fits : Fits s here
-  pub putting : Putting (arraysInRecord s) out₀ to₀ (arraysFrom s c₀) (arraysFrom s here) out to
+  pub putting : Putting (arraysInRecord k s) out₀ to₀ (arraysFrom s c₀) (arraysFrom s here) out to
 
-module _ (s : List ℕ) (c₀ : ListCursor) (out₀ : List ℕ) (to₀ : ℕ) where
-  pub arrays-start : Fits s c₀ × Puts (arraysInRecord s) (arraysFrom s c₀) out₀ to₀ → PuttingArrays s c₀ out₀ to₀ c₀ out₀ to₀
-  arrays-start h = record { fits = h .0; putting = putting-start (arraysInRecord s) out₀ to₀ (arraysFrom s c₀) (h .1) }
+module _ (k : Codec) (s : List ℕ) (c₀ : ListCursor) (out₀ : List ℕ) (to₀ : ℕ) where
+  pub arrays-start : Fits s c₀ × Puts (arraysInRecord k s) (arraysFrom s c₀) out₀ to₀ → PuttingArrays k s c₀ out₀ to₀ c₀ out₀ to₀
+  arrays-start h = record { fits = h .0; putting = putting-start (arraysInRecord k s) out₀ to₀ (arraysFrom s c₀) (h .1) }
 
-  module _ (here : ListCursor) (out : List ℕ) (to : ℕ) (i : PuttingArrays s c₀ out₀ to₀ here out to) (r : ArrayStep)
+  module _ (here : ListCursor) (out : List ℕ) (to : ℕ) (i : PuttingArrays k s c₀ out₀ to₀ here out to) (r : ArrayStep)
       (f : (arraysStepped s r ≡ arraysFrom s here) × ArrayStepFits s here r) where
-    pub arrays-done : OneOf (1 ∷ 2 ∷ []) (tagOf array-step.the-type r) → out ≡ sets out₀ to₀ (bytesOf (arraysInRecord s) (arraysFrom s c₀))
+    pub arrays-done : OneOf (1 ∷ 2 ∷ []) (tagOf array-step.the-type r) → out ≡ sets out₀ to₀ (bytesOf (arraysInRecord k s) (arraysFrom s c₀))
     arrays-done = go r f
       where
         go : (r : ArrayStep) → (arraysStepped s r ≡ arraysFrom s here) × ArrayStepFits s here r → OneOf (1 ∷ 2 ∷ []) (tagOf array-step.the-type r)
-            → out ≡ sets out₀ to₀ (bytesOf (arraysInRecord s) (arraysFrom s c₀))
-        go (A.Array b c) f k = absurd (⊎-elim (λ h. omega arith) (λ h. omega arith) k)
-        go A.End f k =
-            putting-end (arraysInRecord s) out₀ to₀ (arraysFrom s c₀) (arraysFrom s here) out to (i .putting) (arrays-nil s) (sym (f .0)) .1
-        go A.Malformed f k =
-            absurd (putting-never (arraysInRecord s) out₀ to₀ (arraysFrom s c₀) (arraysFrom s here) out to (i .putting) 21 (sym (f .0)))
+            → out ≡ sets out₀ to₀ (bytesOf (arraysInRecord k s) (arraysFrom s c₀))
+        go (A.Array b c) f n = absurd (⊎-elim (λ h. omega arith) (λ h. omega arith) n)
+        go A.End f n =
+            putting-end (arraysInRecord k s) out₀ to₀ (arraysFrom s c₀) (arraysFrom s here) out to (i .putting) (arrays-nil k s) (sym (f .0)) .1
+        go A.Malformed f n =
+            absurd (putting-never (arraysInRecord k s) out₀ to₀ (arraysFrom s c₀) (arraysFrom s here) out to (i .putting) 21 (sym (f .0)))
 
     module _ (b : ℕ) (c : ListCursor) (e : r ≡ A.Array b c) where
       -- the units of this array, since all are found
       pub record HasUnits : Type 0 where
         pub units : List Span
         pub found : arrayUnitsFrom s c ≡ accept units
-        pub next : arraysFrom s here ≡ more (arrayWith s b (c .«unit_type») units) (arraysFrom s c)
+        pub next : arraysFrom s here ≡ more (arrayWith b (c .«unit_type») units) (arraysFrom s c)
 
       has-units : HasUnits
       has-units = go (arrayUnitsFrom s c) refl
@@ -205,42 +208,42 @@ module _ (s : List ℕ) (c₀ : ListCursor) (out₀ : List ℕ) (to₀ : ℕ) wh
                 units = us;
                 found = w;
                 next = sym (entered s here r f b c e .0)
-                    ∙ ap (λ (o : Outcome (List Span)). andThen o (λ us. more (arrayWith s b (c .«unit_type») us) (arraysFrom s c))) w;
+                    ∙ ap (λ (o : Outcome (List Span)). andThen o (λ us. more (arrayWith b (c .«unit_type») us) (arraysFrom s c))) w;
               }
           go (refuse n) w =
-              absurd (putting-never (arraysInRecord s) out₀ to₀ (arraysFrom s c₀) (arraysFrom s here) out to (i .putting) n
+              absurd (putting-never (arraysInRecord k s) out₀ to₀ (arraysFrom s c₀) (arraysFrom s here) out to (i .putting) n
               (sym (entered s here r f b c e .0)
-              ∙ ap (λ (o : Outcome (List Span)). andThen o (λ us. more (arrayWith s b (c .«unit_type») us) (arraysFrom s c))) w))
+              ∙ ap (λ (o : Outcome (List Span)). andThen o (λ us. more (arrayWith b (c .«unit_type») us) (arraysFrom s c))) w))
 
-      pub array-needs : (b ≤ 1) × (c .«unit_type» ≤ largestType) × Fits s c × Puts (arrayInRecord s b (c .«unit_type»)) (arrayUnitsFrom s c) out to
+      pub array-needs : (b ≤ 3) × (c .«unit_type» ≤ largestType) × Fits s c × Puts (arrayInRecord k s b (c .«unit_type»)) (arrayUnitsFrom s c) out to
       array-needs =
           let g = entered s here r f b c e .1 in
           let u = has-units in
-          let a = arrayWith s b (c .«unit_type») (u .units) in (
+          let a = arrayWith b (c .«unit_type») (u .units) in (
             g .complete,
             g .unitType,
             g .fits,
-            puts-found (arrayInRecord s b (c .«unit_type»)) (arrayUnitsFrom s c) out to (u .units) (u .found)
-                (putting-room (arraysInRecord s) out₀ to₀ (arraysFrom s c₀) (arraysFrom s here) out to (i .putting) a (arrayBytes (heldArray s a))
-                (arrays-first s a) (arraysFrom s c) (u .next)),
+            puts-found (arrayInRecord k s b (c .«unit_type»)) (arrayUnitsFrom s c) out to (u .units) (u .found)
+                (putting-room (arraysInRecord k s) out₀ to₀ (arraysFrom s c₀) (arraysFrom s here) out to (i .putting) a (arrayBytes k (heldArray s a))
+                (arrays-first k s a) (arraysFrom s c) (u .next)),
           )
 
       pub arrays-less : length s - c .end < length s - here .end
       arrays-less = let g = entered s here r f b c e .1 in omega (arith, g .first, g .fits .before, g .fits .within)
 
       pub arrays-again : (next : ℕ) (d : List ℕ)
-          → (next ≡ to + length (bytesOf (arrayInRecord s b (c .«unit_type»)) (arrayUnitsFrom s c)))
-          × (d ≡ sets out to (bytesOf (arrayInRecord s b (c .«unit_type»)) (arrayUnitsFrom s c)))
-          → PuttingArrays s c₀ out₀ to₀ c d next
+          → (next ≡ to + length (bytesOf (arrayInRecord k s b (c .«unit_type»)) (arrayUnitsFrom s c)))
+          × (d ≡ sets out to (bytesOf (arrayInRecord k s b (c .«unit_type»)) (arrayUnitsFrom s c)))
+          → PuttingArrays k s c₀ out₀ to₀ c d next
       arrays-again next d h =
           let g = entered s here r f b c e .1 in
           let u = has-units in
-          let a = arrayWith s b (c .«unit_type») (u .units) in
-          let w : bytesOf (arrayInRecord s b (c .«unit_type»)) (arrayUnitsFrom s c) ≡ arrayBytes (heldArray s a) =
-          ap (bytesOf (arrayInRecord s b (c .«unit_type»))) (u .found) in
+          let a = arrayWith b (c .«unit_type») (u .units) in
+          let w : bytesOf (arrayInRecord k s b (c .«unit_type»)) (arrayUnitsFrom s c) ≡ arrayBytes k (heldArray s a) =
+          ap (bytesOf (arrayInRecord k s b (c .«unit_type»))) (u .found) in
           record {
             fits = g .fits;
-            putting = putting-again (arraysInRecord s) out₀ to₀ (arraysFrom s c₀) (arraysFrom s here) out to (i .putting) a
-                (arrayBytes (heldArray s a)) (arrays-first s a)
+            putting = putting-again (arraysInRecord k s) out₀ to₀ (arraysFrom s c₀) (arraysFrom s here) out to (i .putting) a
+                (arrayBytes k (heldArray s a)) (arrays-first k s a)
                 (arraysFrom s c) (u .next) d (h .1 ∙ ap (λ (x : List ℕ). sets out to x) w) next (h .0 ∙ ap (λ (x : List ℕ). to + length x) w);
           }

@@ -1,3 +1,4 @@
-// Internal to full write: the arrays of a unit list written as those of a full record (SCOPE 3.9).
+// Internal to full write and HEVC write: the arrays of a unit list, and what follows the head of a record, measured and written (SCOPE 3.9 and 4.11).
 pub mod measure;
 pub mod put;
+pub mod record;

@@ -1,4 +1,6 @@
 // Internal: the arrays of a list measured as those of a full record.
+use record_arrays::Codec;
+use record_arrays::array;
 use unit_list::ArrayStep;
 use unit_list::ListCursor;
 use unit_list::ListStep;
@@ -63,9 +65,9 @@ fn of_unit(len: usize) -> Measure
     }
 }
 
-// Whether an array of type t fits, by the measure of its units.
-fn array_fits(t: u8, units: Measure) -> bool
-    ensures { λ r. ⌜ r ≡ arrayFitsBy t units ⌝ }
+// Whether an array with a complete byte and a type t fits, by the measure of its units.
+fn array_fits(codec: Codec, complete: u8, t: u8, units: Measure) -> bool
+    ensures { λ r. ⌜ r ≡ arrayFitsBy codec complete t units ⌝ }
 {
     if 65535 < units.count {
         return false;
@@ -73,19 +75,19 @@ fn array_fits(t: u8, units: Measure) -> bool
     if !units.fits {
         return false;
     }
-    if record_arrays::array::holds_one(t) {
-        return units.count == 1;
+    if array::holds_one(codec, t) && units.count != 1 {
+        return false;
     }
-    true
+    array::first_fits(codec, complete / 2, t)
 }
 
-// The measure of an array of type t, by that of its units.
-fn of_array(t: u8, units: Measure) -> Measure
+// The measure of an array with a complete byte and a type t, by that of its units.
+fn of_array(codec: Codec, complete: u8, t: u8, units: Measure) -> Measure
     requires { ⌜ units .len < 2 ^ 32 ⌝ }
-    ensures { λ r. ⌜ r ≡ arrayBy t units ⌝ }
+    ensures { λ r. ⌜ r ≡ arrayBy codec complete t units ⌝ }
 {
-    let len = 1 + record_arrays::array::count_len(t) + units.len;
-    let fits = array_fits(t, units);
+    let len = 1 + array::count_len(codec, t) + units.len;
+    let fits = array_fits(codec, complete, t, units);
     Measure {
         count: 1,
         len: len,
@@ -117,17 +119,18 @@ pub fn measure_units(list: &[u8], c: ListCursor) -> RecordMeasure
 }
 
 // Measures the array after a cursor's end.
-fn measure_array(list: &[u8], c: ListCursor) -> ArrayMeasured
+fn measure_array(codec: Codec, list: &[u8], c: ListCursor) -> ArrayMeasured
     requires { ⌜ Fits (now list) c ⌝ }
-    ensures { λ r. ⌜ (arrayMeasured (now (list .entry)) r ≡ measuredBy (arraysMeasure (now (list .entry))) (arraysFrom (now (list .entry)) c))
+    ensures { λ r. ⌜ (arrayMeasured codec (now (list .entry)) r
+        ≡ measuredBy (arraysMeasure codec (now (list .entry))) (arraysFrom (now (list .entry)) c))
         × ArrayWithin (now (list .entry)) c r ⌝ }
 {
     match walk::array_step(list, c) {
-        ArrayStep::Array(_, first) => {
+        ArrayStep::Array(complete, first) => {
             let RecordMeasure::Is(units) = measure_units(list, first) else {
                 return ArrayMeasured::Malformed;
             };
-            ArrayMeasured::Array(of_array(first.unit_type, units), first)
+            ArrayMeasured::Array(of_array(codec, complete, first.unit_type, units), first)
         }
         ArrayStep::End => ArrayMeasured::End,
         ArrayStep::Malformed => ArrayMeasured::Malformed,
@@ -135,9 +138,9 @@ fn measure_array(list: &[u8], c: ListCursor) -> ArrayMeasured
 }
 
 // Measures the arrays after a cursor's end.
-pub fn measure_arrays(list: &[u8], c: ListCursor) -> RecordMeasure
+pub fn measure_arrays(codec: Codec, list: &[u8], c: ListCursor) -> RecordMeasure
     requires { ⌜ Fits (now list) c ⌝ }
-    ensures { λ r. ⌜ (measureOf r ≡ measuredBy (arraysMeasure (now (list .entry))) (arraysFrom (now (list .entry)) c))
+    ensures { λ r. ⌜ (measureOf r ≡ measuredBy (arraysMeasure codec (now (list .entry))) (arraysFrom (now (list .entry)) c))
         × ArraysWithin (now (list .entry)) r ⌝ }
 {
     let mut here = c;
@@ -147,7 +150,7 @@ pub fn measure_arrays(list: &[u8], c: ListCursor) -> RecordMeasure
         fits: true,
     };
     loop {
-        match measure_array(list, here) {
+        match measure_array(codec, list, here) {
             ArrayMeasured::Array(m, next) => {
                 sum = add(sum, m);
                 here = next;

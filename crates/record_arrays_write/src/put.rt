@@ -2,6 +2,8 @@
 use super::measure;
 use super::measure::RecordMeasure;
 use boxes::place;
+use record_arrays::Codec;
+use record_arrays::array;
 use unit_list::ArrayStep;
 use unit_list::ListCursor;
 use unit_list::ListStep;
@@ -36,13 +38,13 @@ fn put_units(list: &[u8], c: ListCursor, out: &mut [u8], to: usize) -> usize
 }
 
 // Stores the count of the units after a cursor, if the array has one, and returns the place after it.
-fn put_count(list: &[u8], c: ListCursor, out: &mut [u8], to: usize) -> usize
-    requires { ⌜ Fits (now list) c × Puts (countBytes (now list) (c .«unit_type»)) (arrayUnitsFrom (now list) c) (now out) to ⌝ }
-    ensures { λ r. ⌜ (r ≡ to + length (bytesOf (countBytes (now (list .entry)) (c .«unit_type»)) (arrayUnitsFrom (now (list .entry)) c)))
+fn put_count(codec: Codec, list: &[u8], c: ListCursor, out: &mut [u8], to: usize) -> usize
+    requires { ⌜ Fits (now list) c × Puts (countBytes codec (now list) (c .«unit_type»)) (arrayUnitsFrom (now list) c) (now out) to ⌝ }
+    ensures { λ r. ⌜ (r ≡ to + length (bytesOf (countBytes codec (now (list .entry)) (c .«unit_type»)) (arrayUnitsFrom (now (list .entry)) c)))
         × (now (out .exit)
-        ≡ sets (now (out .entry)) to (bytesOf (countBytes (now (list .entry)) (c .«unit_type»)) (arrayUnitsFrom (now (list .entry)) c))) ⌝ }
+        ≡ sets (now (out .entry)) to (bytesOf (countBytes codec (now (list .entry)) (c .«unit_type»)) (arrayUnitsFrom (now (list .entry)) c))) ⌝ }
 {
-    if record_arrays::array::holds_one(c.unit_type) {
+    if array::holds_one(codec, c.unit_type) {
         return to;
     }
     let RecordMeasure::Is(units) = measure::measure_units(list, c) else {
@@ -52,25 +54,33 @@ fn put_count(list: &[u8], c: ListCursor, out: &mut [u8], to: usize) -> usize
     to + 2
 }
 
-// Stores an array whose units follow a cursor, and returns the place after it.
-fn put_array(list: &[u8], complete: u8, c: ListCursor, out: &mut [u8], to: usize) -> usize
-    requires { ⌜ (complete ≤ 1) × (c .«unit_type» ≤ largestType) × Fits (now list) c
-        × Puts (arrayInRecord (now list) complete (c .«unit_type»)) (arrayUnitsFrom (now list) c) (now out) to ⌝ }
-    ensures { λ r. ⌜ (r ≡ to + length (bytesOf (arrayInRecord (now (list .entry)) complete (c .«unit_type»)) (arrayUnitsFrom (now (list .entry)) c)))
+// Stores an array with a complete byte whose units follow a cursor, and returns the place after it.
+fn put_array(
+    codec: Codec,
+    list: &[u8],
+    complete: u8,
+    c: ListCursor,
+    out: &mut [u8],
+    to: usize,
+) -> usize
+    requires { ⌜ (complete ≤ 3) × (c .«unit_type» ≤ largestType) × Fits (now list) c
+        × Puts (arrayInRecord codec (now list) complete (c .«unit_type»)) (arrayUnitsFrom (now list) c) (now out) to ⌝ }
+    ensures { λ r. ⌜ (r ≡ to + length
+        (bytesOf (arrayInRecord codec (now (list .entry)) complete (c .«unit_type»)) (arrayUnitsFrom (now (list .entry)) c)))
         × (now (out .exit) ≡ sets (now (out .entry)) to
-        (bytesOf (arrayInRecord (now (list .entry)) complete (c .«unit_type»)) (arrayUnitsFrom (now (list .entry)) c))) ⌝ }
+        (bytesOf (arrayInRecord codec (now (list .entry)) complete (c .«unit_type»)) (arrayUnitsFrom (now (list .entry)) c))) ⌝ }
 {
-    let first = record_arrays::array::array_byte(complete, c.unit_type);
+    let first = array::array_byte(complete, c.unit_type);
     place::put(out, to, first);
-    let units_at = put_count(list, c, out, to + 1);
+    let units_at = put_count(codec, list, c, out, to + 1);
     put_units(list, c, out, units_at)
 }
 
 // Stores the arrays after a cursor's end.
-pub fn put_arrays(list: &[u8], c: ListCursor, out: &mut [u8], to: usize)
-    requires { ⌜ Fits (now list) c × Puts (arraysInRecord (now list)) (arraysFrom (now list) c) (now out) to ⌝ }
+pub fn put_arrays(codec: Codec, list: &[u8], c: ListCursor, out: &mut [u8], to: usize)
+    requires { ⌜ Fits (now list) c × Puts (arraysInRecord codec (now list)) (arraysFrom (now list) c) (now out) to ⌝ }
     ensures { λ _. ⌜ now (out .exit)
-        ≡ sets (now (out .entry)) to (bytesOf (arraysInRecord (now (list .entry))) (arraysFrom (now (list .entry)) c)) ⌝ }
+        ≡ sets (now (out .entry)) to (bytesOf (arraysInRecord codec (now (list .entry))) (arraysFrom (now (list .entry)) c)) ⌝ }
 {
     let mut here = c;
     let mut next = to;
@@ -78,7 +88,7 @@ pub fn put_arrays(list: &[u8], c: ListCursor, out: &mut [u8], to: usize)
         let ArrayStep::Array(complete, first) = walk::array_step(list, here) else {
             return;
         };
-        next = put_array(list, complete, first, out, next);
+        next = put_array(codec, list, complete, first, out, next);
         here = first;
     }
 }

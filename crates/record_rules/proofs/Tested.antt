@@ -16,6 +16,7 @@ use Rattle.nal.specs.Kinds.{isRecordType, unitKind, isRecord}
 use Rattle.nal.specs.declared.UnitKind.the-variants.{PictureData, Record, Aud, Other}
 use Rattle.unit_list.specs.UnitList.{Array}
 use Rattle.record_arrays.specs.Read.{recordArray}
+use Rattle.record_arrays.specs.declared.Codec.the-variants.{Vvc}
 use Rattle.full.specs.Rules.{arrayReserved, arrayTyped, arrayByte, all}
 use Rattle.record_rules.specs.inner.Rules.{tested}
 
@@ -42,11 +43,11 @@ and-and false b c = refl
 
 module _ (s : List ℕ) where
   -- the byte of an array that is read, and of one that is not
-  byte-read : (p : ℕ) (x : Array Span) (q : ℕ) → recordArray s p ≡ value x q → arrayByte s p ≡ value (getD s p 0) q
+  byte-read : (p : ℕ) (x : Array Span) (q : ℕ) → recordArray Vvc s p ≡ value x q → arrayByte s p ≡ value (getD s p 0) q
   unfolding arrayByte
   byte-read p x q e = rw e
 
-  byte-refused : (p e : ℕ) → recordArray s p ≡ refused e → arrayByte s p ≡ refused e
+  byte-refused : (p e : ℕ) → recordArray Vvc s p ≡ refused e → arrayByte s p ≡ refused e
   unfolding arrayByte
   byte-refused p e f = rw f
 
@@ -58,7 +59,7 @@ module _ (s : List ℕ) where
     tested-all (suc n) p h = absurd (omega arith)
 
     -- an array runs past the end
-    pub tested-short : (n p : ℕ) → 0 < n → (e : ℕ) → recordArray s p ≡ refused e → tested a b (outcome (times n arrayByte s p)) ≡ refuse e
+    pub tested-short : (n p : ℕ) → 0 < n → (e : ℕ) → recordArray Vvc s p ≡ refused e → tested a b (outcome (times n arrayByte s p)) ≡ refuse e
     tested-short zero p h e f = absurd (omega arith)
     tested-short (suc n) p h e f = rw (times-bad arrayByte s n p e (byte-refused p e f))
 
@@ -69,7 +70,7 @@ module _ (s : List ℕ) where
     one-more c (refused e) = refl
 
     -- one array after another
-    pub tested-next : (n p : ℕ) → 0 < n → (x : Array Span) (q : ℕ) → recordArray s p ≡ value x q
+    pub tested-next : (n p : ℕ) → 0 < n → (x : Array Span) (q : ℕ) → recordArray Vvc s p ≡ value x q
         → tested (a && arrayReserved (getD s p 0)) (b && arrayTyped (getD s p 0)) (outcome (times (n - 1) arrayByte s q))
         ≡ tested a b (outcome (times n arrayByte s p))
     tested-next zero p h x q e = absurd (omega arith)

@@ -1,6 +1,7 @@
 // Internal: the reserved bits and the types in the bytes that the arrays of a record begin with.
 use super::ArrayRules;
 use boxes::place;
+use record_arrays::Codec;
 use record_arrays_read::room;
 use record_arrays_read::room::ListRoom;
 ghost use mathlib.Core.Path.{_≡_};
@@ -22,7 +23,7 @@ fn array_reserved(before: bool, first: u8) -> bool
 fn array_typed(before: bool, first: u8) -> bool
     ensures { λ r. ⌜ r ≡ (before && arrayTyped first) ⌝ }
 {
-    let unit_type = record_arrays::array::unit_type_of(first);
+    let unit_type = record_arrays::array::unit_type_of(Codec::Vvc, first);
     let typed = nal::is_record_nal_type(unit_type);
     before && typed
 }
@@ -37,7 +38,7 @@ pub fn array_rules(record: &[u8], from: usize, count: usize) -> ArrayRules
     let mut reserved = true;
     let mut typed = true;
     while 0 < left {
-        let ListRoom::Room(_, ends) = room::array_room(record, at) else {
+        let ListRoom::Room(_, ends) = room::array_room(Codec::Vvc, record, at) else {
             return ArrayRules::Short;
         };
         let first = place::byte(record, at);

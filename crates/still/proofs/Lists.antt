@@ -22,6 +22,7 @@ use Rattle.compact.specs.declared.CompactVvcConfig.{CompactVvcConfig}
 use Rattle.compact.proofs.Facts.{CompactFacts, compact-facts}
 use Rattle.compact.proofs.OneArray.{list-long}
 use Rattle.record_arrays.specs.Write.{arraysBytes}
+use Rattle.record_arrays.specs.declared.Codec.the-variants.{Vvc}
 use Rattle.full.specs.Read.{parseFull}
 use Rattle.full.specs.Write.{headBytes, fullBytes, recordFits, writeFull, serializeFull}
 use Rattle.full.specs.declared.VvcConfig.{VvcConfig}
@@ -136,7 +137,7 @@ module _ (c : CompactVvcConfig) (list : List ℕ) (from : ReadFrom c list) where
     record-long =
         omega (
           arith,
-          length-append (headBytes head ++ (length (grouped us) ∷ [])) (arraysBytes (grouped us)),
+          length-append (headBytes head ++ (length (grouped us) ∷ [])) (arraysBytes Vvc (grouped us)),
           length-append (headBytes head) (length (grouped us) ∷ []),
           head-long c pic (expanded .ptl) (expanded .writable),
           arrays-long (grouped us),

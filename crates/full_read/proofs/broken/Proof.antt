@@ -1,8 +1,8 @@
 -- `broken` tests the rules where the head is read; else none is broken.
 use mathlib.Core.Path.{_∙_}
 use borrow.Author.Needs.{needs}
-use Rattle.full.specs.Read.{vvcHead}
-use Rattle.full_read.proofs.Heads.{head-read, head-refused}
+use Rattle.record_arrays_read.proofs.Given.{head-read, head-refused}
+use Rattle.full.specs.Read.{zeroHead}
 use Rattle.full_read.proofs.Strict.{small-head, rules-long, rules-headless, rules-headed}
 use Rattle.full_read.proofs.broken.Statement.{statement}
 use Rattle.full_read.proofs.broken.Tie as tie
@@ -21,7 +21,7 @@ broken-requires c κs =
     let r = c .before .before .before .before in
     let s = r .before .before .before .args .«record» .now in (
       r .before .if1 .left,
-      small-head s .at _ _ (head-read (r .read-head .result) (vvcHead s 0) (r .read-head .ensures) _ (c .before .answer .given .1)),
+      small-head s .at _ _ (head-read zeroHead (r .read-head .ensures) (c .before .answer .given .1)),
     )
 
 enum-told : tie.Need-enum-told
@@ -33,14 +33,14 @@ returns-2 c =
     let s = r .before .before .before .args .«record» .now in
     c .broken .ensures
     ∙ rules-headed s (r .before .if1 .left) _ _
-    (head-read (r .read-head .result) (vvcHead s 0) (r .read-head .ensures) _ (c .before .before .answer .given .1))
+    (head-read zeroHead (r .read-head .ensures) (c .before .before .answer .given .1))
 
 returns-3 : tie.Need-returns-3
 returns-3 c =
     let r = c .before .before .before in
     let s = r .before .before .before .args .«record» .now in
     rules-headless s (r .before .if1 .left) _
-    (head-refused (r .read-head .result) (vvcHead s 0) (r .read-head .ensures) _ (c .enum-told .given .1))
+    (head-refused zeroHead (r .read-head .ensures) (c .enum-told .given .1))
 
 pub broken-spec : {M : Type 1} → statement M
 broken-spec =

@@ -1,8 +1,8 @@
 -- `parse` returns what the definition says: 23, the refusals of the head, or the answer of the arrays with the head.
 use borrow.Author.Needs.{needs}
-use Rattle.full.specs.Read.{vvcHead}
-use Rattle.full_read.proofs.Heads.{head-read, head-refused}
-use Rattle.full_read.proofs.Given.{given-too-long, given-headless, given-arrays}
+use Rattle.record_arrays_read.proofs.Given.{given-too-long, given-headless, given-arrays}
+use Rattle.full.specs.Read.{zeroHead}
+use Rattle.full_read.proofs.Given.{reads-record}
 use Rattle.full_read.proofs.parse.Statement.{statement}
 use Rattle.full_read.proofs.parse.Tie as tie
 
@@ -17,7 +17,9 @@ refused-requires : tie.Need-refused-requires
 refused-requires c κs = search needs
 
 returns : tie.Need-returns
-returns c = given-too-long _ _ (c .before .if1 .taken) _ (c .refused .ensures)
+returns c =
+    let a = c .before .before .before .before .args in
+    given-too-long (reads-record (a .«record» .now)) zeroHead (a .out .now) (c .before .if1 .taken) (c .refused .ensures)
 
 read-head-requires : tie.Need-read-head-requires
 read-head-requires c κs = search needs
@@ -45,18 +47,15 @@ returns-2 c =
     let an = c .before .before .before .before .before .before in
     let rh = after-read-head an in
     let a = start rh .args in
-    let r = rh .read-head in
-    let w = head-read (r .result) (vvcHead (a .«record» .now) 0) (r .ensures) _ (an .answer .given .1) in
-    given-arrays (a .«record» .now) (a .out .now) (rh .before .if1 .left) _ _ w _ _ (c .before .before .before .read-list .ensures) _
-    (c .with-head .ensures)
+    given-arrays (reads-record (a .«record» .now)) zeroHead (a .out .now) (rh .before .if1 .left) (rh .read-head .ensures) (an .answer .given .1)
+    (c .before .before .before .read-list .ensures) (c .with-head .ensures)
 
 returns-3 : tie.Need-returns-3
 returns-3 c =
     let rh = c .before .before .before .before .before in
     let a = start rh .args in
-    let r = rh .read-head in
-    given-headless (a .«record» .now) (a .out .now) (rh .before .if1 .left) _ _ (c .refused2 .ensures)
-    (head-refused (r .result) (vvcHead (a .«record» .now) 0) (r .ensures) _ (c .before .before .answer2 .given .1))
+    given-headless (reads-record (a .«record» .now)) zeroHead (a .out .now) (rh .before .if1 .left) (rh .read-head .ensures)
+    (c .before .before .answer2 .given .1) (c .refused2 .ensures)
 
 pub parse-spec : {M : Type 1} → statement M
 parse-spec =

@@ -2,8 +2,9 @@
 use mathlib.Core.Path.{sym, ap, _∙_}
 use borrow.Author.Needs.{needs}
 use Rattle.record_arrays_read.specs.inner.Arrays.{listOf}
+use Rattle.record_arrays_read.specs.inner.Given.{besideHead}
 use Rattle.record_arrays_read.specs.declared.ListRead.{ListRead}
-use Rattle.full_read.specs.inner.Heads.{besideHead}
+use Rattle.full.specs.Read.{zeroHead}
 use Rattle.full_read.proofs.with_head.Statement.{statement}
 use Rattle.full_read.proofs.with_head.Tie as tie
 
@@ -17,11 +18,11 @@ refused-requires : tie.Need-refused-requires
 refused-requires c κs = search needs
 
 returns : tie.Need-returns
-returns c = ap (λ (l : ListRead). besideHead (c .before .before .before .args .head) (listOf l)) (sym (c .before .list .given .1))
+returns c = ap (λ (l : ListRead). besideHead zeroHead (c .before .before .before .args .head) (listOf l)) (sym (c .before .list .given .1))
 
 returns-2 : tie.Need-returns-2
 returns-2 c = c .refused .ensures
-    ∙ ap (λ (l : ListRead). besideHead (c .before .before .before .before .args .head) (listOf l)) (sym (c .before .before .list2 .given .1))
+    ∙ ap (λ (l : ListRead). besideHead zeroHead (c .before .before .before .before .args .head) (listOf l)) (sym (c .before .before .list2 .given .1))
 
 pub with-head-spec : {M : Type 1} → statement M
 with-head-spec =

@@ -1,23 +1,44 @@
--- `serialize` stores a record whose length is known; a refusal leaves the output unchanged.
+-- `serialize` stores what follows the head, then the head; a refusal leaves the output unchanged.
 use borrow.Author.Needs.{needs}
-use Rattle.parse.proofs.Output.{written-refused}
-use Rattle.full.specs.Write.{serializeFull}
-use Rattle.full_write.proofs.Records.{size-refused, size-is}
+use Rattle.record_arrays.specs.declared.Codec.the-variants.{Vvc}
+use Rattle.record_arrays_write.proofs.Records.{put-refused, put-stored}
+use Rattle.full.specs.Write.{headBytes, headFits, serializeFull}
+use Rattle.full_write.specs.inner.Head.{headWritten}
+use Rattle.full_write.proofs.Records.{serialize-record, head-given}
 use Rattle.full_write.proofs.serialize.Statement.{statement}
 use Rattle.full_write.proofs.serialize.Tie as tie
 
-record-size-requires : tie.Need-record-size-requires
-record-size-requires c κs = search needs
+-- Earlier places of the function, each seen from a later one.
+abbrev after-put : (c : tie.After-len) → tie.After-put-after-head
+after-put c = c .before .before .before .before
 
-enum-known-c : tie.Need-enum-known-c
-enum-known-c c = search needs
+abbrev after-head-size : (c : tie.After-put-after-head) → tie.After-head-size
+after-head-size c = c .before .before
 
-put-full-requires : tie.Need-put-full-requires
-put-full-requires c κs =
-    let a = c .before .before .before .before .before .before .before .args in
-    let g = c .before .before .c .given in
-    size-is (a .head) (a .list .now) (serializeFull (a .head) (a .list .now)) (c .before .before .before .before .record-size .result)
-    (c .before .before .before .before .record-size .ensures) (g .0 .0) (g .0 .1 .0) (g .0 .1 .1 .0) (g .1)
+abbrev start : (c : tie.After-head-size) → tie.Start
+start c = c .before .before .before
+
+head-size-requires : tie.Need-head-size-requires
+head-size-requires c κs = search needs
+
+put-after-head-requires : tie.Need-put-after-head-requires
+put-after-head-requires c κs = search needs
+
+enum-known-len : tie.Need-enum-known-len
+enum-known-len c = search needs
+
+-- the head fits its fields, and the output has room for it
+put-head-requires : tie.Need-put-head-requires
+put-head-requires c κs =
+    let n = c .before .before in
+    let p = after-put n in
+    let z = after-head-size p .head-size in
+    let a = start (after-head-size p) .args in
+    let h = a .head in
+    let s = a .list .now in
+    let t = put-stored Vvc s (z .result) (a .out .now) _ _ (p .put-after-head .ensures) (headWritten h) (serializeFull h s)
+    (z .ensures .0) (serialize-record h s) (headFits h) (headBytes h) (head-given h) _ (n .len .given .1) in
+    (t .0, t .1)
 
 enum-known-e : tie.Need-enum-known-e
 enum-known-e c = search needs
@@ -26,24 +47,42 @@ same-length : tie.Need-same-length
 same-length c = search needs
 
 returns : tie.Need-returns
-returns c = search needs
+returns c =
+    let w = c .before .before in
+    let n = w .before .before .before in
+    let p = after-put n in
+    let z = after-head-size p .head-size in
+    let a = start (after-head-size p) .args in
+    let h = a .head in
+    let s = a .list .now in
+    let t = put-stored Vvc s (z .result) (a .out .now) _ _ (p .put-after-head .ensures) (headWritten h) (serializeFull h s)
+    (z .ensures .0) (serialize-record h s) (headFits h) (headBytes h) (head-given h) _ (n .len .given .1) in
+    rw (w .put-head .ensures) (t .2)
+
+same-length-2 : tie.Need-same-length-2
+same-length-2 c = search needs
 
 returns-2 : tie.Need-returns-2
 returns-2 c =
-    let a = c .before .before .before .before .before .before .args in
+    let p = c .before .before .before .before .before in
+    let z = after-head-size p .head-size in
+    let a = start (after-head-size p) .args in
+    let h = a .head in
+    let s = a .list .now in
     let g = c .before .e .given in
-    written-refused (serializeFull (a .head) (a .list .now)) (a .out .now) _
-    (size-refused (a .head) (a .list .now) (serializeFull (a .head) (a .list .now)) (c .before .before .before .record-size .result)
-    (c .before .before .before .record-size .ensures) (g .0 .0) (g .1))
+    put-refused Vvc s (z .result) (a .out .now) _ _ (p .put-after-head .ensures) (headWritten h) (serializeFull h s)
+    (z .ensures .0) (serialize-record h s) (g .0 .0) (g .1)
 
 pub serialize-spec : {M : Type 1} → statement M
 serialize-spec =
     tie.close
     (tie.spec
-    record-size-requires
-    enum-known-c
-    put-full-requires
+    head-size-requires
+    put-after-head-requires
+    enum-known-len
+    put-head-requires
     enum-known-e
     same-length
     returns
+    same-length-2
     returns-2)

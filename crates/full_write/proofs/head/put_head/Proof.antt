@@ -47,9 +47,7 @@ returns c =
     let t = c .before .before .before .before in
     let pu = t .before .before .before in
     let h = head-part (start pu .args .h) (t .if1 .taken) in
-    let l = ap length h in
-    let p = c .before .before .put-ptl-part .ensures in
-    (omega (arith, p .0), p .1 ∙ rw (pu .put .ensures, pu .before .before .before .bit-of .ensures .0, h), omega (arith, p .2))
+    c .before .before .put-ptl-part .ensures ∙ rw (pu .put .ensures, pu .before .before .before .bit-of .ensures .0, h)
 
 same-length-2 : tie.Need-same-length-2
 same-length-2 c = search needs
@@ -58,8 +56,7 @@ returns-2 : tie.Need-returns-2
 returns-2 c =
     let pu = c .before .before .before in
     let h = head-plain (start pu .args .h) (c .if1 .left) in
-    let l = ap length h in
-    (omega arith, pu .put .ensures ∙ rw (pu .before .before .before .bit-of .ensures .0, h), omega arith)
+    pu .put .ensures ∙ rw (pu .before .before .before .bit-of .ensures .0, h)
 
 pub put-head-spec : {M : Type 1} → statement M
 put-head-spec =

@@ -50,9 +50,6 @@ put-picture-requires c κs =
     let l = length-part (g .args .h) in
     search needs
 
-add-result : tie.Need-add-result
-add-result c = search needs
-
 same-length : tie.Need-same-length
 same-length c = search needs
 
@@ -63,12 +60,8 @@ returns c =
     let pn = pu .before .before .before .before .before in
     let a = start pn .args in
     let p = pp .put-ptl .ensures in
-    let l = length-part (a .h) in (
-      omega (arith, p .0, l),
-      rw (c .before .before .put-picture .ensures, p .1, pu .put .ensures, pn .put-number .ensures, pn .before .before .word-of .ensures)
-          (part-stored (a .h) (a .out .now) (a .at) (pp .put-ptl .result) (p .0)),
-      omega (arith, p .2),
-    )
+    rw (c .before .before .put-picture .ensures, p .1, pu .put .ensures, pn .put-number .ensures, pn .before .before .word-of .ensures)
+    (part-stored (a .h) (a .out .now) (a .at) (pp .put-ptl .result) (p .0))
 
 pub put-ptl-part-spec : {M : Type 1} → statement M
 put-ptl-part-spec =
@@ -83,6 +76,5 @@ put-ptl-part-spec =
     add-put-ptl
     put-ptl-requires
     put-picture-requires
-    add-result
     same-length
     returns)

@@ -20,7 +20,7 @@ abbrev after-wide : (c : tie.After-put) → tie.After-wide
 after-wide c = c .before .before .before .before .before .before .before
 
 returns : tie.Need-returns
-returns c = let a = c .before .before .before .args in output-refused _ _ 1 (arrays-absent (a .«record» .now) (a .at) (c .if1 .taken))
+returns c = let a = c .before .before .before .args in output-refused _ _ 1 (arrays-absent (a .codec) (a .«record» .now) (a .at) (c .if1 .taken))
 
 shared-slice-read-wide : tie.Need-shared-slice-read-wide
 shared-slice-read-wide c = search needs
@@ -51,13 +51,13 @@ returns-2 c =
     let w = wi .wide in
     let k = c .before .before .arrays-room in
     output-refused _ _ 1
-    (arrays-refused (a .«record» .now) (a .at) (there wi) (w .result) (w .ensures .0) 1
+    (arrays-refused (a .codec) (a .«record» .now) (a .at) (there wi) (w .result) (w .ensures .0) 1
     (room-short _ _ _ (k .result) (k .ensures) (c .enum-told .given .1)))
 
 -- the arrays, measured
 found : (c : tie.After-known-told)
     → let wi = c .before .before .before .before in let a = start wi .args in RoomAt (a .«record» .now) (a .at + 1)
-    (roomTaken arraysInList (a .«record» .now) 0 (times (wi .wide .result) recordArray (a .«record» .now) (a .at + 1)))
+    (roomTaken arraysInList (a .«record» .now) 0 (times (wi .wide .result) (recordArray (a .codec)) (a .«record» .now) (a .at + 1)))
     (c .before .room .given .0 .0) (c .before .room .given .0 .1 .0)
 found c =
     let k = c .before .before .before .arrays-room in
@@ -71,7 +71,7 @@ returns-3 c =
     let wi = c .before .before .before .before .before in
     let a = start wi .args in
     let w = wi .wide in
-    list-too-long (a .«record» .now) (a .at) (there wi) (w .result) (w .ensures .0) _ _ (found (c .before) .read) _ (c .if2 .taken)
+    list-too-long (a .codec) (a .«record» .now) (a .at) (there wi) (w .result) (w .ensures .0) _ _ (found (c .before) .read) _ (c .if2 .taken)
 
 put-requires : tie.Need-put-requires
 put-requires c κs = search needs
@@ -87,7 +87,7 @@ put-arrays-requires c κs =
     let a = b .args in
     let w = wi .wide in (
       b .pre,
-      arrays-fit (a .«record» .now) (a .at) (there wi) (w .result) (w .ensures .0) _ _ (found (p .before .before .before) .read) (a .out .now)
+      arrays-fit (a .codec) (a .«record» .now) (a .at) (there wi) (w .result) (w .ensures .0) _ _ (found (p .before .before .before) .read) (a .out .now)
           (p .before .before .if2 .left) _ (p .put .ensures),
     )
 
@@ -100,7 +100,7 @@ returns-4 c =
     let wi = after-wide p in
     let a = start wi .args in
     let w = wi .wide in
-    list-given (a .«record» .now) (a .at) (there wi) (w .result) (w .ensures .0) _ _ (found (p .before .before .before) .read) _
+    list-given (a .codec) (a .«record» .now) (a .at) (there wi) (w .result) (w .ensures .0) _ _ (found (p .before .before .before) .read) _
     (p .before .before .if2 .left) _ _ (p .put .ensures) (c .before .before .put-arrays .ensures)
 
 pub read-list-spec : {M : Type 1} → statement M

@@ -16,7 +16,7 @@ returns : tie.Need-returns
 returns c = rw (sym (c .before .holds-one .ensures) ∙ c .if1 .taken)
 
 -- an array that has a count
-counted : (c : tie.Else1) → holdsOne (c .before .before .before .args .unit-type) ≡ false
+counted : (c : tie.Else1) → let a = c .before .before .before .args in holdsOne (a .codec) (a .unit-type) ≡ false
 counted c = sym (c .before .holds-one .ensures) ∙ c .if1 .left
 
 number-requires : tie.Need-number-requires

@@ -28,16 +28,17 @@ returns c =
     let a = c .before .before .before .before .args in
     let h = c .before .before .array-head in (
       sym (ap (roomTaken arrayInList (a .«record» .now) 0)
-          (array-refused (a .«record» .now) (a .at) 1 (head-short (a .«record» .now) (a .at) (h .result) (h .ensures) (c .enum-told .given .1)))),
+          (array-refused (a .codec) (a .«record» .now) (a .at) 1
+          (head-short (a .codec) (a .«record» .now) (a .at) (h .result) (h .ensures) (c .enum-told .given .1)))),
       tt,
     )
 
 -- the head of the array
 found : (c : tie.After-known-told) → let a = start c .args in
-    HeadAt (a .«record» .now) (a .at) (c .before .head .given .0 .0) (c .before .head .given .0 .1 .0)
+    HeadAt (a .codec) (a .«record» .now) (a .at) (c .before .head .given .0 .0) (c .before .head .given .0 .1 .0)
 found c =
     let h = c .before .before .before .array-head in
-    head-at _ _ (h .result) (h .ensures) _ _ (c .before .head .given .1)
+    head-at _ _ _ (h .result) (h .ensures) _ _ (c .before .head .given .1)
 
 units-room-requires : tie.Need-units-room-requires
 units-room-requires c κs = (start c .pre, found c .inside)
@@ -53,7 +54,7 @@ returns-2 c =
     let kt = c .before .before .before in
     let a = start kt .args in
     let u = c .before .before .units-room in (
-      array-room (a .«record» .now) (a .at) _ _ (found kt .read) (refused 1)
+      array-room (a .codec) (a .«record» .now) (a .at) _ _ (found kt .read) (refused 1)
           (room-short (a .«record» .now) _ _ (u .result) (u .ensures) (c .enum-told2 .given .1)),
       tt,
     )
@@ -68,8 +69,8 @@ units-at c =
     let u = c .before .before .before .units-room in
     room-at _ _ _ (u .result) (u .ensures) _ _ (c .before .room .given .1)
 
-add-t9 : tie.Need-add-t9
-add-t9 c = let r = units-at c in omega arith
+add-t10 : tie.Need-add-t10
+add-t10 c = let r = units-at c in omega arith
 
 returns-3 : tie.Need-returns-3
 returns-3 c =
@@ -77,7 +78,7 @@ returns-3 c =
     let a = start kt .args in
     let h = found kt in
     let r = units-at c in
-    (array-room (a .«record» .now) (a .at) _ _ (h .read) (value _ _) (r .read), (r .inside, omega arith))
+    (array-room (a .codec) (a .«record» .now) (a .at) _ _ (h .read) (value _ _) (r .read), (r .inside, omega arith))
 
 pub array-room-spec : {M : Type 1} → statement M
 array-room-spec =
@@ -91,5 +92,5 @@ array-room-spec =
     enum-known-room
     enum-told-2
     returns-2
-    add-t9
+    add-t10
     returns-3)

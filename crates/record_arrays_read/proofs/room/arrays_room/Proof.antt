@@ -13,12 +13,12 @@ use Rattle.record_arrays_read.proofs.room.arrays_room.Statement.{statem
 use Rattle.record_arrays_read.proofs.room.arrays_room.Tie as tie
 
 abbrev Inv-loop : tie.InvT-loop
-Inv-loop «record» from count left₀ at₀ room₀ left at room =
-    (at ≤ length «record») × (from * 6 + room ≤ at * 6) × (roomTaken arraysInList «record» room (times left recordArray «record» at)
-    ≡ roomTaken arraysInList «record» 0 (times count recordArray «record» from))
+Inv-loop codec «record» from count left₀ at₀ room₀ left at room =
+    (at ≤ length «record») × (from * 6 + room ≤ at * 6) × (roomTaken arraysInList «record» room (times left (recordArray codec) «record» at)
+    ≡ roomTaken arraysInList «record» 0 (times count (recordArray codec) «record» from))
 
 abbrev μ-loop : tie.MeasureT-loop
-μ-loop «record» from count left₀ at₀ room₀ left at room = left
+μ-loop codec «record» from count left₀ at₀ room₀ left at room = left
 
 loop-holds : tie.Need-loop-holds Inv-loop μ-loop
 loop-holds c = (omega arith, omega arith, refl)
@@ -35,11 +35,12 @@ enum-told c = search needs
 returns : tie.Need-returns Inv-loop μ-loop
 returns c =
     let l = c .before .before .before .before in
+    let k = recordArray (l .before .before .args .codec) in
     let s = l .before .before .args .«record» .now in
-    let k = c .before .before .array-room in
-    let e = room-refused arrayInList s (recordArray s (l .loop .at)) 1
-    (room-short s (l .loop .at) _ (k .result) (k .ensures) (c .enum-told .given .1)) in (
-      sym (ap (roomTaken arraysInList s (l .loop .room)) (times-refused recordArray arrayInList arraysInList arrays-none arrays-more s (l .loop .left)
+    let m = c .before .before .array-room in
+    let e = room-refused arrayInList s (k s (l .loop .at)) 1
+    (room-short s (l .loop .at) _ (m .result) (m .ensures) (c .enum-told .given .1)) in (
+      sym (ap (roomTaken arraysInList s (l .loop .room)) (times-refused k arrayInList arraysInList arrays-none arrays-more s (l .loop .left)
           (l .loop .at) (c .before .before .before .loop-test .taken) 1 e)) ∙ l .loop .inv .2,
       tt,
     )
@@ -47,7 +48,7 @@ returns c =
 -- the array that the turn measured
 found : (c : tie.After-known-told Inv-loop μ-loop)
     → RoomAt (c .before .before .before .before .before .before .before .args .«record» .now) (c .before .before .before .before .before .loop .at)
-    (roomTaken arrayInList (c .before .before .before .before .before .before .before .args .«record» .now) 0 (recordArray
+    (roomTaken arrayInList (c .before .before .before .before .before .before .before .args .«record» .now) 0 (recordArray (c .before .before .before .before .before .before .before .args .codec)
     (c .before .before .before .before .before .before .before .args .«record» .now) (c .before .before .before .before .before .loop .at)))
     (c .before .more .given .0 .0) (c .before .more .given .0 .1 .0)
 found c =
@@ -68,17 +69,18 @@ loop-again c =
     let t = found c in
     let l = c .before .before .before .before .before .loop in
     let m = room-found arrayInList (c .before .before .before .before .before .before .before .args .«record» .now)
-    (recordArray (c .before .before .before .before .before .before .before .args .«record» .now) (l .at)) _ _ (t .read) in (
+    (recordArray (c .before .before .before .before .before .before .before .args .codec)
+    (c .before .before .before .before .before .before .before .args .«record» .now) (l .at)) _ _ (t .read) in (
       t .inside,
       omega arith,
-      room-next recordArray arrayInList arraysInList arrays-none arrays-more _ (l .left) (l .at) (c .before .before .before .before .loop-test .taken)
+      room-next (recordArray _) arrayInList arraysInList arrays-none arrays-more _ (l .left) (l .at) (c .before .before .before .before .loop-test .taken)
           (m .what) _ (m .read) (l .room) _ (omega arith) ∙ l .inv .2,
     )
 
 returns-2 : tie.Need-returns-2 Inv-loop μ-loop
 returns-2 c =
     let l = c .before .loop in (
-      sym (room-done recordArray arrayInList arraysInList arrays-none arrays-more _ (l .room) (l .left) (l .at) (omega arith)) ∙ l .inv .2,
+      sym (room-done (recordArray _) arrayInList arraysInList arrays-none arrays-more _ (l .room) (l .left) (l .at) (omega arith)) ∙ l .inv .2,
       (omega arith, omega arith),
     )
 

@@ -8,24 +8,24 @@ use Rattle.record_arrays_write.proofs.measure.measure_array.Statement.{
 use Rattle.record_arrays_write.proofs.measure.measure_array.Tie as tie
 
 -- Earlier places of the function, each seen from a later one.
-abbrev start : (c : tie.After-first) → tie.Start
+abbrev start : (c : tie.After-complete) → tie.Start
 start c = c .before .before .before .before
 
-abbrev after-first : (c : tie.After-units) → tie.After-first
-after-first c = c .before .before .before .before
+abbrev after-complete : (c : tie.After-units) → tie.After-complete
+after-complete c = c .before .before .before .before
 
 array-step-requires : tie.Need-array-step-requires
 array-step-requires c κs = search needs
 
-enum-known-first : tie.Need-enum-known-first
-enum-known-first c = search needs
+enum-known-complete : tie.Need-enum-known-complete
+enum-known-complete c = search needs
 
 measure-units-requires : tie.Need-measure-units-requires
 measure-units-requires c κs =
     let f = c .before in
     let t = f .before .before .array-step in
     let a = start f .args in
-    let g = f .first .given in
+    let g = f .complete .given in
     entered (a .list .now) (a .c) (t .result) (t .ensures) (g .0 .0) (g .0 .1 .0) (g .1) .1 .fits
 
 enum-known-units : tie.Need-enum-known-units
@@ -39,22 +39,22 @@ returns c =
     let f = c .before .before .before .before in
     let t = f .before .before .array-step in
     let a = start f .args in
-    let g = f .first .given in
+    let g = f .complete .given in
     let m = c .before .before .measure-units in (
-      unread-measured (a .list .now) (a .c) (t .result) (t .ensures) (g .0 .0) (g .0 .1 .0) (g .1)
+      unread-measured (a .codec) (a .list .now) (a .c) (t .result) (t .ensures) (g .0 .0) (g .0 .1 .0) (g .1)
           (sym (ap measureOf (c .enum-told .given .1)) ∙ m .ensures .0),
       tt,
     )
 
 of-array-requires : tie.Need-of-array-requires
 of-array-requires c κs =
-    let f = after-first (c .before) in
+    let f = after-complete (c .before) in
     let t = f .before .before .array-step in
     let a = start f .args in
-    let g = f .first .given in
+    let g = f .complete .given in
     let m = c .before .before .before .measure-units in
     let u = c .before .units .given in
-    units-few (a .list .now) (a .c) (t .result) (t .ensures) (g .0 .0) (g .0 .1 .0) (g .1) (u .0 .0)
+    units-few (a .codec) (a .list .now) (a .c) (t .result) (t .ensures) (g .0 .0) (g .0 .1 .0) (g .1) (u .0 .0)
     (sym (ap measureOf (u .1)) ∙ m .ensures .0) (subst (UnitsWithin (g .0 .1 .0)) (u .1) (m .ensures .1))
 
 enum-told-2 : tie.Need-enum-told-2
@@ -66,37 +66,37 @@ enum-told-3 c = search needs
 returns-2 : tie.Need-returns-2
 returns-2 c =
     let un = c .before .before in
-    let f = after-first un in
+    let f = after-complete un in
     let t = f .before .before .array-step in
     let a = start f .args in
-    let g = f .first .given in
+    let g = f .complete .given in
     let m = un .before .before .measure-units in
     let u = un .units .given in
     let e = sym (ap measureOf (u .1)) ∙ m .ensures .0 in
     let w = subst (UnitsWithin (g .0 .1 .0)) (u .1) (m .ensures .1) in
     rw (c .of-array .ensures) (
-      array-measured (a .list .now) (a .c) (t .result) (t .ensures) (g .0 .0) (g .0 .1 .0) (g .1) (u .0 .0) e w,
-      array-takes (a .list .now) (a .c) (t .result) (t .ensures) (g .0 .0) (g .0 .1 .0) (g .1) (u .0 .0) e w,
+      array-measured (a .codec) (a .list .now) (a .c) (t .result) (t .ensures) (g .0 .0) (g .0 .1 .0) (g .1) (u .0 .0) e w,
+      array-takes (a .codec) (a .list .now) (a .c) (t .result) (t .ensures) (g .0 .0) (g .0 .1 .0) (g .1) (u .0 .0) e w,
     )
 
 returns-3 : tie.Need-returns-3
 returns-3 c =
     let t = c .before .before .array-step in
     let a = c .before .before .before .before .args in
-    (end-measured (a .list .now) (a .c) (t .result) (t .ensures) (c .enum-told2 .given .1), tt)
+    (end-measured (a .codec) (a .list .now) (a .c) (t .result) (t .ensures) (c .enum-told2 .given .1), tt)
 
 returns-4 : tie.Need-returns-4
 returns-4 c =
     let t = c .before .before .array-step in
     let a = c .before .before .before .before .args in
-    (malformed-measured (a .list .now) (a .c) (t .result) (t .ensures) (c .enum-told3 .given .1), tt)
+    (malformed-measured (a .codec) (a .list .now) (a .c) (t .result) (t .ensures) (c .enum-told3 .given .1), tt)
 
 pub measure-array-spec : {M : Type 1} → statement M
 measure-array-spec =
     tie.close
     (tie.spec
     array-step-requires
-    enum-known-first
+    enum-known-complete
     measure-units-requires
     enum-known-units
     enum-told

@@ -8,13 +8,13 @@ use Rattle.record_arrays_write.proofs.measure.measure_arrays.Statement.
 use Rattle.record_arrays_write.proofs.measure.measure_arrays.Tie as tie
 
 abbrev Inv-loop : tie.InvT-loop
-Inv-loop list c sum₀ here sum = MeasuringArrays list c here sum
+Inv-loop codec list c sum₀ here sum = MeasuringArrays codec list c here sum
 
 abbrev μ-loop : tie.MeasureT-loop
-μ-loop list c sum₀ here sum = length list - here .end
+μ-loop codec list c sum₀ here sum = length list - here .end
 
 loop-holds : tie.Need-loop-holds Inv-loop μ-loop
-loop-holds c = let b = c .before in arrays-start (b .args .list .now) (b .args .c) (b .pre)
+loop-holds c = let b = c .before in arrays-start (b .args .codec) (b .args .list .now) (b .args .c) (b .pre)
 
 measure-array-requires : tie.Need-measure-array-requires Inv-loop μ-loop
 measure-array-requires c κs = c .loop .inv .fits
@@ -28,7 +28,7 @@ add-requires c κs =
     let l = c .before .before .before .before .loop in
     let a = c .before .before .before .before .before .before .args in
     let g = c .before .m .given in
-    arrays-add (a .list .now) (a .c) (l .here) (l .sum) (l .inv) (t .result) (t .ensures) (g .0 .0) (g .0 .1 .0) (g .1)
+    arrays-add (a .codec) (a .list .now) (a .c) (l .here) (l .sum) (l .inv) (t .result) (t .ensures) (g .0 .0) (g .0 .1 .0) (g .1)
 
 loop-less : tie.Need-loop-less Inv-loop μ-loop
 loop-less c =
@@ -36,7 +36,7 @@ loop-less c =
     let l = c .before .before .before .before .before .loop in
     let a = c .before .before .before .before .before .before .before .args in
     let g = c .before .before .m .given in
-    arrays-less (a .list .now) (a .c) (l .here) (l .sum) (l .inv) (t .result) (t .ensures) (g .0 .0) (g .0 .1 .0) (g .1)
+    arrays-less (a .codec) (a .list .now) (a .c) (l .here) (l .sum) (l .inv) (t .result) (t .ensures) (g .0 .0) (g .0 .1 .0) (g .1)
 
 loop-again : tie.Need-loop-again Inv-loop μ-loop
 loop-again c =
@@ -45,7 +45,7 @@ loop-again c =
     let a = c .before .before .before .before .before .before .before .args in
     let g = c .before .before .m .given in
     rw (c .add .ensures)
-    (arrays-again (a .list .now) (a .c) (l .here) (l .sum) (l .inv) (t .result) (t .ensures) (g .0 .0) (g .0 .1 .0) (g .1))
+    (arrays-again (a .codec) (a .list .now) (a .c) (l .here) (l .sum) (l .inv) (t .result) (t .ensures) (g .0 .0) (g .0 .1 .0) (g .1))
 
 enum-told : tie.Need-enum-told Inv-loop μ-loop
 enum-told c = search needs
@@ -55,7 +55,7 @@ returns c =
     let t = c .before .before .measure-array in
     let l = c .before .before .before .loop in
     let a = c .before .before .before .before .before .args in
-    arrays-ended (a .list .now) (a .c) (l .here) (l .sum) (l .inv) (t .result) (t .ensures) (c .enum-told .given .1)
+    arrays-ended (a .codec) (a .list .now) (a .c) (l .here) (l .sum) (l .inv) (t .result) (t .ensures) (c .enum-told .given .1)
 
 enum-told-2 : tie.Need-enum-told-2 Inv-loop μ-loop
 enum-told-2 c = search needs
@@ -65,7 +65,7 @@ returns-2 c =
     let t = c .before .before .measure-array in
     let l = c .before .before .before .loop in
     let a = c .before .before .before .before .before .args in
-    (arrays-refused (a .list .now) (a .c) (l .here) (l .sum) (l .inv) (t .result) (t .ensures) (c .enum-told2 .given .1), tt)
+    (arrays-refused (a .codec) (a .list .now) (a .c) (l .here) (l .sum) (l .inv) (t .result) (t .ensures) (c .enum-told2 .given .1), tt)
 
 pub measure-arrays-spec : {M : Type 1} → statement M
 measure-arrays-spec =

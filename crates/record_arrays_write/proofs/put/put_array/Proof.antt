@@ -27,8 +27,8 @@ put-count-requires c κs =
     let b = start p in
     let a = b .args in (
       b .pre .2,
-      count-puts (a .list .now) (a .complete) (a .c .«unit_type») (arrayUnitsFrom (a .list .now) (a .c)) (a .out .now) (a .to) (b .pre .3) _
-          (p .before .before .array-byte .ensures) _ (p .put .ensures),
+      count-puts (a .codec) (a .list .now) (a .complete) (a .c .«unit_type») (arrayUnitsFrom (a .list .now) (a .c)) (a .out .now) (a .to)
+          (b .pre .3) _ (p .before .before .array-byte .ensures) _ (p .put .ensures),
     )
 
 put-units-requires : tie.Need-put-units-requires
@@ -38,8 +38,8 @@ put-units-requires c κs =
     let b = start p in
     let a = b .args in (
       b .pre .2,
-      units-puts (a .list .now) (a .complete) (a .c .«unit_type») (arrayUnitsFrom (a .list .now) (a .c)) (a .out .now) (a .to) (b .pre .3) _
-          (p .before .before .array-byte .ensures) _ (p .put .ensures) _ _ (pc .put-count .ensures),
+      units-puts (a .codec) (a .list .now) (a .complete) (a .c .«unit_type») (arrayUnitsFrom (a .list .now) (a .c)) (a .out .now) (a .to)
+          (b .pre .3) _ (p .before .before .array-byte .ensures) _ (p .put .ensures) _ _ (pc .put-count .ensures),
     )
 
 same-length : tie.Need-same-length
@@ -51,7 +51,7 @@ returns c =
     let p = after-put pc in
     let b = start p in
     let a = b .args in
-    array-stored (a .list .now) (a .complete) (a .c .«unit_type») (arrayUnitsFrom (a .list .now) (a .c)) (a .out .now) (a .to) (b .pre .3)
+    array-stored (a .codec) (a .list .now) (a .complete) (a .c .«unit_type») (arrayUnitsFrom (a .list .now) (a .c)) (a .out .now) (a .to) (b .pre .3)
     _ (p .before .before .array-byte .ensures) _ (p .put .ensures) _ _ (pc .put-count .ensures) _ _ (c .before .before .put-units .ensures)
 
 pub put-array-spec : {M : Type 1} → statement M

@@ -7,17 +7,17 @@ use Rattle.record_arrays_write.proofs.put.put_arrays.Statement.{stateme
 use Rattle.record_arrays_write.proofs.put.put_arrays.Tie as tie
 
 abbrev Inv-loop : tie.InvT-loop
-Inv-loop list out₀ to c next₀ out here next = PuttingArrays list c out₀ to here out next
+Inv-loop codec list out₀ to c next₀ out here next = PuttingArrays codec list c out₀ to here out next
 
 abbrev μ-loop : tie.MeasureT-loop
-μ-loop list out₀ to c next₀ out here next = length list - here .end
+μ-loop codec list out₀ to c next₀ out here next = length list - here .end
 
 -- Where the function starts, seen from a later place.
 abbrev start : (c : tie.After-complete Inv-loop μ-loop) → tie.Start Inv-loop μ-loop
 start c = c .before .before .before .before .before .before
 
 loop-holds : tie.Need-loop-holds Inv-loop μ-loop
-loop-holds c = let b = c .before .before in arrays-start (b .args .list .now) (b .args .c) (b .args .out .now) (b .args .to) (b .pre)
+loop-holds c = let b = c .before .before in arrays-start (b .args .codec) (b .args .list .now) (b .args .c) (b .args .out .now) (b .args .to) (b .pre)
 
 array-step-requires : tie.Need-array-step-requires Inv-loop μ-loop
 array-step-requires c κs = c .loop .inv .fits
@@ -33,7 +33,8 @@ returns c =
     let t = c .before .array-step in
     let l = c .before .before .loop in
     let a = c .before .before .before .before .before .args in
-    arrays-done (a .list .now) (a .c) (a .out .now) (a .to) (l .here) (l .out) (l .next) (l .inv) (t .result) (t .ensures) (c .match .keys2)
+    arrays-done (a .codec) (a .list .now) (a .c) (a .out .now) (a .to) (l .here) (l .out) (l .next) (l .inv) (t .result) (t .ensures)
+    (c .match .keys2)
 
 put-array-requires : tie.Need-put-array-requires Inv-loop μ-loop
 put-array-requires c κs =
@@ -42,7 +43,7 @@ put-array-requires c κs =
     let l = co .before .before .before .loop in
     let a = start co .args in
     let g = co .complete .given in
-    array-needs (a .list .now) (a .c) (a .out .now) (a .to) (l .here) (l .out) (l .next) (l .inv) (t .result) (t .ensures)
+    array-needs (a .codec) (a .list .now) (a .c) (a .out .now) (a .to) (l .here) (l .out) (l .next) (l .inv) (t .result) (t .ensures)
     (g .0 .0) (g .0 .1 .0) (g .1)
 
 loop-less : tie.Need-loop-less Inv-loop μ-loop
@@ -52,7 +53,7 @@ loop-less c =
     let l = co .before .before .before .loop in
     let a = start co .args in
     let g = co .complete .given in
-    arrays-less (a .list .now) (a .c) (a .out .now) (a .to) (l .here) (l .out) (l .next) (l .inv) (t .result) (t .ensures)
+    arrays-less (a .codec) (a .list .now) (a .c) (a .out .now) (a .to) (l .here) (l .out) (l .next) (l .inv) (t .result) (t .ensures)
     (g .0 .0) (g .0 .1 .0) (g .1)
 
 loop-again : tie.Need-loop-again Inv-loop μ-loop
@@ -62,7 +63,7 @@ loop-again c =
     let l = co .before .before .before .loop in
     let a = start co .args in
     let g = co .complete .given in
-    arrays-again (a .list .now) (a .c) (a .out .now) (a .to) (l .here) (l .out) (l .next) (l .inv) (t .result) (t .ensures)
+    arrays-again (a .codec) (a .list .now) (a .c) (a .out .now) (a .to) (l .here) (l .out) (l .next) (l .inv) (t .result) (t .ensures)
     (g .0 .0) (g .0 .1 .0) (g .1)
     _ _ (c .before .before .put-array .ensures)
 

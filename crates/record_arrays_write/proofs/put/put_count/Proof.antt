@@ -21,7 +21,7 @@ holds-one-requires c κs = search needs
 returns : tie.Need-returns
 returns c =
     let a = c .before .before .before .before .args in
-    let e = count-none (a .list .now) (a .c .«unit_type») (arrayUnitsFrom (a .list .now) (a .c))
+    let e = count-none (a .codec) (a .list .now) (a .c .«unit_type») (arrayUnitsFrom (a .list .now) (a .c))
     (sym (c .before .holds-one .ensures) ∙ c .if1 .taken) in
     rw e (omega arith, refl)
 
@@ -38,7 +38,7 @@ returns-2 : tie.Need-returns-2
 returns-2 c =
     let b = start (c .before .before) in
     let a = b .args in
-    absurd (count-never (a .list .now) (a .c .«unit_type») (arrayUnitsFrom (a .list .now) (a .c)) (a .out .now) (a .to) 21 (b .pre .1)
+    absurd (count-never (a .codec) (a .list .now) (a .c .«unit_type») (arrayUnitsFrom (a .list .now) (a .c)) (a .out .now) (a .to) 21 (b .pre .1)
     (sym (ap measureOf (c .enum-told .given .1)) ∙ c .before .before .measure-units .ensures .0))
 
 put-number-requires : tie.Need-put-number-requires
@@ -47,10 +47,11 @@ put-number-requires c κs =
     let b = start mu in
     let a = b .args in
     let u = c .before .before .units .given in
-    let e = count-two (a .list .now) (a .c .«unit_type») (arrayUnitsFrom (a .list .now) (a .c))
+    let e = count-two (a .codec) (a .list .now) (a .c .«unit_type») (arrayUnitsFrom (a .list .now) (a .c))
     (sym (mu .before .before .holds-one .ensures) ∙ mu .before .if1 .left) (u .0 .0) (sym (ap measureOf (u .1)) ∙ mu .measure-units .ensures .0) in
     let l = ap length e ∙ length-toBe 2 (u .0 .0 .count) in
-    let r = put-room (countBytes (a .list .now) (a .c .«unit_type»)) (arrayUnitsFrom (a .list .now) (a .c)) (a .out .now) (a .to) (b .pre .1) in
+    let r = put-room (countBytes (a .codec) (a .list .now) (a .c .«unit_type»)) (arrayUnitsFrom (a .list .now) (a .c)) (a .out .now) (a .to)
+    (b .pre .1) in
     (omega arith, omega arith)
 
 add-result : tie.Need-add-result
@@ -65,7 +66,7 @@ returns-3 c =
     let mu = un .before .before in
     let a = start mu .args in
     let u = un .units .given in
-    let e = count-two (a .list .now) (a .c .«unit_type») (arrayUnitsFrom (a .list .now) (a .c))
+    let e = count-two (a .codec) (a .list .now) (a .c .«unit_type») (arrayUnitsFrom (a .list .now) (a .c))
     (sym (mu .before .before .holds-one .ensures) ∙ mu .before .if1 .left) (u .0 .0) (sym (ap measureOf (u .1)) ∙ mu .measure-units .ensures .0) in
     let l = ap length e ∙ length-toBe 2 (u .0 .0 .count) in
     (omega arith, rw e (c .before .before .put-number .ensures))

@@ -7,6 +7,7 @@ use lib.ListN.{length, getD}
 use borrow.Author.Needs.{needs}
 use Rattle.parse.specs.Parse.{times, outcome}
 use Rattle.record_arrays.specs.Read.{recordArray}
+use Rattle.record_arrays.specs.declared.Codec.the-variants.{Vvc}
 use Rattle.record_arrays_read.specs.inner.Arrays.{arrayInList}
 use Rattle.record_arrays_read.proofs.Repeated.{room-found, room-refused, room-short, room-at}
 use Rattle.full.specs.Rules.{arrayReserved, arrayTyped, arrayByte}
@@ -40,7 +41,7 @@ returns c =
     let l = c .before .before .before .before in
     let s = l .before .before .args .«record» .now in
     let k = c .before .before .array-room in
-    let e = room-refused arrayInList s (recordArray s (l .loop .at)) 1
+    let e = room-refused arrayInList s (recordArray Vvc s (l .loop .at)) 1
     (room-short s (l .loop .at) _ (k .result) (k .ensures) (c .enum-told .given .1)) in
     sym (tested-short s (l .loop .reserved) (l .loop .typed) (l .loop .left) (l .loop .at) (c .before .before .before .loop-test .taken) 1 e)
     ∙ l .loop .inv .1
@@ -67,7 +68,7 @@ loop-again c =
     let l = e .before .before .before .before .loop in
     let s = e .before .before .before .before .before .before .args .«record» .now in
     let t = room-at s (l .at) _ (k .result) (k .ensures) _ _ (e .ends .given .1) in
-    let m = room-found arrayInList s (recordArray s (l .at)) _ _ (t .read) in
+    let m = room-found arrayInList s (recordArray Vvc s (l .at)) _ _ (t .read) in
     let b = c .before .before .byte .ensures in
     let r = c .before .array-reserved .ensures ∙ ap (λ (n : ℕ). l .reserved && arrayReserved n) b in
     let y = c .array-typed .ensures ∙ ap (λ (n : ℕ). l .typed && arrayTyped n) b in

@@ -1,4 +1,4 @@
--- The arrays of a full record that were read, written again: units, one array, arrays one after another.
+-- The arrays of a full record that were read, written again: units, one array, arrays one after another. The record is VVC's or HEVC's.
 use Prim.Native.Nat.{ℕ, zero, suc, _+_, _*_, _/_, _%_, _^_, _≤_, _<_}
 use mathlib.Core.Path.{_≡_, refl, ap, _∙_, subst}
 use mathlib.Core.Bool.{Bool, true, false}
@@ -9,7 +9,7 @@ use lib.Dec.{eqb}
 use lib.ListN.{length, getD, length-append, length-map}
 use borrow.Author.Tests.{le-leb, eq-eqb, eqb-true}
 use Rattle.parse.specs.Logic.{if_then_else_}
-use Rattle.parse.specs.Parse.{value, give, times}
+use Rattle.parse.specs.Parse.{value, Parser, _>>=_, _>>_, give, times}
 use Rattle.parse.proofs.Gives.{Gives, gives-value, gives-bind, with-read}
 use Rattle.parse.proofs.Many.{times-step}
 use Rattle.boxes.specs.Bytes.{be, toBe, uint, chunk, toChunk, AllBytes}
@@ -23,23 +23,48 @@ use Rattle.unit_list.specs.UnitList.{Array, largestType, encodeUnits, heldArray
 use Rattle.unit_list.proofs.Arrays.{Sound, sound-none, sound-more}
 use Rattle.unit_list.proofs.Encode.{length-toChunk}
 use Rattle.ptl_record.proofs.Standing.{Stands}
-use Rattle.record_arrays.specs.Read.{holdsOne, recordArray}
-use Rattle.record_arrays.specs.Write.{arrayBytes, arraysBytes, unitsFit, arrayFits, arraysFit}
-use Rattle.full.specs.Rules.{arrayReserved, arrayByte, all}
+use Rattle.record_arrays.specs.Read.{reservedIn, typeIn, holdsOne, recordArray}
+use Rattle.record_arrays.specs.Write.{arrayBytes, arraysBytes, unitsFit, firstFits, arrayFits, arraysFit}
+use Rattle.record_arrays.specs.declared.Codec.{Codec}
+use Rattle.record_arrays.specs.declared.Codec.the-variants.{Vvc, Hevc}
+use Rattle.full.specs.Rules.{arrayReserved, peek, arrayByte, all}
 use Rattle.rewritten.proofs.Parts.{Rewrites, stands-none, stands-join, stands-part, stands-number}
 use Rattle.rewritten.proofs.Parts.{rewrites-same, rewrites-byte, rewrites-append, rewrites-then}
 
--- arrays that were read of s from place p to q
-pub record ArraysAgain (s : List ℕ) (n p : ℕ) (xs : List (Array Span)) (q : ℕ) : Type 0 where
-  pub starts : List ℕ  -- the bytes that the arrays begin with
-  pub read : times n arrayByte s p ≡ value starts q
-  pub counted : length (heldArrays s xs) ≡ n
-  pub fits : arraysFit (heldArrays s xs) ≡ true
-  pub sound : Sound xs
-  pub next : q ≡ p + length (arraysBytes (heldArrays s xs))
-  pub same : Rewrites s p (arraysBytes (heldArrays s xs)) (all arrayReserved starts)
+-- an array's first byte is written as it was: HEVC's always, VVC's exactly when its reserved bits are 0
+abbrev pub firstKept : Codec → ℕ → Bool
+firstKept Vvc b = arrayReserved b
+firstKept Hevc b = true
 
-module _ (s : List ℕ) where
+-- the byte that an array begins with; the array is read to its end
+unfoldable pub startByte : Codec → Parser ℕ
+startByte k = do
+  b ← peek
+  recordArray k
+  give b
+
+-- VVC's is that of strict reading
+pub starts-vvc : (n : ℕ) (s : List ℕ) (p : ℕ) → times n (startByte Vvc) s p ≡ times n arrayByte s p
+unfolding startByte arrayByte
+starts-vvc n s p = refl
+
+-- every byte that an HEVC record's array begins with is written as it was
+pub all-hevc : (bs : List ℕ) → all (firstKept Hevc) bs ≡ true
+unfolding all
+all-hevc [] = refl
+all-hevc (b ∷ bs) = all-hevc bs
+
+-- arrays that were read of s from place p to q
+pub record ArraysAgain (k : Codec) (s : List ℕ) (n p : ℕ) (xs : List (Array Span)) (q : ℕ) : Type 0 where
+  pub starts : List ℕ  -- the bytes that the arrays begin with
+  pub read : times n (startByte k) s p ≡ value starts q
+  pub counted : length (heldArrays s xs) ≡ n
+  pub fits : arraysFit k (heldArrays s xs) ≡ true
+  pub sound : Sound xs
+  pub next : q ≡ p + length (arraysBytes k (heldArrays s xs))
+  pub same : Rewrites s p (arraysBytes k (heldArrays s xs)) (all (firstKept k) starts)
+
+module _ (k : Codec) (s : List ℕ) where
   module _ (areBytes : AllBytes s) where
     -- ---- units
 
@@ -59,7 +84,7 @@ module _ (s : List ℕ) where
             let c = chunk-read w s p a q e in
             let i : a .start + a .len ≤ length s = omega (arith, c) in
             let n : length (held s a) ≡ be s p w = held-long s a i ∙ c .len in
-            let t = subst (λ (k : ℕ). Stands s k (held s a)) (c .start) (stands-part s (a .start) (a .len) i) in
+            let t = subst (λ (i : ℕ). Stands s i (held s a)) (c .start) (stands-part s (a .start) (a .len) i) in
             record {
               fits = rw n (be-below s p w areBytes);
               next = omega (arith, length-toChunk w (held s a), c);
@@ -118,32 +143,48 @@ module _ (s : List ℕ) where
               same = rw (u .is) (stands-number s areBytes 2 p (omega (arith, u .next, u .inside)));
             }
 
-    -- an array's first byte is written as it was exactly when its reserved bits are 0
-    first-again : (p : ℕ) → p < length s → Rewrites s p ((getD s p 0 / 128 * 128 + getD s p 0 % 32) ∷ []) (arrayReserved (getD s p 0))
-    first-again p h =
-        let b = areBytes p in
-        rewrites-byte s p _ _ h (λ e. let z = eqb-true (getD s p 0 / 32 % 4) 0 e in omega arith)
-        (λ e. let q : getD s p 0 / 32 ≡ 4 * (getD s p 0 / 128) = omega arith in eq-eqb (getD s p 0 / 32 % 4) 0 (rw q (mul-mod-right 4 _)))
+    -- the first byte that is written for an array that begins with b
+    abbrev firstAgain : ℕ → ℕ
+    firstAgain b = b / 128 * 128 + reservedIn k b * 64 + typeIn k b
+
+    -- it is b exactly when `firstKept` holds
+    first-kept : (k : Codec) (b : ℕ) → b < 256
+        → (firstKept k b ≡ true → b ≡ b / 128 * 128 + reservedIn k b * 64 + typeIn k b)
+        × (b ≡ b / 128 * 128 + reservedIn k b * 64 + typeIn k b → firstKept k b ≡ true)
+    first-kept Vvc b h = (
+      λ e. let z = eqb-true (b / 32 % 4) 0 e in omega arith,
+      λ e. let q : b / 32 ≡ 4 * (b / 128) = omega arith in eq-eqb (b / 32 % 4) 0 (rw q (mul-mod-right 4 _)),
+    )
+    first-kept Hevc b h = (λ e. omega arith, λ e. refl)
+
+    first-again : (p : ℕ) → p < length s → Rewrites s p (firstAgain (getD s p 0) ∷ []) (firstKept k (getD s p 0))
+    first-again p h = let f = first-kept k (getD s p 0) (areBytes p) in rewrites-byte s p _ _ h (f .0) (f .1)
+
+    -- the fields of a first byte fit it
+    first-fits : (k : Codec) (b : ℕ) → (firstFits k (reservedIn k b) (typeIn k b) ≡ true) × (reservedIn k b ≤ 1) × (typeIn k b ≤ largestType)
+    first-fits Vvc b = (le-leb (b % 32) 31 (omega arith), omega arith, omega arith)
+    first-fits Hevc b = (refl, omega arith, omega arith)
 
     -- an array that was read of s from place p to q
     record ArrayAgain (p : ℕ) (a : Array Span) (q : ℕ) : Type 0 where
       one : a .complete ≤ 1
+      bit : a .reservedBit ≤ 1
       small : a .unitType ≤ largestType
-      fits : arrayFits (heldArray s a) ≡ true
-      next : q ≡ p + length (arrayBytes (heldArray s a))
-      same : Rewrites s p (arrayBytes (heldArray s a)) (arrayReserved (getD s p 0))
+      fits : arrayFits k (heldArray s a) ≡ true
+      next : q ≡ p + length (arrayBytes k (heldArray s a))
+      same : Rewrites s p (arrayBytes k (heldArray s a)) (firstKept k (getD s p 0))
 
     -- an array of the byte at p, a number of units and units
     module _ (p q n r : ℕ) (us : List Span) (z : ℕ) (h : p < length s) (after : q ≡ p + 1) where
       abbrev arrayOf : Array Span
-      arrayOf = record { complete = getD s p 0 / 128; unitType = getD s p 0 % 32; units = us }
+      arrayOf = record { complete = getD s p 0 / 128; reservedBit = reservedIn k (getD s p 0); unitType = typeIn k (getD s p 0); units = us }
 
       abbrev firstPart : List ℕ
-      firstPart = (getD s p 0 / 128 * 128 + getD s p 0 % 32) ∷ []
+      firstPart = firstAgain (getD s p 0) ∷ []
 
       -- its bytes, one part after another
       parts-again : (c : Bool) → CountAgain c q n r → UnitsAgain n r us z
-          → Rewrites s p (firstPart ++ countBytes c n ++ encodeUnits 2 (map (held s) us)) (arrayReserved (getD s p 0))
+          → Rewrites s p (firstPart ++ countBytes c n ++ encodeUnits 2 (map (held s) us)) (firstKept k (getD s p 0))
       parts-again c d v =
           let l = length-append firstPart (countBytes c n) in
           let m : r ≡ p + length (firstPart ++ countBytes c n) = omega (arith, d .next) in
@@ -151,39 +192,41 @@ module _ (s : List ℕ) where
           (rewrites-then s p firstPart (countBytes c n) _ (first-again p h) (rw after at (d .same))) (rw m at (v .same))
 
       -- it is such an array
-      array-made : CountAgain (holdsOne (getD s p 0 % 32)) q n r → UnitsAgain n r us z → ArrayAgain p arrayOf z
+      array-made : CountAgain (holdsOne k (typeIn k (getD s p 0))) q n r → UnitsAgain n r us z → ArrayAgain p arrayOf z
       unfolding arrayBytes arrayFits
       array-made d v =
           let m : length (map (held s) us) ≡ n = length-map us (held s) ∙ v .counted in
+          let f = first-fits k (getD s p 0) in
           record {
             one = omega (arith, areBytes p);
-            small = omega arith;
-            fits = rw (m, le-leb n 65535 (d .few), v .fits) (d .one);
+            bit = f .1;
+            small = f .2;
+            fits = rw (m, le-leb n 65535 (d .few), v .fits, d .one) (f .0);
             next =
-                rw m (omega (arith, length-append (countBytes (holdsOne (getD s p 0 % 32)) n) (encodeUnits 2 (map (held s) us)), d .next, v .next));
-            same = rw m (parts-again (holdsOne (getD s p 0 % 32)) d v);
+                rw m (omega (arith, length-append (countBytes (holdsOne k (typeIn k (getD s p 0))) n) (encodeUnits 2 (map (held s) us)), d .next, v .next));
+            same = rw m (parts-again (holdsOne k (typeIn k (getD s p 0))) d v);
           }
 
     -- what is read by `recordArray` is such an array
-    array-again : (p : ℕ) → Gives (recordArray s p) (ArrayAgain p)
+    array-again : (p : ℕ) → Gives (recordArray k s p) (ArrayAgain p)
     unfolding recordArray
     array-again p =
         gives-bind (uint 1 s p) _ (gives-uint s 1 p) (λ b q u.
         let e : b ≡ getD s p 0 = u .is ∙ be-one s p in
-        rw e (gives-bind ((if holdsOne (getD s p 0 % 32) then give 1 else uint 2) s q) _
-        (count-again (holdsOne (getD s p 0 % 32)) q (u .inside)) (λ n r c.
+        rw e (gives-bind ((if holdsOne k (typeIn k (getD s p 0)) then give 1 else uint 2) s q) _
+        (count-again (holdsOne k (typeIn k (getD s p 0))) q (u .inside)) (λ n r c.
         gives-bind (times n (chunk 2) s r) _ (units-again n r (omega (arith, c .next, c .same .room))) (λ us z v.
         gives-value _ z (array-made p q n r us z (omega (arith, u .next, u .inside)) (u .next) c v)))))
 
     -- ---- arrays
 
     -- the byte that an array begins with, where the array is read
-    array-byte : (p : ℕ) (a : Array Span) (q : ℕ) → recordArray s p ≡ value a q → arrayByte s p ≡ value (getD s p 0) q
-    unfolding arrayByte
+    array-byte : (p : ℕ) (a : Array Span) (q : ℕ) → recordArray k s p ≡ value a q → startByte k s p ≡ value (getD s p 0) q
+    unfolding startByte
     array-byte p a q e = rw e
 
     -- no arrays
-    none-again : (p : ℕ) → p ≤ length s → ArraysAgain s 0 p [] p
+    none-again : (p : ℕ) → p ≤ length s → ArraysAgain k s 0 p [] p
     unfolding times all arraysBytes arraysFit
     none-again p h = record {
       starts = [];
@@ -196,26 +239,26 @@ module _ (s : List ℕ) where
     }
 
     -- an array before others
-    more-again : (n p : ℕ) (a : Array Span) (q : ℕ) (xs : List (Array Span)) (r : ℕ) → recordArray s p ≡ value a q → ArrayAgain p a q
-        → ArraysAgain s n q xs r → ArraysAgain s (suc n) p (a ∷ xs) r
+    more-again : (n p : ℕ) (a : Array Span) (q : ℕ) (xs : List (Array Span)) (r : ℕ) → recordArray k s p ≡ value a q → ArrayAgain p a q
+        → ArraysAgain k s n q xs r → ArraysAgain k s (suc n) p (a ∷ xs) r
     unfolding all arraysBytes arraysFit
     more-again n p a q xs r e w v =
-        let l = length-append (arrayBytes (heldArray s a)) (arraysBytes (heldArrays s xs)) in
+        let l = length-append (arrayBytes k (heldArray s a)) (arraysBytes k (heldArrays s xs)) in
         record {
           starts = getD s p 0 ∷ v .starts;
-          read = times-step arrayByte s n p (getD s p 0) q (array-byte p a q e) ∙ rw (v .read);
+          read = times-step (startByte k) s n p (getD s p 0) q (array-byte p a q e) ∙ rw (v .read);
           counted = ap suc (v .counted);
           fits = rw (w .fits) (v .fits);
-          sound = sound-more (w .one) (w .small) (v .sound);
+          sound = sound-more (w .one) (w .bit) (w .small) (v .sound);
           next = omega (arith, w .next, v .next);
-          same = rewrites-append s p (arrayBytes (heldArray s a)) (arraysBytes (heldArrays s xs)) _ _ (w .same) (rw (w .next) at (v .same));
+          same = rewrites-append s p (arrayBytes k (heldArray s a)) (arraysBytes k (heldArrays s xs)) _ _ (w .same) (rw (w .next) at (v .same));
         }
 
 -- n arrays that are read from place p on, written again
-pub arrays-again : (s : List ℕ) → AllBytes s → (n p : ℕ) → p ≤ length s → Gives (times n recordArray s p) (ArraysAgain s n p)
+pub arrays-again : (k : Codec) (s : List ℕ) → AllBytes s → (n p : ℕ) → p ≤ length s → Gives (times n (recordArray k) s p) (ArraysAgain k s n p)
 unfolding times
-arrays-again s areBytes zero p h = gives-value [] p (none-again s areBytes p h)
-arrays-again s areBytes (suc n) p h =
-    gives-bind (recordArray s p) _ (with-read _ (array-again s areBytes p)) (λ a q b.
-    gives-bind (times n recordArray s q) _ (arrays-again s areBytes n q (omega (arith, b .1 .next, b .1 .same .room))) (λ xs r v.
-    gives-value (a ∷ xs) r (more-again s areBytes n p a q xs r (b .0) (b .1) v)))
+arrays-again k s areBytes zero p h = gives-value [] p (none-again k s areBytes p h)
+arrays-again k s areBytes (suc n) p h =
+    gives-bind (recordArray k s p) _ (with-read _ (array-again k s areBytes p)) (λ a q b.
+    gives-bind (times n (recordArray k) s q) _ (arrays-again k s areBytes n q (omega (arith, b .1 .next, b .1 .same .room))) (λ xs r v.
+    gives-value (a ∷ xs) r (more-again k s areBytes n p a q xs r (b .0) (b .1) v)))

@@ -9,6 +9,7 @@ use lib.ListN.{length, getD, length-append}
 use borrow.Author.Tests.{le-leb, eq-eqb, ne-eqb, eqb-true, eqb-false}
 use Rattle.parse.specs.Logic.{if_then_else_, bit}
 use Rattle.parse.specs.Parse.{Parsed, bind, give, refuseIf}
+use Rattle.parse.proofs.General.{bit-flag}
 use Rattle.parse.proofs.Gives.{Gives, gives-value, gives-refused, gives-bind}
 use Rattle.boxes.specs.Bytes.{be, toBe, uint, outside, AllBytes}
 use Rattle.boxes.proofs.Gives.{gives-uint}
@@ -25,7 +26,7 @@ use Rattle.full.specs.declared.VvcConfig.{VvcConfig}
 use Rattle.full.proofs.HeadRoundTrip.{length-part}
 use Rattle.rewritten.proofs.Parts.{Rewrites, stands-number, stands-none, rewrites-same, rewrites-byte}
 use Rattle.rewritten.proofs.Parts.{rewrites-append, rewrites-then, rewrites-after}
-use Rattle.rewritten.proofs.Ptl.{PtlAgain, ptl-again, bit-isSet}
+use Rattle.rewritten.proofs.Ptl.{PtlAgain, ptl-again}
 
 -- a head h that was read of s, up to q: it fits, and its bytes lie there exactly when its reserved bits are the standard's
 pub record HeadAgain (s : List ℕ) (h : VvcConfig) (q : ℕ) : Type 0 where
@@ -57,7 +58,7 @@ module _ (s : List ℕ) (all : AllBytes s) where
   first-same : 0 < length s → (t : Bool) → isSet (b % 2) ≡ t → Rewrites s 0 ((248 + (size - 1) * 2 + bit t) ∷ []) first
   first-same some t e =
       let c = all 0 in
-      let o : bit t ≡ b % 2 = ap bit (sym e) ∙ bit-isSet (b % 2) (omega arith) in
+      let o : bit t ≡ b % 2 = ap bit (sym e) ∙ bit-flag (b % 2) (omega arith) in
       rewrites-byte s 0 (248 + (size - 1) * 2 + bit t) first some
       (λ k. let g = eqb-true (b / 8) 31 k in omega arith) (λ k. eq-eqb (b / 8) 31 (omega arith))
 

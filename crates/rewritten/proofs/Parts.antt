@@ -10,13 +10,26 @@ use lib.Seq.{getD-append-add, getD-take, getD-drop, length-take-le}
 use Rattle.parse.proofs.General.{both-true}
 use Rattle.boxes.specs.Bytes.{be, toBe, AllBytes}
 use Rattle.boxes.proofs.Numbers.{length-toBe}
-use Rattle.ptl_record.proofs.Standing.{Stands, stands-left, stands-right, stands-head}
+use Rattle.ptl_record.proofs.Standing.{Stands, stands-left, stands-right, stands-head, stands-take}
 
 -- xs, written for what was read of s at p, lies there exactly when ok holds
 pub record Rewrites (s : List ℕ) (p : ℕ) (xs : List ℕ) (ok : Bool) : Type 0 where
   pub room : p + length xs ≤ length s
   pub kept : ok ≡ true → Stands s p xs
   pub only : Stands s p xs → ok ≡ true
+
+-- bytes that lie at the front of s are the first bytes of s
+pub front-taken : (s xs : List ℕ) (n : ℕ) → length xs ≡ n → Stands s 0 xs → xs ≡ take n s
+front-taken s xs n l st = sym (stands-take s 0 xs st) ∙ ap (λ (k : ℕ). take k s) l
+
+-- the first bytes of s lie at its front
+pub taken-front : (s xs : List ℕ) (n : ℕ) → length xs ≡ n → 0 + length xs ≤ length s → xs ≡ take n s → Stands s 0 xs
+taken-front s xs n l h e = record { room = h; same = at }
+  where
+    at : (k : ℕ) → k < length xs → getD s (0 + k) 0 ≡ getD xs k 0
+    at k j =
+        let z : 0 + k ≡ k = omega arith in
+        rw z (sym (getD-take n s k 0 (omega arith)) ∙ ap (λ (ys : List ℕ). getD ys k 0) (sym e))
 
 module _ (s : List ℕ) where
   -- bytes that lie one after another lie there together

@@ -8,10 +8,10 @@ use native.Mathlib.Decide.{decLe}
 use lib.Dec.{ltb, eqb}
 use lib.ListN.{length, getD, take, drop, replicate, length-append, length-drop, List·getD-append}
 use lib.Seq.{length-take-le, getD-at}
-use borrow.Author.Tests.{le-leb, lt-ltb, ltb-true, ltb-false, eq-eqb, ne-eqb, eqb-true, eqb-false}
+use borrow.Author.Tests.{le-leb, lt-ltb, ltb-true, ltb-false, eq-eqb, ne-eqb, eqb-true}
 use Rattle.parse.specs.Logic.{if_then_else_, bit}
 use Rattle.parse.specs.Parse.{value}
-use Rattle.parse.proofs.General.{if-elim}
+use Rattle.parse.proofs.General.{if-elim, bit-flag}
 use Rattle.parse.proofs.Gives.{Gives, gives-value, gives-refused}
 use Rattle.boxes.specs.Bytes.{be, toBe, uint, AllBytes}
 use Rattle.boxes.proofs.Gives.{gives-uint}
@@ -34,14 +34,6 @@ use Rattle.full.specs.Rules.{flagsReserved}
 use Rattle.rewritten.proofs.Parts.{Rewrites, stands-join, stands-byte, stands-number, stands-none, stands-part}
 use Rattle.rewritten.proofs.Parts.{rewrites-same, rewrites-byte, rewrites-append, rewrites-then}
 
--- a bit, read as a flag and written as a number
-pub bit-isSet : (n : ℕ) → n ≤ 1 → bit (isSet n) ≡ n
-bit-isSet n h = go (isSet n) refl
-  where
-    go : (t : Bool) → isSet n ≡ t → bit t ≡ n
-    go true e = sym (eqb-true n 1 e)
-    go false e = let d = eqb-false n 1 e in omega arith
-
 -- ---- the constraint bytes
 
 -- the two flags are put back where they were taken from
@@ -50,7 +42,7 @@ flags-restored : (p : VvcPtlRecord) (xs : List ℕ) → getD xs 0 0 < 256 → p 
 unfolding withFlags withoutFlags
 flags-restored p [] h a b = refl
 flags-restored p (x ∷ xs) h a b =
-    rw (a, b, bit-isSet (x / 128) (omega arith), bit-isSet (x / 64 % 2) (omega arith)) (ap (λ (y : ℕ). y ∷ xs) (omega arith))
+    rw (a, b, bit-flag (x / 128) (omega arith), bit-flag (x / 64 % 2) (omega arith)) (ap (λ (y : ℕ). y ∷ xs) (omega arith))
 
 -- ---- the sub-profiles
 
@@ -162,7 +154,7 @@ module _ (s : List ℕ) (all : AllBytes s) (p : VvcPtlRecord) where
 
     -- the same as a number
     bit-top : bit (hasLevel p m) ≡ f / 128
-    bit-top = ap bit has-top ∙ bit-isSet (f / 128) (omega (arith, ls .byte))
+    bit-top = ap bit has-top ∙ bit-flag (f / 128) (omega (arith, ls .byte))
 
     -- its level
     idc-top : getD (p .«sublayer_level_idc») m 0 ≡ levelIf (f / 128) s q
@@ -324,7 +316,7 @@ module _ (s : List ℕ) (all : AllBytes s) (sublayers at : ℕ) (few : sublayers
     front-again : Rewrites s at (frontBytes read) ok
     front-again =
         let f = from-near in
-        let b = bit-isSet (getD s (at + 1) 0 % 2) (omega arith) in
+        let b = bit-flag (getD s (at + 1) 0 % 2) (omega arith) in
         let byte : Rewrites s at (length (constraintInfo read) ∷ []) ok =
         rewrites-byte s at (length (constraintInfo read)) ok (omega arith)
         (λ d. let z = eqb-true (getD s at 0 / 64) 0 d in omega (arith, info-count))

@@ -1,12 +1,11 @@
 -- A full record that was read, written again: the claims of specs/Rewritten.antt.
-use Prim.Native.Nat.{ℕ, _+_, _^_, _≤_, _<_}
-use mathlib.Core.Path.{_≡_, refl, sym, ap, _∙_}
+use Prim.Native.Nat.{ℕ, _+_, _^_, _≤_}
+use mathlib.Core.Path.{_≡_, refl, sym, _∙_}
 use mathlib.Core.Bool.{Bool, true, false}
 use mathlib.Core.List.{List, [], _∷_, _++_}
 use native.Mathlib.Omega.{arith}
 use lib.Dec.{eqb}
 use lib.ListN.{length, getD, take, length-append}
-use lib.Seq.{getD-take}
 use borrow.Author.Tests.{le-leb}
 use Rattle.parse.specs.Outcome.{accept, refuse}
 use Rattle.parse.specs.Parse.{value, times}
@@ -19,9 +18,10 @@ use Rattle.unit_list.specs.UnitList.{Array, encode, heldArrays}
 use Rattle.unit_list.proofs.Accepted.{sound-held}
 use Rattle.unit_list.proofs.Arrays.{Sound}
 use Rattle.unit_list.proofs.Encode.{held-encode, decode-encode}
-use Rattle.ptl_record.proofs.Standing.{Stands, stands-take}
+use Rattle.ptl_record.proofs.Standing.{Stands}
 use Rattle.record_arrays.specs.Read.{recordArray}
 use Rattle.record_arrays.specs.Write.{arraysBytes}
+use Rattle.record_arrays.specs.declared.Codec.the-variants.{Vvc}
 use Rattle.full.specs.Read.{FullParsed, vvcHead, vvcRecord, parseFull}
 use Rattle.full.specs.Write.{headBytes, fullBytes, recordFits, writeFull, serializeFull}
 use Rattle.full.specs.Rules.{arrayByte, recordArrayBytes, reservedKept, typesKept}
@@ -30,9 +30,9 @@ use Rattle.full.specs.declared.VvcConfig.{VvcConfig}
 use Rattle.full.proofs.Parsed.{ReadAs, read-as}
 use Rattle.full.proofs.Ruled.{ruled, strict-ruled, kept-passes, ruled-accepted, strict-full}
 use Rattle.rewritten.specs.Rewritten.{Rewritten, ReadRewritten, StrictRewritten}
-use Rattle.rewritten.proofs.Parts.{Rewrites, stands-byte, rewrites-append, rewrites-then}
+use Rattle.rewritten.proofs.Parts.{Rewrites, stands-byte, front-taken, taken-front, rewrites-append, rewrites-then}
 use Rattle.rewritten.proofs.Head.{HeadAgain, head-again}
-use Rattle.rewritten.proofs.Arrays.{ArraysAgain, arrays-again}
+use Rattle.rewritten.proofs.Arrays.{starts-vvc, ArraysAgain, arrays-again}
 
 -- ---- the record
 
@@ -54,7 +54,7 @@ starts-read s h p n q starts r e f g = rw (e, f, g)
 
 -- a head, the number of arrays and arrays that were read are such a record
 record-made : (s : List ℕ) → AllBytes s → (h : VvcConfig) (p n q : ℕ) (xs : List (Array Span)) (r : ℕ)
-    → vvcHead s 0 ≡ value h p → uint 1 s p ≡ value n q → HeadAgain s h p → NumberFits s 1 p n q → ArraysAgain s n q xs r → RecordAgain s h xs r
+    → vvcHead s 0 ≡ value h p → uint 1 s p ≡ value n q → HeadAgain s h p → NumberFits s 1 p n q → ArraysAgain Vvc s n q xs r → RecordAgain s h xs r
 unfolding recordFits fullBytes
 record-made s areBytes h p n q xs r e f a u v =
     let c = v .counted in
@@ -65,12 +65,12 @@ record-made s areBytes h p n q xs r e f a u v =
     let d : Stands s p (length (heldArrays s xs) ∷ []) = stands-byte s p _ (omega (arith, u .next, u .inside)) b in
     record {
       starts = v .starts;
-      read = starts-read s h p n q (v .starts) r e f (v .read);
+      read = starts-read s h p n q (v .starts) r e f (sym (starts-vvc n s q) ∙ v .read);
       size = a .size;
       fits = rw (a .fits, le-leb (length (heldArrays s xs)) 255 (omega (arith, areBytes p))) (v .fits);
       sound = v .sound;
-      long = length-append (headBytes h ++ (length (heldArrays s xs) ∷ [])) (arraysBytes (heldArrays s xs)) ∙ omega (arith, v .next);
-      same = rewrites-append s 0 (headBytes h ++ (length (heldArrays s xs) ∷ [])) (arraysBytes (heldArrays s xs)) _ _
+      long = length-append (headBytes h ++ (length (heldArrays s xs) ∷ [])) (arraysBytes Vvc (heldArrays s xs)) ∙ omega (arith, v .next);
+      same = rewrites-append s 0 (headBytes h ++ (length (heldArrays s xs) ∷ [])) (arraysBytes Vvc (heldArrays s xs)) _ _
           (rewrites-then s 0 (headBytes h) (length (heldArrays s xs) ∷ []) _ (a .same) (rw k at d)) (rw m at (v .same));
     }
 
@@ -80,7 +80,7 @@ unfolding vvcRecord
 record-again s areBytes =
     gives-bind (vvcHead s 0) _ (with-read _ (head-again s areBytes)) (λ h p a.
     gives-bind (uint 1 s p) _ (with-read _ (gives-uint s 1 p)) (λ n q u.
-    gives-bind (times n recordArray s q) _ (arrays-again s areBytes n q (u .1 .inside)) (λ xs r v.
+    gives-bind (times n (recordArray Vvc) s q) _ (arrays-again Vvc s areBytes n q (u .1 .inside)) (λ xs r v.
     gives-value (h, xs) r (record-made s areBytes h p n q xs r (a .0) (u .0) (a .1) (u .1) v))))
 
 -- ---- what was read, and what is written for it
@@ -96,19 +96,6 @@ serialize-accepts : (h : VvcConfig) (xs : List (Array (List ℕ))) → eqb (h .�
     → length (encode xs) ≤ 2 ^ 30 → serializeFull h (encode xs) ≡ accept (fullBytes h xs)
 unfolding serializeFull
 serialize-accepts h xs e f sound l = rw (decode-encode xs l sound, held-encode xs l) (write-accepts h xs e f)
-
--- bytes that lie at the front of s are the first bytes of s
-front-taken : (s xs : List ℕ) (n : ℕ) → length xs ≡ n → Stands s 0 xs → xs ≡ take n s
-front-taken s xs n l st = sym (stands-take s 0 xs st) ∙ ap (λ (k : ℕ). take k s) l
-
--- the first bytes of s lie at its front
-taken-front : (s xs : List ℕ) (n : ℕ) → length xs ≡ n → 0 + length xs ≤ length s → xs ≡ take n s → Stands s 0 xs
-taken-front s xs n l h e = record { room = h; same = at }
-  where
-    at : (k : ℕ) → k < length xs → getD s (0 + k) 0 ≡ getD xs k 0
-    at k j =
-        let z : 0 + k ≡ k = omega arith in
-        rw z (sym (getD-take n s k 0 (omega arith)) ∙ ap (λ (ys : List ℕ). getD ys k 0) (sym e))
 
 -- ---- the claims
 

@@ -1,1 +1,2 @@
 pub mod Rewritten
+pub mod Hevc

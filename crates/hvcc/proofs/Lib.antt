@@ -1,0 +1,3 @@
+pub mod HeadRead
+pub mod HeadRoundTrip
+pub mod Serialized

@@ -4,7 +4,7 @@ use crate::case::{hex_onto, Case};
 use crate::reading::{self, Place, Refusal};
 use original::boxes::Reader;
 use original::error::HeifError;
-use original::hvcc::{split_annex_b, split_length_prefixed};
+use original::hvcc::{split_annex_b, split_length_prefixed, HevcConfig, NalArray};
 use original::vvcc::{self, CompactVvcConfig, SpsHead, VvcConfig, VvcNalArray, VvcPtlRecord};
 use std::fmt::Write;
 
@@ -31,7 +31,7 @@ fn number(e: &HeifError) -> Refusal {
             panic!("{m}")
         };
     };
-    let table: [(&str, Refusal); 20] = [
+    let table: [(&str, Refusal); 21] = [
         ("truncated ", 1),
         ("num_bytes_constraint_info 0", 2),
         ("LengthSizeMinusOne 2", 3),
@@ -52,6 +52,7 @@ fn number(e: &HeifError) -> Refusal {
         ("carries no PTL and there is no VPS", 18),
         ("carries no NAL units", 19),
         ("item carries no", 19),
+        ("hvcC configurationVersion", 27),
     ];
     // 'VVC parameter set truncated' and 'truncated FIELD: need ..' are told apart by the words before.
     let found = if m.starts_with("VVC parameter set truncated") {
@@ -156,6 +157,58 @@ fn put_sps(s: &mut String, h: Option<&SpsHead>) {
     put(s, depth.into());
 }
 
+/// The head of an HEVC record as text; none is shown as zeros.
+fn put_hevc_head(s: &mut String, h: Option<&HevcConfig>) {
+    let numbers = h.map_or([0; 16], |h| {
+        [
+            h.general_profile_space.into(),
+            h.general_tier_flag.into(),
+            h.general_profile_idc.into(),
+            h.general_profile_compatibility_flags.into(),
+            h.general_constraint_indicator_flags,
+            h.general_level_idc.into(),
+            h.min_spatial_segmentation_idc.into(),
+            h.parallelism_type.into(),
+            h.chroma_format_idc.into(),
+            h.bit_depth_luma_minus8.into(),
+            h.bit_depth_chroma_minus8.into(),
+            h.avg_frame_rate.into(),
+            h.constant_frame_rate.into(),
+            h.num_temporal_layers.into(),
+            h.temporal_id_nested.into(),
+            h.length_size.into(),
+        ]
+    });
+    for n in numbers {
+        put(s, n);
+    }
+}
+
+/// The head of an HEVC record among the numbers of a case, in the original's form.
+pub fn hevc_head_of(c: &Case) -> HevcConfig {
+    HevcConfig::new(
+        1,
+        c.byte(0),
+        c.byte(1) != 0,
+        c.byte(2),
+        c.number(3, 4) as u32,
+        c.number(7, 8),
+        c.byte(15),
+        c.number(16, 2) as u16,
+        c.byte(18),
+        c.byte(19),
+        c.byte(20),
+        c.byte(21),
+        c.number(22, 2) as u16,
+        c.byte(24),
+        c.byte(25),
+        c.byte(26) != 0,
+        c.byte(27),
+        Vec::new(),
+        Vec::new(),
+    )
+}
+
 /// The head of a case, in the original's form, and its three counts.
 pub fn head_of(c: &Case, at: usize) -> (VvcConfig, [usize; 3]) {
     let b = |i: usize| c.byte(at + i);
@@ -201,7 +254,7 @@ pub fn head_of(c: &Case, at: usize) -> (VvcConfig, [usize; 3]) {
 fn with_list(c: &Case, at: usize) -> Result<(VvcConfig, [usize; 3]), Refusal> {
     let arrays = reading::list(&c.first)?;
     let (mut head, counts) = head_of(c, at);
-    head.arrays = arrays;
+    head.arrays = reading::without_reserved(arrays);
     Ok((head, counts))
 }
 
@@ -218,12 +271,12 @@ fn field(c: &Case) -> Result<String, Refusal> {
     Ok(format!(" {} {}", v.map_err(|e| number(&e))?, r.position()))
 }
 
-/// How many bytes of a full record are consumed: the length of its shortest front that reads.
-fn consumed(s: &[u8]) -> usize {
+/// How many bytes of a record that reads are consumed: the length of its shortest front that reads.
+fn consumed(s: &[u8], reads: fn(&[u8]) -> bool) -> usize {
     let (mut low, mut high) = (0, s.len());
     while low < high {
         let mid = (low + high) / 2;
-        if VvcConfig::parse(&s[..mid]).is_ok() {
+        if reads(&s[..mid]) {
             high = mid;
         } else {
             low = mid + 1;
@@ -232,12 +285,33 @@ fn consumed(s: &[u8]) -> usize {
     low
 }
 
+fn consumed_full(s: &[u8]) -> usize {
+    consumed(s, |front| VvcConfig::parse(front).is_ok())
+}
+
 /// A full record that the original reads: the text of the answer, and the list.
 fn full_record(s: &[u8]) -> Result<(String, Vec<u8>), Refusal> {
     let h = VvcConfig::parse(s).map_err(|e| number(&e))?;
     let list = reading::list_bytes(&h.arrays);
-    let mut text = format!(" {} {}", consumed(s), list.len());
+    let mut text = format!(" {} {}", consumed_full(s), list.len());
     put_head(&mut text, Some(&h));
+    Ok((text, list))
+}
+
+/// The front of an HEVC record that the original consumes, and what it reads; none if it refuses the record.
+pub fn hevc_read(s: &[u8]) -> Option<(&[u8], HevcConfig)> {
+    let h = HevcConfig::parse(s).ok()?;
+    let n = consumed(s, |front| HevcConfig::parse(front).is_ok());
+    Some((&s[..n], h))
+}
+
+/// An HEVC record that the original reads: the text of the answer, and the list.
+fn hevc_record(s: &[u8]) -> Result<(String, Vec<u8>), Refusal> {
+    let h = HevcConfig::parse(s).map_err(|e| number(&e))?;
+    let list = reading::list_with_reserved(&h.arrays);
+    let n = hevc_read(s).map_or(0, |(front, _)| front.len());
+    let mut text = format!(" {n} {}", list.len());
+    put_hevc_head(&mut text, Some(&h));
     Ok((text, list))
 }
 
@@ -256,7 +330,7 @@ pub enum Again {
 pub fn again(s: &[u8]) -> Again {
     match VvcConfig::parse(s) {
         Err(_) => Again::Refused,
-        Ok(h) if h.serialize() == s[..consumed(s)] => Again::Same,
+        Ok(h) if h.serialize() == s[..consumed_full(s)] => Again::Same,
         Ok(_) => Again::Other,
     }
 }
@@ -379,9 +453,9 @@ fn plain(c: &Case) -> Result<String, Refusal> {
     let s = &c.first[..];
     let t = c.byte(0);
     let k = c.number(1, 8);
-    let units = |arrays: Vec<VvcNalArray>| {
+    let units = |arrays: Vec<NalArray>| {
         let (mut h, _) = head_of(&Case::default(), 0);
-        h.arrays = arrays;
+        h.arrays = reading::without_reserved(arrays);
         h
     };
     Ok(match c.op {
@@ -448,6 +522,11 @@ fn plain(c: &Case) -> Result<String, Refusal> {
             format!(" {chroma} {depth}")
         }
         37 | 44 => access_unit(c)?,
+        53 => {
+            let (h, counts) = with_list(c, 0)?;
+            reading::full_writer(&h, counts, &reading::list(s)?)?;
+            format!(" {}", h.serialize().len())
+        }
         38 => access_unit(c).unwrap_or(" =".into()),
         _ => unreachable!("{}", c.op),
     })
@@ -459,8 +538,7 @@ fn writing(c: &Case) -> Result<(String, Vec<u8>), Refusal> {
     let said = |e: HeifError| number(&e);
     let compact = |units| CompactVvcConfig::new(c.byte(0) != 0, c.byte(1), units);
     let plain = |b: Vec<u8>| (format!(" {}", b.len()), b);
-    let units_of =
-        |arrays: Vec<VvcNalArray>| arrays.into_iter().flat_map(|a| a.nal_units).collect();
+    let units_of = |arrays: Vec<NalArray>| arrays.into_iter().flat_map(|a| a.nal_units).collect();
     Ok(match c.op {
         18 => plain(vvcc::extract_rbsp(s)),
         28 => {
@@ -481,7 +559,7 @@ fn writing(c: &Case) -> Result<(String, Vec<u8>), Refusal> {
         32 => full_record(s)?,
         33 => {
             let (h, counts) = with_list(c, 0)?;
-            reading::full_writer(&h, counts)?;
+            reading::full_writer(&h, counts, &reading::list(s)?)?;
             plain(h.serialize())
         }
         35 => {
@@ -505,6 +583,13 @@ fn writing(c: &Case) -> Result<(String, Vec<u8>), Refusal> {
             reading::strict(s)?;
             read
         }
+        51 => hevc_record(s)?,
+        52 => {
+            let mut h = hevc_head_of(c);
+            h.arrays = reading::list(s)?;
+            reading::hevc_writer(&h)?;
+            plain(h.serialize())
+        }
         _ => unreachable!("{}", c.op),
     })
 }
@@ -516,6 +601,7 @@ fn zeros(op: u8) -> String {
         19 | 45 => put_sps(&mut s, None),
         20 => put_ptl(&mut s, None),
         32 | 35 | 50 => put_head(&mut s, None),
+        51 => put_hevc_head(&mut s, None),
         _ => {}
     }
     s
@@ -554,7 +640,7 @@ pub fn answer(c: &Case) -> Answer {
                 Err(e) => refused(number(&e), out),
             }
         }
-        18 | 28..=33 | 35 | 36 | 50 => match writing(c) {
+        18 | 28..=33 | 35 | 36 | 50..=52 => match writing(c) {
             Err(e) => refused(e, out),
             Ok((_, result)) if result.len() > c.room => Answer {
                 result: Some(result.len()),

@@ -1,6 +1,7 @@
 //! A case: one public call on given input. `crates/replay/README.md` describes its form.
 
-/// One call. `numbers` holds the numeric parameters, `first` and `second` the lent inputs.
+/// One call. `numbers` holds the numeric parameters, `first` and `second` the lent inputs. `again` is no part of the call: the bytes that it must
+/// write, where they are known without the original.
 #[derive(Clone, Debug, Default)]
 pub struct Case {
     pub op: u8,
@@ -9,13 +10,14 @@ pub struct Case {
     pub numbers: Vec<u8>,
     pub first: Vec<u8>,
     pub second: Vec<u8>,
+    pub again: Option<Vec<u8>>,
 }
 
 /// How many bytes come before a case's numbers.
 const FRONT: usize = 18;
 
 /// The names of the calls by their numbers, from 1 on.
-pub const NAMES: [&str; 50] = [
+pub const NAMES: [&str; 53] = [
     "number",
     "VvcConfig::bit_depth",
     "u8_at",
@@ -66,6 +68,9 @@ pub const NAMES: [&str; 50] = [
     "VvcPtlRecord::num_sublayers",
     "VvcPtlRecord::num_bytes_constraint_info",
     "parse_strict",
+    "parse (HEVC)",
+    "serialize (HEVC)",
+    "record_len",
 ];
 
 /// The digits of bytes, in lower case.
@@ -141,6 +146,7 @@ impl Case {
             numbers: strings[..n].to_vec(),
             first: strings[n..n + m].to_vec(),
             second: strings[n + m..].to_vec(),
+            again: None,
         })
     }
 

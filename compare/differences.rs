@@ -1,9 +1,10 @@
 //! The intended differences, each on its smallest input: the result of the original, run here, and the answer line of `replay`.
 
-use crate::answers::{answer, head_of, line};
+use crate::answers::{answer, head_of, hevc_head_of, line};
 use crate::case::{hex_onto, Case};
 use crate::longest;
-use crate::reading::{list, list_bytes, LARGEST};
+use crate::reading::{list, list_bytes, list_with_reserved, without_reserved, LARGEST};
+use original::hvcc::{HevcConfig, NalArray};
 use original::vvcc::{self, CompactVvcConfig, VvcConfig, VvcNalArray};
 use std::io::{BufRead, BufReader, Write};
 use std::process::{Command, Stdio};
@@ -31,7 +32,12 @@ fn head(ptl: bool, changed: &[(usize, u8)]) -> Vec<u8> {
 
 /// The full writer's case and what the original writes, with what its own reader makes of it.
 fn written(numbers: Vec<u8>, arrays: &[VvcNalArray]) -> (Case, String) {
-    let mut c = Case::new(33, numbers, list_bytes(arrays));
+    written_list(numbers, list_bytes(arrays))
+}
+
+/// The same for the bytes of a list. The original's arrays have no reserved bit.
+fn written_list(numbers: Vec<u8>, bytes: Vec<u8>) -> (Case, String) {
+    let mut c = Case::new(33, numbers, bytes);
     c.room = 8;
     let (mut h, counts) = head_of(&c, 0);
     if let Some(p) = h.native_ptl.as_mut() {
@@ -39,7 +45,7 @@ fn written(numbers: Vec<u8>, arrays: &[VvcNalArray]) -> (Case, String) {
         p.sublayer_level_idc.resize(counts[1], None);
         p.general_sub_profile_idc.resize(counts[2], 0);
     }
-    h.arrays = list(&c.first).unwrap();
+    h.arrays = without_reserved(list(&c.first).unwrap());
     let bytes = h.serialize();
     let back = match VvcConfig::parse(&bytes) {
         Err(e) => format!("refused by its own reader ({e})"),
@@ -58,6 +64,64 @@ fn written(numbers: Vec<u8>, arrays: &[VvcNalArray]) -> (Case, String) {
         }
     };
     (c, format!("writes {}, {back}", hex(&bytes)))
+}
+
+/// The HEVC writer's case and what the original writes, with what its own reader makes of it. The head is all zeros but for prefix size 1 and one
+/// changed byte.
+fn hevc_written(changed: (usize, u8), arrays: Vec<NalArray>) -> (Case, String) {
+    let mut numbers = vec![0; 28];
+    numbers[27] = 1;
+    numbers[changed.0] = changed.1;
+    let mut c = Case::new(52, numbers, list_with_reserved(&arrays));
+    c.room = 30;
+    let mut h = hevc_head_of(&c);
+    h.arrays = arrays;
+    let bytes = h.serialize();
+    let back = match HevcConfig::parse(&bytes) {
+        Err(e) => format!("refused by its own reader ({e})"),
+        Ok(mut r) => {
+            r.raw.clear();
+            let same = if r == h { "the same" } else { "another record" };
+            format!("read back as {same}")
+        }
+    };
+    (c, format!("writes {}, {back}", hex(&bytes)))
+}
+
+/// The HEVC writer's fields that do not fit, and the numbers of arrays and units.
+fn hevc_entries() -> Vec<(&'static str, Case, String)> {
+    let fields = [
+        ("HEVC writer, profile space 4", (0, 4)),
+        ("HEVC writer, profile 32", (2, 32)),
+        ("HEVC writer, constraint flags 2^48", (8, 1)),
+        ("HEVC writer, segmentation 4096", (16, 16)),
+        ("HEVC writer, parallelism 4", (18, 4)),
+        ("HEVC writer, chroma 4", (19, 4)),
+        ("HEVC writer, luma depth minus 8 of 8", (20, 8)),
+        ("HEVC writer, chroma depth minus 8 of 8", (21, 8)),
+        ("HEVC writer, constant rate 4", (24, 4)),
+        ("HEVC writer, 8 temporal layers", (25, 8)),
+        ("HEVC writer, size 0", (27, 0)),
+        ("HEVC writer, size 5", (27, 5)),
+    ];
+    let array = |units| NalArray::new(true, false, 39, units);
+    let counts = [
+        ("HEVC writer, 256 arrays", vec![array(vec![]); 256]),
+        (
+            "HEVC writer, 65,536 units",
+            vec![array(vec![vec![]; 65536])],
+        ),
+        (
+            "HEVC writer, a unit of 65,536 bytes",
+            vec![array(vec![vec![7; 65536]])],
+        ),
+    ];
+    let of_field = |(what, changed)| (what, hevc_written(changed, vec![]));
+    let of_count = |(what, arrays)| (what, hevc_written((27, 1), arrays));
+    let all = fields.into_iter().map(of_field);
+    all.chain(counts.into_iter().map(of_count))
+        .map(|(what, (c, said))| (what, c, said))
+        .collect()
 }
 
 fn entries() -> Vec<(&'static str, Case, String)> {
@@ -124,6 +188,13 @@ fn entries() -> Vec<(&'static str, Case, String)> {
         "full writer, type 13 with two units",
         written(head(false, &[]), &[array(13, vec![vec![], vec![]])]),
     );
+    for (what, reserved, t) in [
+        ("full writer, an array of type 32", false, 32),
+        ("full writer, an array with the reserved bit", true, 15),
+    ] {
+        let list = list_with_reserved(&[NalArray::new(true, reserved, t, vec![])]);
+        add(what, written_list(head(false, &[]), list));
+    }
     for (what, size) in [("compact writer, size 0", 0), ("compact writer, size 5", 5)] {
         let units = vec![Vec::new(), Vec::new()];
         let mut c = Case::new(29, vec![0, size], list_bytes(&[array(0, units.clone())]));
@@ -161,6 +232,7 @@ fn of_the_standards() -> Vec<(&'static str, Case, String)> {
         c.room = answer(&c).result.unwrap_or(0);
         c
     };
+    let zero_head = |after: &[u8]| [&[1][..], &[0; 22], after].concat();
     let opi = vec![0, 0x61, 0x90];
     let record = list_bytes(&[VvcNalArray::new(true, 12, vec![opi.clone()])]);
     let mut au = Case::new(
@@ -183,6 +255,10 @@ fn of_the_standards() -> Vec<(&'static str, Case, String)> {
         ("alignment bits of a VPS and its PTL", bytes(20, &[], &[0, 0x71, 0, 0, 0x1f, 2, 0x33, 0x1f, 0])),
         ("an SPS with subpictures", bytes(19, &[], &[0, 0x79, 0, 0, 0x34])),
         ("a VPS with two layers", bytes(20, &[], &[0, 0x71, 0, 0x40])),
+        ("reserved bits of an HEVC record's head", bytes(51, &[], &zero_head(&[]))),
+        ("bytes after an HEVC record", bytes(51, &[], &zero_head(&[0x55]))),
+        ("prefix size 3 in an HEVC record", bytes(51, &[], &[&[1][..], &[0; 20], &[2, 0]].concat())),
+        ("the reserved bit of an array, any type, a unit of length 0", bytes(51, &[], &[&[1][..], &[0; 21], &[1, 0x7f, 0, 1, 0, 0]].concat())),
         ("00 00 00 inside a stream's unit", bytes(26, &[], &[0, 0, 1, 9, 0, 0, 0, 5])),
         ("OPI units of operating point 1, target 0, in the record and in the item, and one that does not read", au),
     ];
@@ -191,7 +267,7 @@ fn of_the_standards() -> Vec<(&'static str, Case, String)> {
         .collect()
 }
 
-/// Prints both tables.
+/// Prints the tables.
 pub fn print(replay: &str) -> bool {
     std::panic::set_hook(Box::new(|_| {}));
     let long = Case::new(6, vec![], vec![0; LARGEST + 1]);
@@ -203,8 +279,10 @@ pub fn print(replay: &str) -> bool {
     );
     let first = table(replay, entries());
     println!();
-    let second = table(replay, of_the_standards());
-    first && second
+    let second = table(replay, hevc_entries());
+    println!();
+    let third = table(replay, of_the_standards());
+    first && second && third
 }
 
 fn table(replay: &str, entries: Vec<(&'static str, Case, String)>) -> bool {

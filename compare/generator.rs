@@ -2,6 +2,7 @@
 
 use crate::answers;
 use crate::case::Case;
+use crate::hevc;
 use crate::reading::list_bytes;
 use crate::rng::Rng;
 use crate::shapes;
@@ -81,7 +82,7 @@ fn strings(alphabet: &[u8], longest: usize, f: &mut dyn FnMut(&[u8])) {
     }
 }
 
-/// Every call that reads bytes, on every string up to `longest` bytes; parameter sets also after their headers.
+/// Every call that reads bytes, on every string up to `longest` bytes; parameter sets also after their headers, HEVC records after a head.
 pub fn short_strings(longest: usize, emit: Emit) {
     let all: Vec<u8> = (0..=255).collect();
     let plain: Vec<(u8, Vec<u8>)> = vec![
@@ -124,6 +125,7 @@ pub fn short_strings(longest: usize, emit: Emit) {
         (46, vec![]),
         (47, vec![]),
         (50, vec![]),
+        (51, vec![]),
     ];
     let mut i = 0;
     for (op, numbers) in plain {
@@ -132,7 +134,13 @@ pub fn short_strings(longest: usize, emit: Emit) {
             emit(with_room_by(i, Case::new(op, numbers.clone(), s.to_vec())));
         });
     }
-    for (op, header) in [(19, [0, 0x79]), (20, [0, 0x71]), (21, [0, 0x61])] {
+    let hevc_head = [vec![1], vec![0x5a; 21]].concat();
+    for (op, header) in [
+        (19, vec![0, 0x79]),
+        (20, vec![0, 0x71]),
+        (21, vec![0, 0x61]),
+        (51, hevc_head),
+    ] {
         strings(&all, longest, &mut |s| {
             i += 1;
             emit(with_room_by(
@@ -166,7 +174,7 @@ fn head_with(at: usize, bytes: &[u8]) -> Vec<u8> {
 
 /// Calls on numbers alone: every refusal, every type, every depth, headers and counts at their limits.
 pub fn numbers(emit: Emit) {
-    for n in 1..=26 {
+    for n in 1..=27 {
         emit(Case::new(1, vec![n], vec![]));
     }
     for t in 0..=255 {
@@ -288,6 +296,7 @@ pub fn large(emit: Emit) {
         for list in [one, many] {
             for ptl in [0, 1] {
                 put(33, head(ptl), list.clone(), vec![]);
+                put(53, head(ptl), list.clone(), vec![]);
             }
             put(14, vec![], list.clone(), vec![]);
             put(15, size_and_k(0, n as u64 - 1), list.clone(), vec![]);
@@ -366,6 +375,8 @@ pub fn fronts(r: &mut Rng, count: usize, emit: Emit) {
         whole.push((31, vec![0, size], shapes::still_item(r, size)));
         whole.push((32, vec![], shapes::full(r)));
         whole.push((50, vec![], shapes::strict(r)));
+        whole.push((51, vec![], hevc::any_record(r)));
+        whole.push((52, hevc::any_numbers(r), hevc::any_list(r)));
     }
     whole.push((19, vec![], shapes::longest_sps()));
     whole.push((20, vec![], shapes::longest_vps()));
@@ -513,10 +524,11 @@ fn parameter_set(r: &mut Rng, op: u8) -> Vec<u8> {
 
 /// Any call on an input of its shape.
 pub fn any(r: &mut Rng) -> Case {
-    const CALLS: [u8; 65] = [
+    const CALLS: [u8; 74] = [
         2, 6, 7, 8, 9, 14, 15, 16, 17, 18, 19, 19, 19, 20, 20, 21, 22, 23, 24, 25, 26, 27, 28, 28,
         28, 29, 29, 30, 31, 31, 32, 32, 32, 32, 33, 33, 33, 34, 34, 35, 35, 35, 36, 36, 36, 36, 37,
-        38, 39, 39, 40, 41, 42, 43, 44, 44, 45, 46, 47, 48, 49, 50, 50, 50, 50,
+        38, 39, 39, 40, 41, 42, 43, 44, 44, 45, 46, 47, 48, 49, 50, 50, 50, 50, 51, 51, 51, 51, 52,
+        52, 52, 52, 53,
     ];
     let op = r.pick(&CALLS);
     let mut second = Vec::new();
@@ -528,9 +540,9 @@ pub fn any(r: &mut Rng) -> Case {
         }
         14..=17 | 40 | 41 | 46 | 47 => {
             let t = if r.one_in(2) {
-                r.pick(&[15, 16, 0, 12])
+                r.pick(&[15, 16, 0, 12, 33, 39, 47])
             } else {
-                r.below(33) as u8
+                r.below(66) as u8
             };
             (size_and_k(t, index(r)), shapes::list(r))
         }
@@ -588,7 +600,9 @@ pub fn any(r: &mut Rng) -> Case {
         }
         32 => (vec![], shapes::full(r)),
         50 => (vec![], strict::record(r)),
-        33 | 34 => (head(r), shapes::list(r)),
+        51 => (vec![], hevc::any_record(r)),
+        52 => (hevc::any_numbers(r), hevc::any_list(r)),
+        33 | 34 | 53 => (head(r), shapes::list(r)),
         35 => {
             let list = if r.one_in(6) {
                 shapes::list(r)

@@ -2,7 +2,8 @@
 
 use crate::case::Case;
 use crate::generator::{size_and_k, with_room_by, Emit};
-use crate::reading::list_bytes;
+use crate::reading::{list_bytes, list_with_reserved};
+use original::hvcc::NalArray;
 use original::vvcc::VvcNalArray;
 
 /// The calls of a list: number, numbers, first and second input.
@@ -171,7 +172,9 @@ fn heads(calls: &mut Calls) {
                 for op in [2, 48, 49] {
                     calls.push((op, h.clone(), vec![], vec![]));
                 }
-                calls.push((33, h.clone(), one(true, 16, &[vec![7]]), vec![]));
+                for op in [33, 53] {
+                    calls.push((op, h.clone(), one(true, 16, &[vec![7]]), vec![]));
+                }
                 calls.push((34, h, one(true, 15, &[p.clone()]), vec![]));
             }
         }
@@ -302,13 +305,20 @@ fn ends(calls: &mut Calls) {
         }
     }
     // lists without a version byte and of another version, for every call that takes one
-    for op in [14, 16, 29, 33, 34, 35, 36, 37, 40, 41, 44, 46, 47] {
+    for op in [14, 16, 29, 33, 34, 35, 36, 37, 40, 41, 44, 46, 47, 52, 53] {
         for list in [vec![], vec![2]] {
             calls.push((op, vec![0, 4], list, vec![]));
         }
     }
-    // arrays too short, of type 31 and of 32; an array that the full writer refuses, and another after it
-    let arrays: [&[u8]; 4] = [&[0], &[1, 0], &[2, 1, 31], &[2, 1, 32]];
+    // arrays too short, of type 63 and of 64, with a first byte of 3 and of 4; an array that the full writer refuses, and another after it
+    let arrays: [&[u8]; 6] = [
+        &[0],
+        &[1, 0],
+        &[2, 1, 63],
+        &[2, 1, 64],
+        &[2, 3, 15],
+        &[2, 4, 15],
+    ];
     for array in arrays {
         let list = [&[1, 0, 0, 0], array].concat();
         for op in [14, 40, 41, 47] {
@@ -348,10 +358,60 @@ fn one_more(calls: &mut Calls) {
     calls.push((33, head, vec![1, 0, 0, 0, 3, 1, 16, 0], vec![]));
 }
 
+/// Lists with types from 32 on and with the reserved bit.
+fn wide_lists() -> [Vec<u8>; 5] {
+    let (p, q) = (sps(), pps());
+    let array = |reserved, t, units: &[&Vec<u8>]| {
+        let units = units.iter().map(|u| u.to_vec()).collect();
+        NalArray::new(true, reserved, t, units)
+    };
+    let vps = vec![0, 0x71, 0, 0, 0x1f, 2, 0x33, 0x1f, 0];
+    let lists = [
+        vec![array(false, 32, &[&p, &q])],
+        vec![array(true, 15, &[&p, &q])],
+        vec![array(true, 63, &[&vps]), array(false, 15, &[&p])],
+        vec![array(false, 47, &[&q]), array(true, 15, &[&p, &p])],
+        vec![array(true, 12, &[&q, &p]), array(true, 33, &[])],
+    ];
+    lists.map(|a| list_with_reserved(&a))
+}
+
+/// Every call that takes a list, with such lists.
+fn wide_arrays(calls: &mut Calls) {
+    for list in wide_lists() {
+        for k in 0..3 {
+            for op in [15, 40] {
+                calls.push((op, size_and_k(0, k), list.clone(), vec![]));
+            }
+            for t in [0, 15, 31, 32, 33, 47, 63, 64, 79, 255] {
+                for op in [16, 17, 41] {
+                    calls.push((op, size_and_k(t, k), list.clone(), vec![]));
+                }
+            }
+            for op in [36, 37, 38, 44] {
+                let numbers = [vec![0; 10], vec![k as u8, 1, 0]].concat();
+                calls.push((op, numbers, list.clone(), vec![2, 0, 0xa1, 2, 0, 0x41]));
+            }
+        }
+        for op in [14, 46, 47] {
+            calls.push((op, vec![], list.clone(), vec![]));
+        }
+        for flag in [0, 1] {
+            calls.push((29, vec![flag, 4], list.clone(), vec![]));
+            let picture = vec![flag, 4, 1, 8, 0, 0, 0, 16, 0, 0, 0, 8];
+            calls.push((35, picture, list.clone(), vec![]));
+            // 3 comes before the 22 of the arrays
+            for (op, size) in [(33, 4), (33, 3), (34, 4), (53, 4), (53, 3)] {
+                calls.push((op, vec![size, flag], list.clone(), vec![]));
+            }
+        }
+    }
+}
+
 /// All of them, with an output as long as the result or longer.
 pub fn limits(emit: Emit) {
     let mut calls = Calls::new();
-    let parts: [fn(&mut Calls); 11] = [
+    let parts: [fn(&mut Calls); 12] = [
         compact,
         sizes,
         refused_sps,
@@ -363,6 +423,7 @@ pub fn limits(emit: Emit) {
         streams,
         ends,
         one_more,
+        wide_arrays,
     ];
     for part in parts {
         part(&mut calls);

@@ -63,7 +63,7 @@ fn fronts(op: u8) -> Vec<Vec<u8>> {
         6..=9 | 19 => sps(),
         20 => vec![0, 0x71, 0, 0],
         21 => vec![0, 0x61, 0xc0],
-        14..=17 | 29 | 33..=38 | 40 | 41 | 44 | 46 | 47 => {
+        14..=17 | 29 | 33..=38 | 40 | 41 | 44 | 46 | 47 | 52 | 53 => {
             [&[1, 0, 0, 0, 9, 1, 16, 0, 0, 0, 3][..], &pps()].concat()
         }
         23 | 24 | 31 | 39 | 42 => vec![0, 0, 0, 2, 0, 0x41],
@@ -71,6 +71,7 @@ fn fronts(op: u8) -> Vec<Vec<u8>> {
         28 => [&[0x60, 11][..], &sps(), &[3], &pps()].concat(),
         32 => vec![0xff, 1],
         50 => vec![0xfe],
+        51 => [vec![1], vec![0; 22]].concat(),
         45 => payload(&sps()),
         _ => vec![1],
     };
@@ -82,7 +83,8 @@ fn numbers(op: u8) -> Vec<u8> {
     match op {
         23 | 24 | 39 | 42 => vec![4],
         29..=31 => vec![0, 4],
-        33 | 34 => vec![4],
+        33 | 34 | 53 => vec![4],
+        52 => [vec![0; 27], vec![4]].concat(),
         35 => vec![0, 4, 1, 8],
         36..=38 | 44 => [vec![0; 11], vec![4]].concat(),
         _ => vec![],
@@ -91,7 +93,7 @@ fn numbers(op: u8) -> Vec<u8> {
 
 /// The calls that take an input.
 fn calls() -> impl Iterator<Item = u8> {
-    (3..=9).chain(14..=21).chain(23..=47).chain([50])
+    (3..=9).chain(14..=21).chain(23..=47).chain(50..=53)
 }
 
 /// Every call that takes an input, with one that is too long; where it takes two, with either and both.

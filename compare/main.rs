@@ -7,6 +7,7 @@ mod case;
 #[cfg(not(counted))]
 mod differences;
 mod generator;
+mod hevc;
 mod limits;
 #[cfg(not(counted))]
 mod longest;
@@ -29,25 +30,41 @@ const LONGEST: usize = 524_288;
 /// The bytes of a case and its output together for whose digits `replay` has room.
 const TOGETHER: usize = 600_000;
 
-/// A case's line, its expected answer, its call and its refusal; for strict reading also what the original's writer gives for the record.
-type Expected = (String, String, u8, u32, Option<Asked>);
+/// A case's line, its expected answer, its call and its refusal; for strict reading also what the original's writer gives for the record; for an HEVC
+/// record that is written again, the bytes that must come.
+type Expected = (String, String, u8, u32, Option<Asked>, Option<Vec<u8>>);
+
+/// What is held to more than the expected answers: strict reading, and HEVC records written again.
+#[derive(Default)]
+struct BothHeld {
+    strict: Held,
+    hevc: hevc::Held,
+}
 
 /// How often both returned a refusal's number, for each call.
 type Table = BTreeMap<(u8, u32), u64>;
 
-/// Every case of a run: the fixed lists first, then as many of any shape as are asked for.
+/// Every case of a run: the fixed lists first, then as many of any shape as are asked for. An HEVC record that reads is written again.
 fn all_cases(seed: u64, count: usize, emit: generator::Emit) {
+    let emit: generator::Emit = &mut |c| {
+        let again = hevc::written_again(&c);
+        emit(c);
+        again.into_iter().for_each(&mut *emit);
+    };
     generator::worked(emit);
     generator::numbers(emit);
     limits::limits(emit);
     strict::short(emit);
     strict::fixed(emit);
+    hevc::fixed(emit);
+    hevc::large(emit);
     generator::large(emit);
     generator::short_strings(2, emit);
     generator::zero_strings(8, emit);
     let mut r = rng::Rng(seed);
     generator::fronts(&mut r, count / 5000, emit);
     strict::reserved_bits(&mut r, count / 50, emit);
+    hevc::records(&mut r, count / 100, emit);
     for _ in 0..count {
         emit(generator::any(&mut r));
     }
@@ -61,6 +78,7 @@ fn expected(c: &Case) -> Expected {
         c.op,
         if c.op == 1 { 0 } else { a.refusal },
         (c.op == strict::CALL).then(|| strict::asked(&c.first)),
+        c.again.clone(),
     )
 }
 
@@ -81,16 +99,20 @@ fn compare(
     mut lines: impl BufRead,
     cases: Receiver<Vec<Expected>>,
     table: &mut Table,
-    held: &mut Held,
+    held: &mut BothHeld,
 ) -> (u64, u64) {
     let (mut n, mut differ) = (0, 0);
     let mut got = String::new();
-    for (line, want, op, refusal, asked) in cases.into_iter().flatten() {
+    for (line, want, op, refusal, asked, again) in cases.into_iter().flatten() {
         next_line(&mut lines, &mut got);
         n += 1;
-        let agrees = asked.map_or(true, |a| held.agrees(refusal_in(&got), a));
-        if !agrees && held.disagree <= 10 {
+        let agrees = asked.map_or(true, |a| held.strict.agrees(refusal_in(&got), a));
+        if !agrees && held.strict.disagree <= 10 {
             print!("disagrees with the original's writer: {line}");
+        }
+        let agrees = again.map_or(true, |bytes| held.hevc.agrees(&got, &bytes));
+        if !agrees && held.hevc.disagree <= 10 {
+            print!("disagrees with the record that was read: {line}");
         }
         if got == want {
             *table.entry((op, refusal)).or_default() += 1;
@@ -117,7 +139,7 @@ fn print(table: &Table) {
     println!("\n| call | accepted | refused, by number |\n|---|---:|---|");
     for (i, name) in NAMES.iter().enumerate() {
         let of = |e| table.get(&(i as u8 + 1, e)).copied().unwrap_or(0);
-        let refused: Vec<String> = (1..=26)
+        let refused: Vec<String> = (1..=27)
             .filter(|&e| of(e) > 0)
             .map(|e| format!("{e}: {}", of(e)))
             .collect();
@@ -163,7 +185,7 @@ fn run(replay: &str, seed: u64, count: usize, wrong: Option<usize>) -> bool {
         }
     });
     let reader = std::thread::spawn(move || {
-        let (mut table, mut held) = (Table::new(), Held::default());
+        let (mut table, mut held) = (Table::new(), BothHeld::default());
         let counts = compare(output, cases, &mut table, &mut held);
         (counts, table, held)
     });
@@ -195,11 +217,12 @@ fn run(replay: &str, seed: u64, count: usize, wrong: Option<usize>) -> bool {
 }
 
 /// Compares the longest inputs too, prints the table and the counts, and returns whether nothing differs.
-fn end(seed: u64, (mut n, mut differ): (u64, u64), mut table: Table, held: &Held) -> bool {
+fn end(seed: u64, (mut n, mut differ): (u64, u64), mut table: Table, held: &BothHeld) -> bool {
     longest_inputs(&mut n, &mut differ, &mut table);
     print(&table);
-    held.print();
-    differ += held.disagree;
+    held.strict.print();
+    held.hevc.print();
+    differ += held.strict.disagree + held.hevc.disagree;
     println!("\nseed {seed}\n{n} cases, {differ} differ");
     differ == 0
 }

@@ -1,7 +1,8 @@
 //! What the original does not have, from the rules of docs/SCOPE.md: the unit list (2), the unit check (4.6), the kinds of units (3.3), the limits of
-//! full write (3.9), where units lie, the units of an access unit one by one (3.12), and the two rules of strict reading (4.10).
+//! full write (3.9) and of HEVC write (4.11), where units lie, the units of an access unit one by one (3.12), and the two rules of strict reading
+//! (4.10).
 
-use original::hvcc::split_length_prefixed;
+use original::hvcc::{split_length_prefixed, HevcConfig, NalArray};
 use original::vvcc::{self, VvcConfig, VvcNalArray};
 
 /// A refusal's number.
@@ -24,10 +25,10 @@ fn chunk(s: &[u8]) -> Option<(&[u8], &[u8])> {
     (n <= rest.len()).then(|| rest.split_at(n))
 }
 
-fn array(s: &[u8]) -> Option<VvcNalArray> {
+fn array(s: &[u8]) -> Option<NalArray> {
     let (&complete, s) = s.split_first()?;
     let (&kind, mut s) = s.split_first()?;
-    if complete > 1 || kind > 31 {
+    if complete > 3 || kind > 63 {
         return None;
     }
     let mut units = Vec::new();
@@ -36,11 +37,16 @@ fn array(s: &[u8]) -> Option<VvcNalArray> {
         units.push(unit.to_vec());
         s = rest;
     }
-    Some(VvcNalArray::new(complete == 1, kind, units))
+    Some(NalArray::new(
+        complete & 1 == 1,
+        complete & 2 == 2,
+        kind,
+        units,
+    ))
 }
 
-/// A unit list taken apart; 21 where it is malformed.
-pub fn list(s: &[u8]) -> Result<Vec<VvcNalArray>, Refusal> {
+/// A unit list taken apart; 21 where it is malformed. Its arrays are those of an HEVC record: the type has six bits, and there is a reserved bit.
+pub fn list(s: &[u8]) -> Result<Vec<NalArray>, Refusal> {
     let Some((1, mut s)) = s.split_first() else {
         return Err(21);
     };
@@ -51,6 +57,12 @@ pub fn list(s: &[u8]) -> Result<Vec<VvcNalArray>, Refusal> {
         s = rest;
     }
     Ok(arrays)
+}
+
+/// Arrays as those of a full record, which have no reserved bit.
+pub fn without_reserved(arrays: Vec<NalArray>) -> Vec<VvcNalArray> {
+    let plain = |a: NalArray| VvcNalArray::new(a.complete, a.nal_unit_type, a.nal_units);
+    arrays.into_iter().map(plain).collect()
 }
 
 /// Where a unit lies: in the first or the second lent input, its start and its length.
@@ -77,17 +89,32 @@ pub fn places(which: u8, s: &[u8], parts: &[&[u8]]) -> Vec<Place> {
     parts.iter().map(|u| (which, start(u), u.len())).collect()
 }
 
-/// A unit list of arrays.
+/// Puts an array of a list: its first byte, its type and its units.
+fn put_array(out: &mut Vec<u8>, complete: u8, kind: u8, units: &[Vec<u8>]) {
+    let mut one = vec![complete, kind];
+    for u in units {
+        one.extend_from_slice(&(u.len() as u32).to_be_bytes());
+        one.extend_from_slice(u);
+    }
+    out.extend_from_slice(&(one.len() as u32).to_be_bytes());
+    out.extend_from_slice(&one);
+}
+
+/// A unit list of the arrays of a full record.
 pub fn list_bytes(arrays: &[VvcNalArray]) -> Vec<u8> {
     let mut out = vec![1];
     for a in arrays {
-        let mut one = vec![a.complete as u8, a.nal_unit_type];
-        for u in &a.nal_units {
-            one.extend_from_slice(&(u.len() as u32).to_be_bytes());
-            one.extend_from_slice(u);
-        }
-        out.extend_from_slice(&(one.len() as u32).to_be_bytes());
-        out.extend_from_slice(&one);
+        put_array(&mut out, a.complete as u8, a.nal_unit_type, &a.nal_units);
+    }
+    out
+}
+
+/// A unit list of arrays that may have the reserved bit.
+pub fn list_with_reserved(arrays: &[NalArray]) -> Vec<u8> {
+    let mut out = vec![1];
+    for a in arrays {
+        let complete = a.complete as u8 + 2 * a.reserved_bit as u8;
+        put_array(&mut out, complete, a.nal_unit_type, &a.nal_units);
     }
     out
 }
@@ -107,8 +134,15 @@ pub fn unit_kind(t: u8) -> String {
     }
 }
 
+/// Whether arrays do not fit the counts and lengths that both full records and HEVC records have.
+fn too_many(arrays: &[NalArray]) -> bool {
+    let units =
+        |a: &NalArray| a.nal_units.len() > 65535 || a.nal_units.iter().any(|u| u.len() > 65535);
+    arrays.len() > 255 || arrays.iter().any(units)
+}
+
 /// The refusals 3 and 22 of full write for a head and arrays; `counts` are the head's counts of constraint bytes, levels and sub-profiles.
-pub fn full_writer(h: &VvcConfig, counts: [usize; 3]) -> Result<(), Refusal> {
+pub fn full_writer(h: &VvcConfig, counts: [usize; 3], arrays: &[NalArray]) -> Result<(), Refusal> {
     if h.length_size == 3 {
         return Err(3);
     }
@@ -123,13 +157,32 @@ pub fn full_writer(h: &VvcConfig, counts: [usize; 3]) -> Result<(), Refusal> {
         || counts[1] > 7
         || counts[2] > 255;
     let size = !(1..=4).contains(&h.length_size);
-    let arrays = h.arrays.len() > 255
-        || h.arrays.iter().any(|a| {
-            a.nal_units.len() > 65535
-                || a.nal_units.iter().any(|u| u.len() > 65535)
+    let arrays = too_many(arrays)
+        || arrays.iter().any(|a| {
+            a.nal_unit_type > 31
+                || a.reserved_bit
                 || ((a.nal_unit_type == 12 || a.nal_unit_type == 13) && a.nal_units.len() != 1)
         });
     if size || (h.ptl_present_flag && head) || arrays {
+        return Err(22);
+    }
+    Ok(())
+}
+
+/// The refusal 22 of HEVC write.
+pub fn hevc_writer(h: &HevcConfig) -> Result<(), Refusal> {
+    let head = h.general_profile_space > 3
+        || h.general_profile_idc > 31
+        || h.general_constraint_indicator_flags >= 1 << 48
+        || h.min_spatial_segmentation_idc > 4095
+        || h.parallelism_type > 3
+        || h.chroma_format_idc > 3
+        || h.bit_depth_luma_minus8 > 7
+        || h.bit_depth_chroma_minus8 > 7
+        || h.constant_frame_rate > 3
+        || h.num_temporal_layers > 7
+        || !(1..=4).contains(&h.length_size);
+    if head || too_many(&h.arrays) {
         return Err(22);
     }
     Ok(())

@@ -4,6 +4,7 @@
 use crate::answers;
 use crate::case::Case;
 use crate::generator;
+use crate::hevc;
 use crate::limits;
 use crate::reading;
 use crate::rng::Rng;
@@ -103,6 +104,7 @@ pub fn write(folder: &str, seed: u64) -> bool {
     generator::worked(&mut |c| list.take(&c, &answers::answer(&c)));
     limits::limits(&mut |c| list.take(&c, &answers::answer(&c)));
     strict::short(&mut |c| list.take(&c, &answers::answer(&c)));
+    hevc::short(&mut |c| list.take(&c, &answers::answer(&c)));
     for (op, unit) in [
         (19, shapes::longest_sps()),
         (20, shapes::longest_vps()),
@@ -174,7 +176,7 @@ impl List {
             (&long.line(), "case too long\n"),
             (&together.line(), "case too long\n"),
             (&beyond, "case too long\n"),
-            (&none(51).line(), "51 no such call =abab\n"),
+            (&none(54).line(), "54 no such call =abab\n"),
             (&none(0).line(), "0 no such call =abab\n"),
             (&odd, "6 0 1 0 =\n"),
         ] {

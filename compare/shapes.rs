@@ -1,7 +1,8 @@
 //! Parameter sets, units, lists, records, items and streams of every shape, valid ones and damaged copies.
 
-use crate::reading::list_bytes;
+use crate::reading::list_with_reserved;
 use crate::rng::Rng;
+use original::hvcc::NalArray;
 use original::vvcc::VvcNalArray;
 
 /// Bits, the highest of a byte first.
@@ -434,17 +435,50 @@ pub fn arrays(r: &mut Rng) -> Vec<VvcNalArray> {
     }
 }
 
+/// Arrays as a list may have them: half of the types from 32 on, half of the arrays with the reserved bit.
+pub fn widened(r: &mut Rng, arrays: Vec<VvcNalArray>) -> Vec<NalArray> {
+    arrays
+        .into_iter()
+        .map(|a| {
+            let t = match r.below(4) {
+                0 => a.nal_unit_type + 32,
+                1 => r.pick(&[32, 33, 34, 39, 40, 47, 63]),
+                _ => a.nal_unit_type,
+            };
+            NalArray::new(a.complete, r.one_in(2), t, a.nal_units)
+        })
+        .collect()
+}
+
+/// The list of arrays; for one in four also with types and reserved bits that a full record's arrays do not have.
+fn list_of(r: &mut Rng, arrays: Vec<VvcNalArray>) -> Vec<u8> {
+    let plain = |a: VvcNalArray| NalArray::new(a.complete, false, a.nal_unit_type, a.nal_units);
+    let arrays = if r.one_in(4) {
+        widened(r, arrays)
+    } else {
+        arrays.into_iter().map(plain).collect()
+    };
+    list_with_reserved(&arrays)
+}
+
 /// A unit list.
 pub fn list(r: &mut Rng) -> Vec<u8> {
-    let s = list_bytes(&arrays(r));
+    let a = arrays(r);
+    let s = list_of(r, a);
     maybe_damaged(r, s, 8)
 }
 
 /// A unit list as compact read returns it.
 pub fn still_list(r: &mut Rng) -> Vec<u8> {
     let u = still_units(r);
-    let s = list_bytes(&[VvcNalArray::new(false, 0, u)]);
+    let s = list_of(r, vec![VvcNalArray::new(false, 0, u)]);
     maybe_damaged(r, s, 40)
+}
+
+/// An HEVC unit of a type: its header of two bytes, and a payload.
+pub fn hevc_unit(r: &mut Rng, t: u8) -> Vec<u8> {
+    let n = r.below(30);
+    [vec![t << 1, 1], prevented(&r.bytes(n))].concat()
 }
 
 /// A compact record.

@@ -1,4 +1,5 @@
-//! Strict reading: its cases, and what it is held to. It refuses with 25 exactly those records that the original reads and writes again as other bytes.
+//! Strict reading: its cases, and what it is held to. It refuses with 25 exactly those records that the original reads and writes again as other
+//! bytes.
 
 use crate::answers::{self, Again};
 use crate::case::Case;
@@ -56,8 +57,8 @@ impl Held {
         let (records, accepted) = (self.records.len(), self.accepted);
         let (same, other, disagree) = (self.same, self.other, self.disagree);
         println!(
-            "\nstrict reading: {records} records held to the original's writer, in {} cases: {same} came back the same, {other} differed and were 25, \
-             {disagree} disagree; {accepted} cases accepted, {} not read by the original",
+            "\nstrict reading: {records} records held to the original's writer, in {} cases: {same} came back the same, {other} differed and were \
+             25, {disagree} disagree; {accepted} cases accepted, {} not read by the original",
             same + other + disagree,
             self.not_read
         );
@@ -174,8 +175,8 @@ pub fn short(emit: Emit) {
     send(out, emit);
 }
 
-/// Sound records: whole, with every single bit flipped, with each type in an array's byte, and with each reserved bit wrong and cut off at every later
-/// place; a record of 255 arrays with each reserved bit wrong.
+/// Sound records: whole, with every single bit flipped, with each type in an array's byte, and with each reserved bit wrong and cut off at every
+/// later place; a record of 255 arrays with each reserved bit wrong.
 pub fn fixed(emit: Emit) {
     let mut out = reserved_flipped(&[vec![0xf8, 255], [0x97, 0, 0].repeat(255)].concat());
     for s in sound() {

@@ -24,8 +24,8 @@
 extern "C" {
 #endif
 
-/* Why a call is refused. docs/SCOPE.md defines the numbers. No function below returns 8, 9, 10, 21 or 24: they belong to calls that are not
- * exported. */
+/* Why a call is refused. docs/SCOPE.md defines the numbers. No function below returns 8, 9, 10, 21, 24 or 27: they belong to calls that are
+ * not exported. */
 enum vvcc_refusal {
     VVCC_ACCEPTED = 0,                 /* no refusal */
     VVCC_TRUNCATED = 1,                /* a field runs past the end */
@@ -53,7 +53,8 @@ enum vvcc_refusal {
     VVCC_INPUT_TOO_LONG = 23,          /* an input has more than 2^30 bytes */
     VVCC_NOT_ONE_STILL = 24,           /* the item is not one plain still */
     VVCC_RESERVED_BIT = 25,            /* a reserved bit of a full record is not the standard's */
-    VVCC_ARRAY_TYPE = 26               /* an array of a full record has a type outside 12 to 17 and 23 */
+    VVCC_ARRAY_TYPE = 26,              /* an array of a full record has a type outside 12 to 17 and 23 */
+    VVCC_CONFIGURATION_VERSION = 27    /* the first byte of an HEVC record is not 1 */
 };
 
 /* The answer of a call that writes. */

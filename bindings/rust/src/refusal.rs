@@ -52,6 +52,7 @@ refusals! {
     NotOneStill = 24, "the item is not one plain still";
     ReservedBit = 25, "a reserved bit of a full record is not the standard's";
     ArrayType = 26, "an array of a full record has a type outside 12 to 17 and 23";
+    ConfigurationVersion = 27, "the first byte of an HEVC record is not 1";
 }
 
 impl Refusal {
@@ -60,7 +61,7 @@ impl Refusal {
         self as u32
     }
 
-    /// The refusal with a number that the library returned: 1 to 26.
+    /// The refusal with a number that the library returned: 1 to 27.
     pub(crate) fn of_number(n: u32) -> Refusal {
         Refusal::ALL[n as usize - 1]
     }

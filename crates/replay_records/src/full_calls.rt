@@ -69,6 +69,7 @@ pub fn answer(
         46 => shown::part(out, at, VvcConfig::sps(s)),
         47 => shown::place(out, at, VvcConfig::sps_at(s)),
         50 => put_read(out, at, full_read::parse_strict(s, lent)),
+        53 => shown::counted(out, at, full_write::record_len(head, s)),
         _ => ptl_number(op, head.native_ptl, out, at),
     }
 }

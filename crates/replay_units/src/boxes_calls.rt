@@ -22,7 +22,7 @@ fn low_refusal(n: u8) -> Refusal {
     }
 }
 
-// The refusal with number n above 12; any other n is taken as 26.
+// The refusal with number n above 12; any other n is taken as 27.
 fn high_refusal(n: u8) -> Refusal {
     match n {
         13 => Refusal::Subpictures,
@@ -38,7 +38,8 @@ fn high_refusal(n: u8) -> Refusal {
         23 => Refusal::InputTooLong,
         24 => Refusal::NotOneStill,
         25 => Refusal::ReservedBit,
-        _ => Refusal::ArrayType,
+        26 => Refusal::ArrayType,
+        _ => Refusal::ConfigurationVersion,
     }
 }
 

@@ -36,6 +36,7 @@ fn words(e: Refusal) {
         Refusal::ArrayType => say::text(
             b"an array of a full record has a type outside 12 to 17 and 23",
         ),
+        Refusal::ConfigurationVersion => say::text(b"the first byte of an HEVC record is not 1"),
     }
 }
 

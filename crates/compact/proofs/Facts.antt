@@ -210,7 +210,8 @@ first-again b h =
 units-one : (us : List (List ℕ)) → length (oneArray us) ≤ 2 ^ 30 → UnitsRead (oneArray us) (listUnits (oneArray us)) us
 unfolding unitsOf
 units-one us h =
-    let u = units-encode (record { complete = 0; reservedBit = 0; unitType = 0; units = us } ∷ []) h (sound-more (omega arith) (omega arith) (omega arith) sound-none) in
+    let u = units-encode (record { complete = 0; reservedBit = 0; unitType = 0; units = us } ∷ []) h
+    (sound-more (omega arith) (omega arith) (omega arith) sound-none) in
     record { spans = u .spans; read = u .read; bytes = u .bytes ∙ append-nil us }
 
 module _ (C : List ℕ) (all : AllBytes C) (r : CompactParsed) (list : List ℕ) (e : parseCompact C ≡ accept (r, list)) where

@@ -41,7 +41,10 @@ module _ (h : VvcConfig) (q : VvcPtlRecord) (xs : List (Array (List ℕ))) (w : 
 
   pub read-written : length (fullBytes h xs) ≤ 2 ^ 30
       → parseFull (fullBytes h xs)
-      ≡ accept (record { head = readBack (h .«ptl_present_flag») h q; consumed = length (fullBytes h xs); listLength = length (encode xs) }, encode xs)
+      ≡ accept (
+        record { head = readBack (h .«ptl_present_flag») h q; consumed = length (fullBytes h xs); listLength = length (encode xs) },
+        encode xs,
+      )
   unfolding parseFull vvcRecord fullBytes
   read-written l = rw (
     le-leb (length (headedBytes Vvc (headBytes h) xs)) (2 ^ 30) l,

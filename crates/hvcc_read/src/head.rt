@@ -1,6 +1,7 @@
 // Internal: the head of an HEVC record.
 use boxes::place;
 use error::Refusal;
+use hvcc::HEAD_LEN;
 use hvcc::HevcConfig;
 use record_arrays_read::HeadAnswer;
 ghost use mathlib.Core.Path.{_≡_};
@@ -113,11 +114,11 @@ pub fn read_head(s: &[u8]) -> HeadRead
     if s[0] != 1 {
         return refused(Refusal::ConfigurationVersion);
     }
-    if s.len() < 22 {
+    if s.len() < HEAD_LEN {
         return refused(Refusal::Truncated);
     }
     let head = head_fields(s);
-    let answer = HeadAnswer::Read(22);
+    let answer = HeadAnswer::Read(HEAD_LEN);
     HeadRead {
         answer: answer,
         head: head,

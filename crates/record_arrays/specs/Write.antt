@@ -12,8 +12,8 @@ use Rattle.record_arrays.specs.Read.{holdsOne}
 use Rattle.record_arrays.specs.declared.Codec.{Codec}
 use Rattle.record_arrays.specs.declared.Codec.the-variants.{Vvc, Hevc}
 
--- HEVC: array_completeness 1, reserved 1, NAL_unit_type 6. VVC: array_completeness 1, 00, NAL_unit_type 5, where an array that fits has no reserved bit
--- and a type of 5 bits
+-- HEVC: array_completeness 1, reserved 1, NAL_unit_type 6. VVC: array_completeness 1, 00, NAL_unit_type 5; an array that fits has no
+-- reserved bit and a type of 5 bits
 abbrev pub firstByte : Array (List ℕ) → ℕ
 firstByte a = a .complete * 128 + a .reservedBit * 64 + a .unitType
 

@@ -59,7 +59,8 @@ module _ (k : Codec) (s : List ℕ) (at : ℕ) where
               let l = found .long in
               record { it = found .what; found = ap outcome (found .read); room = omega arith }
 
-          stored : (d e : List ℕ) → d ≡ set out 0 1 → e ≡ sets d 1 (storedBytes arraysInList s (times n (recordArray k) s (at + 1))) → e ≡ sets out 0 list
+          stored : (d e : List ℕ) → d ≡ set out 0 1 → e ≡ sets d 1 (storedBytes arraysInList s (times n (recordArray k) s (at + 1)))
+              → e ≡ sets out 0 list
           unfolding encode
           stored d e f g = g ∙ rw f (ap (λ (x : Parsed (List (Array Span))). sets (set out 0 1) 1 (storedBytes arraysInList s x)) (found .read))
 

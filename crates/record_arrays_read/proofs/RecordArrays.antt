@@ -97,7 +97,8 @@ module _ (k : Codec) (s : List ℕ) (p : ℕ) where
 
     array-counted : p + 1 + countLen k (typeIn k (getD s p 0)) ≤ length s
         → arrayHead k s p
-        ≡ value (headWith k (getD s p 0) (if holdsOne k (typeIn k (getD s p 0)) then 1 else be s (p + 1) 2)) (p + 1 + countLen k (typeIn k (getD s p 0)))
+        ≡ value (headWith k (getD s p 0) (if holdsOne k (typeIn k (getD s p 0)) then 1 else be s (p + 1) 2))
+        (p + 1 + countLen k (typeIn k (getD s p 0)))
     unfolding arrayHead
     array-counted h = rw (first, count-there (holdsOne k (typeIn k (getD s p 0))) h)
 

@@ -63,7 +63,8 @@ pub fn put_arrays(codec: Codec, record: &[u8], from: usize, count: usize, out: &
     requires { ⌜ (length (now «record») ≤ 2 ^ 30)
         × Puts (arraysInList (now «record»)) (outcome (times count (recordArray codec) (now «record») from)) (now out) to ⌝ }
     ensures { λ _. ⌜ now (out .exit)
-        ≡ sets (now (out .entry)) to (storedBytes arraysInList (now («record» .entry)) (times count (recordArray codec) (now («record» .entry)) from)) ⌝ }
+        ≡ sets (now (out .entry)) to
+        (storedBytes arraysInList (now («record» .entry)) (times count (recordArray codec) (now («record» .entry)) from)) ⌝ }
 {
     let mut left = count;
     let mut at = from;

@@ -203,7 +203,12 @@ module _ (k : Codec) (s : List ℕ) where
             small = f .2;
             fits = rw (m, le-leb n 65535 (d .few), v .fits, d .one) (f .0);
             next =
-                rw m (omega (arith, length-append (countBytes (holdsOne k (typeIn k (getD s p 0))) n) (encodeUnits 2 (map (held s) us)), d .next, v .next));
+                rw m (omega (
+                  arith,
+                  d .next,
+                  v .next,
+                  length-append (countBytes (holdsOne k (typeIn k (getD s p 0))) n) (encodeUnits 2 (map (held s) us)),
+                ));
             same = rw m (parts-again (holdsOne k (typeIn k (getD s p 0))) d v);
           }
 

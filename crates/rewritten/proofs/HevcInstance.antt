@@ -1,5 +1,5 @@
--- An HEVC record that meets the premises of the claim, with a byte after it: prefix size 3, 4:4:4, depths 10 and 11, a VPS array, and an SPS array with
--- its reserved bit and two units, one of them empty. With other reserved bits in the head it is read alike; with another version it is 27.
+-- An HEVC record that meets the premises of both claims, with a byte after it: prefix size 3, 4:4:4, depths 10 and 11, a VPS array, and an SPS array
+-- with its reserved bit and two units, one of them empty. With other reserved bits in the head it is read alike; with another version it is 27.
 use Prim.Native.Nat.{ℕ}
 use mathlib.Core.Path.{_≡_, refl}
 use mathlib.Core.Bool.{true, false}
@@ -15,6 +15,7 @@ use Rattle.record_arrays.specs.Read.{recordArray}
 use Rattle.hvcc.specs.Read.{HevcParsed, hevcHead, hevcRecord, parseHevc}
 use Rattle.hvcc.specs.Write.{serializeHevc}
 use Rattle.hvcc.specs.declared.HevcConfig.{HevcConfig}
+use Rattle.hvcc.proofs.Serialized.{hevc-read-after-serialize}
 use Rattle.rewritten.specs.Hevc.{headStandard}
 use Rattle.rewritten.proofs.Hevc.{hevc-rewritten}
 
@@ -88,7 +89,8 @@ pub record HevcInstance : Type 0 where
   pub cut : refusalOf (parseHevc (take 38 longer)) ≡ 1
 
 pub hevc-instance : HevcInstance
-unfolding times be toBe uint bytes chunk toChunk encodeUnits encodeArray encodeArrays encode recordArray hevcHead hevcRecord parseHevc headStandard allBytes
+unfolding times be toBe uint bytes chunk toChunk encodeUnits encodeArray encodeArrays encode recordArray hevcHead hevcRecord parseHevc
+    headStandard allBytes
 hevc-instance = record {
   long = refl;
   read = refl;
@@ -107,3 +109,13 @@ pub hevc-instance-rewritten : serializeHevc instanceHead instanceList ≡ accept
 hevc-instance-rewritten =
     let w = hevc-rewritten longer (hevc-instance .bytes) instanceRead instanceList (hevc-instance .read) (omega arith) in
     rw (← w .kept (hevc-instance .standard)) (w .written)
+
+-- and read after writing, it is the head and the list
+list-bytes : AllBytes instanceList
+unfolding allBytes
+list-bytes = bytes-of instanceList refl
+
+pub hevc-instance-read : parseHevc instanceRecord ≡ accept (instanceRead, instanceList)
+hevc-instance-read =
+    hevc-read-after-serialize instanceHead (record { compatibility = omega arith; level = omega arith; rate = omega arith }) instanceList list-bytes
+    instanceRecord hevc-instance-rewritten

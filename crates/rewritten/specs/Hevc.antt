@@ -27,8 +27,8 @@ headStandard s =
     eqb (getD s 13 0 / 16) 15 && (eqb (getD s 15 0 / 4) 63 && (eqb (getD s 16 0 / 4) 63
     && (eqb (getD s 17 0 / 8) 31 && eqb (getD s 18 0 / 8) 31)))
 
--- A record s was read as r with a list. `serialize` accepts r's head and the list. What it writes is as long as what was consumed; each byte is the one
--- that was read, but for the head's reserved bits; so it is what was consumed exactly when these are the standard's.
+-- A record s was read as r with a list. `serialize` accepts r's head and the list. What it writes is as long as what was consumed; each byte is the
+-- one that was read, but for the head's reserved bits; so it is what was consumed exactly when these are the standard's.
 pub record HevcRewritten (s : List ℕ) (r : HevcParsed) (list : List ℕ) : Type 0 where
   pub bytes : List ℕ
   pub written : serializeHevc (r .head) list ≡ accept bytes

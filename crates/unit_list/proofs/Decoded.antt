@@ -43,8 +43,11 @@ array-made : (c t : ℕ) (us : List Span) (r : ℕ) (x : Array Span) (q : ℕ)
 array-made c t us r x q e =
     let y : arrayWith c t us ≡ x = cc in
     let z : r ≡ q = cc in
-    let b : c / 2 * 2 + c % 2 ≡ c = omega arith in
-    (ap (λ (y : Array Span). completeByte y) (sym y) ∙ b, ap (λ (y : Array Span). y .unitType) (sym y), rw z (ap (λ (y : Array Span). value (y .units) q) y))
+    let b : c / 2 * 2 + c % 2 ≡ c = omega arith in (
+      ap (λ (y : Array Span). completeByte y) (sym y) ∙ b,
+      ap (λ (y : Array Span). y .unitType) (sym y),
+      rw z (ap (λ (y : Array Span). value (y .units) q) y),
+    )
 
 -- a byte that was read
 record ByteRead (s : List ℕ) (p n q : ℕ) : Type 0 where

@@ -16,12 +16,14 @@ enum-told-2 c = search needs
 returns : tie.Need-returns
 returns c =
     let a = c .before .before .before .args in
-    sym (ap (λ (k : Codec). firstFits k (a .reserved-bit) (a .unit-type)) (c .before .enum-told .given .1) ∙ rw (eq-eqb (a .reserved-bit) 0 (c .if1 .taken)))
+    sym (ap (λ (k : Codec). firstFits k (a .reserved-bit) (a .unit-type)) (c .before .enum-told .given .1)
+    ∙ rw (eq-eqb (a .reserved-bit) 0 (c .if1 .taken)))
 
 returns-2 : tie.Need-returns-2
 returns-2 c =
     let a = c .before .before .before .args in
-    sym (ap (λ (k : Codec). firstFits k (a .reserved-bit) (a .unit-type)) (c .before .enum-told .given .1) ∙ rw (ne-eqb (a .reserved-bit) 0 (c .if1 .left)))
+    sym (ap (λ (k : Codec). firstFits k (a .reserved-bit) (a .unit-type)) (c .before .enum-told .given .1)
+    ∙ rw (ne-eqb (a .reserved-bit) 0 (c .if1 .left)))
 
 returns-3 : tie.Need-returns-3
 returns-3 c =

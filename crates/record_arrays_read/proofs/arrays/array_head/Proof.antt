@@ -41,7 +41,8 @@ add-units-2 : tie.Need-add-units-2
 add-units-2 c = search needs
 
 -- the count has the length for the type in the first byte
-count-at : (c : tie.After-count-len) → let a = start c .args in c .count-len .result ≡ countLen (a .codec) (typeIn (a .codec) (getD (a .«record» .now) (a .at) 0))
+count-at : (c : tie.After-count-len) → let a = start c .args in
+    c .count-len .result ≡ countLen (a .codec) (typeIn (a .codec) (getD (a .«record» .now) (a .at) 0))
 count-at c = c .count-len .ensures .0 ∙ ap (countLen (start c .args .codec)) (c .before .unit-type-of .ensures)
 
 returns-2 : tie.Need-returns-2
@@ -49,7 +50,8 @@ returns-2 c =
     let cl = c .before in
     let a = start cl .args in
     let n = count-at (c .before) in
-    (sym (array-short (a .codec) (a .«record» .now) (a .at) (omega (arith, cl .before .before .before .before .before .if1 .left)) (omega (arith, c .if2 .taken))), tt)
+    let h = cl .before .before .before .before .before .if1 .left in
+    (sym (array-short (a .codec) (a .«record» .now) (a .at) (omega (arith, h)) (omega (arith, c .if2 .taken))), tt)
 
 add-unit-count : tie.Need-add-unit-count
 add-unit-count c = search needs

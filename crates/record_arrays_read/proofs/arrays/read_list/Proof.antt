@@ -87,8 +87,8 @@ put-arrays-requires c κs =
     let a = b .args in
     let w = wi .wide in (
       b .pre,
-      arrays-fit (a .codec) (a .«record» .now) (a .at) (there wi) (w .result) (w .ensures .0) _ _ (found (p .before .before .before) .read) (a .out .now)
-          (p .before .before .if2 .left) _ (p .put .ensures),
+      arrays-fit (a .codec) (a .«record» .now) (a .at) (there wi) (w .result) (w .ensures .0) _ _ (found (p .before .before .before) .read)
+          (a .out .now) (p .before .before .if2 .left) _ (p .put .ensures),
     )
 
 same-length : tie.Need-same-length

@@ -11,7 +11,8 @@ use Rattle.record_arrays_read.proofs.list.put_arrays.Tie as tie
 
 abbrev Inv-loop : tie.InvT-loop
 Inv-loop codec «record» from count out₀ to left₀ at₀ next₀ out left at next =
-    Storing (recordArray codec) arrayInList arraysInList arrays-none arrays-more «record» out₀ to (times count (recordArray codec) «record» from) left at out next
+    Storing (recordArray codec) arrayInList arraysInList arrays-none arrays-more «record» out₀ to
+    (times count (recordArray codec) «record» from) left at out next
 
 abbrev μ-loop : tie.MeasureT-loop
 μ-loop codec «record» from count out₀ to left₀ at₀ next₀ out left at next = left
@@ -19,7 +20,8 @@ abbrev μ-loop : tie.MeasureT-loop
 loop-holds : tie.Need-loop-holds Inv-loop μ-loop
 loop-holds c =
     let a = c .before .before .args in
-    storing-start (recordArray (a .codec)) arrayInList arraysInList arrays-none arrays-more _ (a .count) (a .from) _ (a .to) (c .before .before .pre .1)
+    storing-start (recordArray (a .codec)) arrayInList arraysInList arrays-none arrays-more _ (a .count) (a .from) _ (a .to)
+    (c .before .before .pre .1)
 
 put-array-requires : tie.Need-put-array-requires Inv-loop μ-loop
 put-array-requires c κs =

@@ -45,11 +45,14 @@ returns c =
       tt,
     )
 
+-- Where the function starts, seen from a later place.
+abbrev start : (c : tie.After-known-told Inv-loop μ-loop) → tie.Start Inv-loop μ-loop
+start c = c .before .before .before .before .before .before .before
+
 -- the array that the turn measured
 found : (c : tie.After-known-told Inv-loop μ-loop)
-    → RoomAt (c .before .before .before .before .before .before .before .args .«record» .now) (c .before .before .before .before .before .loop .at)
-    (roomTaken arrayInList (c .before .before .before .before .before .before .before .args .«record» .now) 0 (recordArray (c .before .before .before .before .before .before .before .args .codec)
-    (c .before .before .before .before .before .before .before .args .«record» .now) (c .before .before .before .before .before .loop .at)))
+    → let a = start c .args in let p = c .before .before .before .before .before .loop .at in
+    RoomAt (a .«record» .now) p (roomTaken arrayInList (a .«record» .now) 0 (recordArray (a .codec) (a .«record» .now) p))
     (c .before .more .given .0 .0) (c .before .more .given .0 .1 .0)
 found c =
     let k = c .before .before .before .array-room in
@@ -68,13 +71,12 @@ loop-again : tie.Need-loop-again Inv-loop μ-loop
 loop-again c =
     let t = found c in
     let l = c .before .before .before .before .before .loop in
-    let m = room-found arrayInList (c .before .before .before .before .before .before .before .args .«record» .now)
-    (recordArray (c .before .before .before .before .before .before .before .args .codec)
-    (c .before .before .before .before .before .before .before .args .«record» .now) (l .at)) _ _ (t .read) in (
+    let a = start c .args in
+    let m = room-found arrayInList (a .«record» .now) (recordArray (a .codec) (a .«record» .now) (l .at)) _ _ (t .read) in (
       t .inside,
       omega arith,
-      room-next (recordArray _) arrayInList arraysInList arrays-none arrays-more _ (l .left) (l .at) (c .before .before .before .before .loop-test .taken)
-          (m .what) _ (m .read) (l .room) _ (omega arith) ∙ l .inv .2,
+      room-next (recordArray _) arrayInList arraysInList arrays-none arrays-more _ (l .left) (l .at)
+          (c .before .before .before .before .loop-test .taken) (m .what) _ (m .read) (l .room) _ (omega arith) ∙ l .inv .2,
     )
 
 returns-2 : tie.Need-returns-2 Inv-loop μ-loop

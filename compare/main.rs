@@ -4,6 +4,7 @@
 
 mod answers;
 mod case;
+mod codes;
 #[cfg(not(counted))]
 mod differences;
 mod generator;
@@ -54,6 +55,7 @@ fn all_cases(seed: u64, count: usize, emit: generator::Emit) {
     generator::worked(emit);
     generator::numbers(emit);
     limits::limits(emit);
+    codes::codes(emit);
     strict::short(emit);
     strict::fixed(emit);
     hevc::fixed(emit);

@@ -3,6 +3,7 @@
 
 use crate::answers;
 use crate::case::Case;
+use crate::codes;
 use crate::generator;
 use crate::hevc;
 use crate::limits;
@@ -105,6 +106,7 @@ pub fn write(folder: &str, seed: u64) -> bool {
     limits::limits(&mut |c| list.take(&c, &answers::answer(&c)));
     strict::short(&mut |c| list.take(&c, &answers::answer(&c)));
     hevc::short(&mut |c| list.take(&c, &answers::answer(&c)));
+    codes::short(&mut |c| list.take(&c, &answers::answer(&c)));
     for (op, unit) in [
         (19, shapes::longest_sps()),
         (20, shapes::longest_vps()),

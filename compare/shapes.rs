@@ -6,13 +6,13 @@ use original::hvcc::NalArray;
 use original::vvcc::VvcNalArray;
 
 /// Bits, the highest of a byte first.
-#[derive(Default)]
-struct Bits {
-    bits: Vec<bool>,
+#[derive(Clone, Default)]
+pub(crate) struct Bits {
+    pub(crate) bits: Vec<bool>,
 }
 
 impl Bits {
-    fn u(&mut self, n: usize, v: u64) {
+    pub(crate) fn u(&mut self, n: usize, v: u64) {
         self.bits.extend((0..n).rev().map(|i| v >> i & 1 == 1));
     }
 
@@ -22,7 +22,7 @@ impl Bits {
         }
     }
 
-    fn ue(&mut self, v: u64) {
+    pub(crate) fn ue(&mut self, v: u64) {
         let n = 64 - (v + 1).leading_zeros() as usize;
         self.u(n - 1, 0);
         self.u(n, v + 1);
@@ -35,7 +35,7 @@ impl Bits {
         }
     }
 
-    fn bytes(&self) -> Vec<u8> {
+    pub(crate) fn bytes(&self) -> Vec<u8> {
         self.bits
             .chunks(8)
             .map(|c| {
@@ -96,7 +96,7 @@ fn sublayers(r: &mut Rng) -> u64 {
 }
 
 /// Emulation prevention put into a payload.
-fn prevented(payload: &[u8]) -> Vec<u8> {
+pub(crate) fn prevented(payload: &[u8]) -> Vec<u8> {
     let mut out = Vec::new();
     let mut zeros = 0;
     for &b in payload {

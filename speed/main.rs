@@ -1,8 +1,10 @@
 //! The library measured together with the original: every row runs both on the same bytes, in turn, and prints the medians of their times.
+mod timing;
+
 use original::hvcc::{split_annex_b, split_length_prefixed};
 use original::vvcc::{access_unit_annex_b, CompactVvcConfig, VvcConfig};
 use std::hint::black_box;
-use std::time::Instant;
+use timing::{clock, median};
 
 #[repr(C)]
 #[derive(Clone, Copy)]
@@ -205,22 +207,6 @@ fn record_of(size: u8) -> Vec<u8> {
         r.extend_from_slice(&u);
     }
     r
-}
-
-/// Nanoseconds of one call, where `times` calls are made between the two readings of the clock. One call before them is not timed, so that each side
-/// finds the memory as its own last call left it.
-fn clock(times: usize, mut call: impl FnMut()) -> f64 {
-    call();
-    let t = Instant::now();
-    for _ in 0..times {
-        call();
-    }
-    t.elapsed().as_nanos() as f64 / times as f64
-}
-
-fn median(mut v: Vec<f64>) -> f64 {
-    v.sort_by(|a, b| a.total_cmp(b));
-    v[v.len() / 2]
 }
 
 /// Nanoseconds printed as microseconds, with three digits where there are fewer than three before the point.

@@ -1,9 +1,11 @@
 //! SPS reading measured together with the original: in every row each side reads the same heads, in turn, and the medians of the times for one
 //! head are printed. With `--cfg before` an earlier build of the library, under the name `speed_sps_before`, is a third side.
 #![allow(unexpected_cfgs)]
+mod timing;
+
 use original::vvcc::SpsHead;
 use std::hint::black_box;
-use std::time::Instant;
+use timing::{clock, median};
 
 #[repr(C)]
 #[derive(Clone, Copy, Debug, PartialEq)]
@@ -95,20 +97,9 @@ const HEADS: [usize; 2] = [256, 16_384];
 /// How many heads are read at least between two readings of the clock, in whole passes.
 const READS: usize = 2048;
 
-/// Nanoseconds for one head. One pass before the others is not timed, so that each side finds the memory as its own last pass left it.
-fn clock(side: &Side, heads: &[Vec<u8>]) -> f64 {
-    let passes = READS.div_ceil(heads.len());
-    (side.pass)(heads);
-    let t = Instant::now();
-    for _ in 0..passes {
-        (side.pass)(heads);
-    }
-    t.elapsed().as_nanos() as f64 / (passes * heads.len()) as f64
-}
-
-fn median(mut v: Vec<f64>) -> f64 {
-    v.sort_by(|a, b| a.total_cmp(b));
-    v[v.len() / 2]
+/// Nanoseconds for one head.
+fn for_one(side: &Side, heads: &[Vec<u8>]) -> f64 {
+    clock(READS.div_ceil(heads.len()), || (side.pass)(heads)) / heads.len() as f64
 }
 
 /// Random numbers, the same in every run.
@@ -155,6 +146,22 @@ impl Bits {
     }
 }
 
+/// A PTL without general constraints and sublayers, with no subprofile or one.
+fn put_ptl(b: &mut Bits, random: &mut Random) {
+    b.u(7, 65); // general_profile_idc
+    b.u(1, 0); // general_tier_flag
+    b.u(8, 83); // general_level_idc
+    b.u(1, 1); // ptl_frame_only_constraint_flag
+    b.u(1, 0); // ptl_multilayer_enabled_flag
+    b.u(1, 0); // gci_present_flag
+    b.u(5, 0); // gci_alignment_zero_bit
+    let subprofiles = random.number(0, 1);
+    b.u(8, subprofiles as u64); // ptl_num_sub_profiles
+    for _ in 0..subprofiles {
+        b.u(32, random.number(0, u32::MAX) as u64); // general_sub_profile_idc
+    }
+}
+
 /// An RBSP whose head has these numbers, with chroma format 1 and a conformance window, without resampling and subpictures. 16 bytes stand for the
 /// rest of the SPS.
 fn rbsp_of(n: &SpsNumbers, has_ptl: bool, random: &mut Random) -> Vec<u8> {
@@ -169,18 +176,7 @@ fn rbsp_of(n: &SpsNumbers, has_ptl: bool, random: &mut Random) -> Vec<u8> {
     b.u(2, 2); // sps_log2_ctu_size_minus5
     b.u(1, has_ptl as u64); // sps_ptl_dpb_hrd_params_present_flag
     if has_ptl {
-        b.u(7, 65); // general_profile_idc
-        b.u(1, 0); // general_tier_flag
-        b.u(8, 83); // general_level_idc
-        b.u(1, 1); // ptl_frame_only_constraint_flag
-        b.u(1, 0); // ptl_multilayer_enabled_flag
-        b.u(1, 0); // gci_present_flag
-        b.u(5, 0); // gci_alignment_zero_bit
-        let subprofiles = random.number(0, 1);
-        b.u(8, subprofiles as u64); // ptl_num_sub_profiles
-        for _ in 0..subprofiles {
-            b.u(32, random.number(0, u32::MAX) as u64); // general_sub_profile_idc
-        }
+        put_ptl(&mut b, random);
     }
     b.u(1, 0); // sps_gdr_enabled_flag
     b.u(1, 0); // sps_ref_pic_resampling_enabled_flag
@@ -213,6 +209,7 @@ fn numbers_of(codes: [u32; 7]) -> SpsNumbers {
     }
 }
 
+/// Sizes and offsets as cameras have them: long codes for the sizes, codes of one to five bits for the rest.
 fn camera(random: &mut Random) -> [u32; 7] {
     let sizes = [
         (1920, 1080),
@@ -272,7 +269,7 @@ impl Table {
         for round in 0..self.rounds {
             for k in 0..SIDES.len() {
                 let i = (round + k) % SIDES.len();
-                times[i].push(clock(&SIDES[i], &heads));
+                times[i].push(for_one(&SIDES[i], &heads));
             }
         }
         let ns: Vec<f64> = times.into_iter().map(median).collect();
@@ -285,9 +282,8 @@ impl Table {
         }
         println!("{line}");
     }
-}
 
-impl Table {
+    /// All rows: heads as cameras write them, then codes of some lengths.
     fn rows(&self) {
         self.header();
         self.row("a camera's heads", false, camera);

@@ -1,5 +1,5 @@
 -- The answers of the calls, from an access unit that was measured: its count, its stream and the stream's length.
-use Prim.Native.Nat.{ℕ, _+_, _*_}
+use Prim.Native.Nat.{ℕ, _+_}
 use mathlib.Core.Path.{_≡_, sym, ap, _∙_}
 use mathlib.Core.List.{List}
 use mathlib.Core.Option.{Option}
@@ -9,9 +9,10 @@ use Rattle.boxes.specs.Walk.{countFound, found}
 use Rattle.full.specs.declared.VvcConfig.{VvcConfig}
 use Rattle.access_unit.specs.AccessUnit.{targetOf, accessUnit, assemble}
 use Rattle.access_unit.specs.inner.Gathered.{Gathered, gather, inOrder, sources, gatheredBytes}
+use Rattle.access_unit.specs.declared.StartCodes.{StartCodes}
 use Rattle.access_unit.specs.declared.sizes.Sizes.{Sizes}
 use Rattle.access_unit.proofs.Gathering.{Known}
-use Rattle.access_unit.proofs.Order.{order-length, access-unit-sources, assemble-gathered, stream-size}
+use Rattle.access_unit.proofs.Order.{order-length, access-unit-sources, assemble-gathered}
 
 -- ### the count
 
@@ -19,46 +20,47 @@ module _ (h : VvcConfig) (list item : List ℕ) (tols target : Option ℕ) (is :
   pub access-unit-is : sources (h .«length_size») target list item ≡ accessUnit h list item tols
   access-unit-is = rw is (access-unit-sources h list item tols)
 
-  pub count-known : (v : Sizes) → Known (h .«length_size») target list item v
+  pub count-unknown : (n : ℕ) → gather (h .«length_size») target list item ≡ refuse n → refuse n ≡ countFound (accessUnit h list item tols)
+  count-unknown n e =
+      ap (λ (o : Outcome Gathered). countFound (andThen o (λ g. accept (inOrder item g)))) (sym e) ∙ ap countFound access-unit-is
+
+module _ (codes : StartCodes) (h : VvcConfig) (list item : List ℕ) (tols target : Option ℕ) (is : target ≡ targetOf h tols) where
+  pub count-known : (v : Sizes) → Known codes (h .«length_size») target list item v
       → accept (v .listed + v .kept) ≡ countFound (accessUnit h list item tols)
   count-known v n =
       let e : v .listed + v .kept ≡ length (n .parts .units) + length (n .parts .kept) = ap (λ (w : Sizes). w .listed + w .kept) (n .sized) in
       ap accept (e ∙ sym (order-length item (n .parts)))
       ∙ ap (λ (o : Outcome Gathered). countFound (andThen o (λ g. accept (inOrder item g)))) (sym (n .found))
-      ∙ ap countFound access-unit-is
-
-  pub count-unknown : (n : ℕ) → gather (h .«length_size») target list item ≡ refuse n → refuse n ≡ countFound (accessUnit h list item tols)
-  count-unknown n e =
-      ap (λ (o : Outcome Gathered). countFound (andThen o (λ g. accept (inOrder item g)))) (sym e) ∙ ap countFound access-unit-is
+      ∙ ap countFound (access-unit-is h list item tols target is)
 
   -- ### the stream
 
-  assembled : assemble h list item tols ≡ andThen (gather (h .«length_size») target list item) (λ g. accept (gatheredBytes list item (accept g)))
-  assembled = rw is (assemble-gathered h list item tols)
+  assembled : assemble codes h list item tols
+      ≡ andThen (gather (h .«length_size») target list item) (λ g. accept (gatheredBytes codes list item (accept g)))
+  assembled = rw is (assemble-gathered codes h list item tols)
 
-  pub assemble-unknown : (n : ℕ) → gather (h .«length_size») target list item ≡ refuse n → assemble h list item tols ≡ refuse n
+  pub assemble-unknown : (n : ℕ) → gather (h .«length_size») target list item ≡ refuse n → assemble codes h list item tols ≡ refuse n
   assemble-unknown n e = assembled ∙ rw e
 
   -- its bytes and its length
   pub record Assembled (v : Sizes) : Type 0 where
     pub bytes : List ℕ
-    pub found : gatheredBytes list item (gather (h .«length_size») target list item) ≡ bytes
-    pub given : assemble h list item tols ≡ accept bytes
-    pub long : 4 * (v .listed + v .kept) + v .lengths ≡ length bytes
+    pub found : gatheredBytes codes list item (gather (h .«length_size») target list item) ≡ bytes
+    pub given : assemble codes h list item tols ≡ accept bytes
+    pub long : v .len ≡ length bytes
 
-  pub assemble-known : (v : Sizes) → Known (h .«length_size») target list item v → Assembled v
+  pub assemble-known : (v : Sizes) → Known codes (h .«length_size») target list item v → Assembled v
   assemble-known v n =
       record {
-        bytes = gatheredBytes list item (accept (n .parts));
+        bytes = gatheredBytes codes list item (accept (n .parts));
         found = rw (n .found);
         given = assembled ∙ rw (n .found);
-        long = ap (λ (w : Sizes). 4 * (w .listed + w .kept) + w .lengths) (n .sized) ∙ sym (stream-size list item (n .parts));
+        long = ap (λ (w : Sizes). w .len) (n .sized);
       }
 
   -- the stream's length
-  pub length-known : (v : Sizes) → Known (h .«length_size») target list item v → (n : ℕ) → n ≡ 4 * (v .listed + v .kept) + v .lengths
-      → accept n ≡ countFound (assemble h list item tols)
-  length-known v k n e = let m = assemble-known v k in ap accept (e ∙ m .long) ∙ ap countFound (sym (m .given))
+  pub length-known : (v : Sizes) → Known codes (h .«length_size») target list item v → accept (v .len) ≡ countFound (assemble codes h list item tols)
+  length-known v k = let m = assemble-known v k in ap accept (m .long) ∙ ap countFound (sym (m .given))
 
-  pub length-unknown : (n : ℕ) → gather (h .«length_size») target list item ≡ refuse n → refuse n ≡ countFound (assemble h list item tols)
+  pub length-unknown : (n : ℕ) → gather (h .«length_size») target list item ≡ refuse n → refuse n ≡ countFound (assemble codes h list item tols)
   length-unknown n e = ap countFound (sym (assemble-unknown n e))

@@ -6,3 +6,5 @@ pub mod Gathering
 pub mod Order
 pub mod Answering
 pub mod OneUnit
+pub mod Claims
+pub mod Examples

@@ -18,7 +18,8 @@ use Rattle.split.specs.Stream.{annexB}
 use Rattle.split.proofs.Items.{split-sound}
 use Rattle.full.specs.declared.VvcConfig.{VvcConfig}
 use Rattle.access_unit.specs.AccessUnit.{targetOf, keeps, mayLead, leading, following, kept, Source, ofList}
-use Rattle.access_unit.specs.AccessUnit.{ofItem, arranged, notEmpty, accessUnit, heldIn, startCode, assemble}
+use Rattle.access_unit.specs.AccessUnit.{ofItem, arranged, notEmpty, accessUnit, heldIn, codeOf, assemble}
+use Rattle.access_unit.specs.declared.StartCodes.{StartCodes}
 use Rattle.access_unit.proofs.Order.{held-list}
 
 module _ (h : VvcConfig) (list item : List ℕ) (tols : Option ℕ) (xs : List Span) (a : Span) (u : List ℕ) (listed : listUnits list ≡ accept xs)
@@ -46,6 +47,6 @@ module _ (h : VvcConfig) (list item : List ℕ) (tols : Option ℕ) (xs : List S
       let w = split-sound (h .«length_size») item (length (a ∷ [])) (ap countFound split) in
       rw (le-leb _ _ (w .lent), listed, split, one-arranged) (some-units (map ofList xs))
 
-  pub one-assembled : assemble h list item tols ≡ accept (annexB startCode (map (held list) xs ++ (u ∷ [])))
+  pub one-assembled : (codes : StartCodes) → assemble codes h list item tols ≡ accept (annexB (codeOf codes) (map (held list) xs ++ (u ∷ [])))
   unfolding assemble
-  one-assembled = rw (one-unit, map-append (heldIn list item) (map ofList xs) (ofItem a ∷ []), held-list list item xs, is)
+  one-assembled codes = rw (one-unit, map-append (heldIn list item) (map ofList xs) (ofItem a ∷ []), held-list list item xs, is)

@@ -1,28 +1,32 @@
 -- Laws of the order of an access unit: its definition from what was gathered, and its stream in three parts.
-use Prim.Native.Nat.{ℕ, _+_, _*_, _^_}
+use Prim.Native.Nat.{ℕ, suc, _+_, _^_}
 use mathlib.Core.Path.{_≡_, refl, sym, ap, _∙_}
-use mathlib.Core.Bool.{Bool, true, false}
+use mathlib.Core.Bool.{Bool, true, false, _||_}
 use mathlib.Core.List.{List, [], _∷_, _++_, map, map-append}
 use mathlib.Core.Option.{Option}
 use native.Mathlib.Omega.{arith}
 use native.Mathlib.Decide.{decLe}
-use lib.Dec.{eqb}
+use lib.Dec.{eqb, ltb}
 use lib.ListN.{length, length-append, length-map}
-use borrow.Author.Tests.{eq-eqb, ne-eqb, le-leb, lt-leb}
+use borrow.Author.Tests.{eq-eqb, ne-eqb, le-leb, lt-leb, lt-ltb}
 use Rattle.parse.specs.Logic.{if_then_else_}
 use Rattle.parse.specs.Outcome.{Outcome, accept, refuse, andThen}
+use Rattle.boxes.specs.Bytes.{toBe}
 use Rattle.boxes.specs.Parts.{held}
 use Rattle.boxes.specs.declared.Span.{Span}
+use Rattle.boxes.proofs.Numbers.{length-toBe}
 use Rattle.unit_list.specs.Answers.{listUnits}
 use Rattle.split.specs.Item.{splitItem}
 use Rattle.split.specs.Stream.{annexB}
 use Rattle.full.specs.declared.VvcConfig.{VvcConfig}
 use Rattle.access_unit.specs.AccessUnit.{targetOf, leading, following, kept, Source, ofList, ofItem}
-use Rattle.access_unit.specs.AccessUnit.{arranged, notEmpty, accessUnit, heldIn, startCode, assemble}
-use Rattle.access_unit.specs.inner.Gathered.{lengths, Gathered, someGathered, gather, inOrder, sources, bytesAt, gatheredBytes}
+use Rattle.access_unit.specs.AccessUnit.{arranged, notEmpty, accessUnit, heldIn, codeOf, assemble}
+use Rattle.access_unit.specs.inner.Gathered.{Gathered, someGathered, gather, inOrder, sources, laterCode, bytesAt, zeroByte}
+use Rattle.access_unit.specs.inner.Gathered.{gatheredUnits, gatheredBytes, savedWith, itemSum, listSum, zeroOf, savedOf, lenOf}
+use Rattle.access_unit.specs.declared.StartCodes.{StartCodes}
+use Rattle.access_unit.specs.declared.StartCodes.the-variants.{Four, Short}
 use Rattle.access_unit.proofs.KeptUnits.{leads-and-follows, kept-leading, kept-following}
-use Rattle.access_unit.proofs.Sums.{lengths-append}
-use Rattle.access_unit.proofs.Streams.{stream-length, stream-append}
+use Rattle.access_unit.proofs.Streams.{later-length, stream-append, zero-first, zero-four}
 
 -- ### the definition
 
@@ -75,15 +79,15 @@ access-unit-sources h list item tols =
         last g (arranged item target us split) (eqb (length us + length (kept item target split)) 0) (sym e)
         ∙ sym (not-empty (length us + length (kept item target split)) (arranged item target us split) (ap length e ∙ order-length item g))
 
-pub assemble-gathered : (h : VvcConfig) (list item : List ℕ) (tols : Option ℕ)
-    → assemble h list item tols ≡ andThen (gather (h .«length_size») (targetOf h tols) list item) (λ g. accept (gatheredBytes list item (accept g)))
+pub assemble-gathered : (codes : StartCodes) (h : VvcConfig) (list item : List ℕ) (tols : Option ℕ) → assemble codes h list item tols
+    ≡ andThen (gather (h .«length_size») (targetOf h tols) list item) (λ g. accept (gatheredBytes codes list item (accept g)))
 unfolding assemble
-assemble-gathered h list item tols =
+assemble-gathered codes h list item tols =
     rw (← access-unit-sources h list item tols) (go (gather (h .«length_size») (targetOf h tols) list item))
   where
     go : (o : Outcome Gathered)
-        → andThen (andThen o (λ g. accept (inOrder item g))) (λ us. accept (annexB startCode (map (heldIn list item) us)))
-        ≡ andThen o (λ g. accept (gatheredBytes list item (accept g)))
+        → andThen (andThen o (λ g. accept (inOrder item g))) (λ us. accept (annexB (codeOf codes) (map (heldIn list item) us)))
+        ≡ andThen o (λ g. accept (gatheredBytes codes list item (accept g)))
     go (accept g) = refl
     go (refuse n) = refl
 
@@ -98,41 +102,79 @@ module _ (list item : List ℕ) where
   held-item [] = refl
   held-item (a ∷ us) = ap (λ (l : List (List ℕ)). held item a ∷ l) (held-item us)
 
-  module _ (g : Gathered) where
-    -- the leading units, the list's units, the remaining units
-    pub stream-parts : gatheredBytes list item (accept g)
-        ≡ bytesAt item (leading item (g .kept)) ++ (bytesAt list (g .units) ++ bytesAt item (following item (g .kept)))
-    unfolding inOrder
-    stream-parts =
-        rw (
-          map-append (heldIn list item) (map ofItem (leading item (g .kept))) (map ofList (g .units) ++ map ofItem (following item (g .kept))),
-          map-append (heldIn list item) (map ofList (g .units)) (map ofItem (following item (g .kept))),
-          held-item (leading item (g .kept)),
-          held-list (g .units),
-          held-item (following item (g .kept)),
-          stream-append (map (held item) (leading item (g .kept))) (map (held list) (g .units) ++ map (held item) (following item (g .kept))),
-          stream-append (map (held list) (g .units)) (map (held item) (following item (g .kept))),
-        )
+  -- the leading units, the list's units, the remaining units
+  pub units-parts : (g : Gathered) → gatheredUnits list item g
+      ≡ map (held item) (leading item (g .kept)) ++ (map (held list) (g .units) ++ map (held item) (following item (g .kept)))
+  unfolding inOrder
+  units-parts g = rw (
+    map-append (heldIn list item) (map ofItem (leading item (g .kept))) (map ofList (g .units) ++ map ofItem (following item (g .kept))),
+    map-append (heldIn list item) (map ofList (g .units)) (map ofItem (following item (g .kept))),
+    held-item (leading item (g .kept)),
+    held-list (g .units),
+    held-item (following item (g .kept)),
+  )
 
-    -- the stream's length is 4 times the number of units plus the sum of their lengths
-    pub stream-size : length (gatheredBytes list item (accept g))
-        ≡ 4 * (length (g .units) + length (g .kept)) + (lengths (map (held list) (g .units)) + lengths (map (held item) (g .kept)))
+  module _ (codes : StartCodes) (g : Gathered) where
+    abbrev bytes : List (List ℕ) → List ℕ
+    bytes us = annexB (λ k. laterCode codes) us
+
+    -- the zero byte of the first unit, and the same parts of the stream
+    pub stream-parts : gatheredBytes codes list item (accept g)
+        ≡ toBe (zeroByte codes (gatheredUnits list item g)) 0
+        ++ (bytesAt codes item (leading item (g .kept)) ++ (bytesAt codes list (g .units) ++ bytesAt codes item (following item (g .kept))))
+    stream-parts =
+        let a = map (held item) (leading item (g .kept)) in
+        let b = map (held list) (g .units) in
+        let c = map (held item) (following item (g .kept)) in
+        zero-first codes (gatheredUnits list item g)
+        ∙ ap (λ (l : List ℕ). toBe (zeroByte codes (gatheredUnits list item g)) 0 ++ l)
+        (ap bytes (units-parts g) ∙ stream-append (laterCode codes) a (b ++ c)
+        ∙ ap (λ (l : List ℕ). bytes a ++ l) (stream-append (laterCode codes) b c))
+
+    -- the zero byte, from the sums over the list and the item
+    pub zero-parts : zeroByte codes (gatheredUnits list item g) ≡ zeroOf codes (listSum list (g .units)) (itemSum item (g .kept))
+    zero-parts = choice codes
+      where
+        go : (l f ks : List Span) → l ++ f ≡ ks → (us : List Span)
+            → zeroByte Short (map (held item) l ++ (map (held list) us ++ map (held item) f))
+            ≡ (if ltb 0 (length l) || eqb (length us) 0 then zeroByte Short (map (held item) ks) else zeroByte Short (map (held list) us))
+        go (a ∷ l) f ks e us = rw (← e, lt-ltb 0 (suc (length l)) (omega arith))
+        go [] f ks e [] = rw (← e)
+        go [] f ks e (u ∷ us) = rw (ne-eqb (suc (length us)) 0 (λ z. omega arith))
+
+        choice : (c : StartCodes) → zeroByte c (gatheredUnits list item g) ≡ zeroOf c (listSum list (g .units)) (itemSum item (g .kept))
+        choice Four = zero-four (gatheredUnits list item g)
+        choice Short =
+            ap (zeroByte Short) (units-parts g)
+            ∙ go (leading item (g .kept)) (following item (g .kept)) (g .kept) (leads-and-follows item (g .kept)) (g .units)
+
+    -- the stream's length, from those sums
+    pub stream-size : length (gatheredBytes codes list item (accept g)) ≡ lenOf codes (listSum list (g .units)) (itemSum item (g .kept))
     stream-size =
         let lead = leading item (g .kept) in
         let rest = following item (g .kept) in
-        let e = ap length stream-parts in
-        let a = length-append (bytesAt item lead) (bytesAt list (g .units) ++ bytesAt item rest) in
-        let b = length-append (bytesAt list (g .units)) (bytesAt item rest) in
-        let x = stream-length (map (held item) lead) in
-        let y = stream-length (map (held list) (g .units)) in
-        let z = stream-length (map (held item) rest) in
-        let i = length-map lead (held item) in
-        let j = length-map (g .units) (held list) in
-        let k = length-map rest (held item) in
-        let c = ap length (leads-and-follows item (g .kept)) in
-        let d = length-append lead rest in
-        let l : lengths (map (held item) lead) + lengths (map (held item) rest) ≡ lengths (map (held item) (g .kept)) =
-        sym (lengths-append (map (held item) lead) (map (held item) rest))
-        ∙ ap lengths (sym (map-append (held item) lead rest))
-        ∙ ap (λ (us : List Span). lengths (map (held item) us)) (leads-and-follows item (g .kept)) in
-        omega arith
+        let z = zeroByte codes (gatheredUnits list item g) in
+        let k : bytesAt codes item (g .kept) ≡ bytesAt codes item lead ++ bytesAt codes item rest =
+        ap (bytesAt codes item) (sym (leads-and-follows item (g .kept))) ∙ ap bytes (map-append (held item) lead rest)
+        ∙ stream-append (laterCode codes) (map (held item) lead) (map (held item) rest) in
+        omega (
+          arith,
+          ap length stream-parts,
+          length-append (toBe z 0) (bytesAt codes item lead ++ (bytesAt codes list (g .units) ++ bytesAt codes item rest)),
+          length-toBe z 0,
+          zero-parts,
+          length-append (bytesAt codes item lead) (bytesAt codes list (g .units) ++ bytesAt codes item rest),
+          length-append (bytesAt codes list (g .units)) (bytesAt codes item rest),
+          ap length k,
+          length-append (bytesAt codes item lead) (bytesAt codes item rest),
+          later-length codes (map (held list) (g .units)),
+          later-length codes (map (held item) (g .kept)),
+          length-map (g .units) (held list),
+          length-map (g .kept) (held item),
+          saved-parts codes,
+        )
+      where
+        saved-parts : (c : StartCodes) → savedWith c (map (held list) (g .units)) + savedWith c (map (held item) (g .kept))
+            ≡ savedOf c (listSum list (g .units)) (itemSum item (g .kept))
+        saved-parts Four = refl
+        saved-parts Short = refl

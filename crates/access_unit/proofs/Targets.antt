@@ -1,20 +1,27 @@
 -- Laws of the target, of the units that are dropped, and of those that may lead, by the cases of the code.
-use Prim.Native.Nat.{ℕ, _+_, _^_, _≤_}
+use Prim.Native.Nat.{ℕ, _+_, _^_, _≤_, _<_}
 use mathlib.Core.Path.{_≡_, refl, sym, ap, _∙_}
 use mathlib.Core.Bool.{Bool, true, false, _||_}
 use mathlib.Core.List.{List}
 use mathlib.Core.Option.{Option, none, some}
 use native.Mathlib.Omega.{arith}
+use native.Mathlib.Decide.{decLe}
+use lib.Dec.{eqb}
 use lib.ListN.{length}
+use borrow.Author.Tests.{lt-leb}
 use Rattle.error.specs.Refusals.{numberOf}
 use Rattle.error.specs.declared.Refusal.{Refusal}
+use Rattle.parse.specs.Logic.{if_then_else_}
 use Rattle.parse.specs.Outcome.{accept, refuse}
 use Rattle.parse.proofs.Lent.{lent-within}
 use Rattle.boxes.specs.Parts.{held}
 use Rattle.boxes.specs.declared.Span.{Span}
 use Rattle.boxes.proofs.Spans.{held-long}
-use Rattle.nal.specs.Kinds.{kindOf, isAud, isRecordOf}
+use Rattle.nal.specs.Header.{typeOr31}
+use Rattle.nal.specs.Kinds.{isRecordType, unitKind, kindOf, isPictureData, isAud, isRecordOf}
 use Rattle.nal.specs.declared.UnitKind.{UnitKind}
+use Rattle.nal.specs.declared.UnitKind.the-variants.{PictureData, Record, Aud, Other}
+use Rattle.nal.proofs.UnitKinds.{kind-picture}
 use Rattle.opi.specs.Opi.{opiOlsIdx}
 use Rattle.opi.specs.Answers.{olsIdxOf, olsIdxGiven}
 use Rattle.opi.specs.declared.OlsIdx.{OlsIdx}
@@ -24,6 +31,8 @@ use Rattle.access_unit.specs.AccessUnit.{targetOf, agrees, isOpi, keeps,
 use Rattle.access_unit.specs.Answers.{tolsOf}
 use Rattle.access_unit.specs.declared.Target.{Target}
 use Rattle.access_unit.specs.declared.Target.the-variants as T
+use Rattle.access_unit.specs.inner.Gathered.{saved}
+use Rattle.access_unit.proofs.Streams.{one-below}
 
 -- the target
 module _ (h : VvcConfig) (x : Target) where
@@ -56,6 +65,32 @@ leads-opi u k e o = leads u k e ∙ rw o (either (isAud k))
 pub keeps-other : (target : Option ℕ) (u : List ℕ) (k : UnitKind) → k ≡ kindOf u → isRecordOf 12 k ≡ false → keeps target u ≡ true
 unfolding keeps
 keeps-other target u k e h = rw (← e, h)
+
+-- picture data is kept, does not lead, and has three bytes with short codes
+not-picture : (t : ℕ) → 11 < t → isPictureData (unitKind t) ≡ true → ⊥
+unfolding unitKind
+not-picture t h e = go (isRecordType t) (eqb t 20) (rw (lt-leb t 11 h) at e)
+  where
+    go : (b c : Bool) → isPictureData (if b then Record t else if c then Aud else Other) ≡ true → ⊥
+    go true c e = let z : _≡_ {A = ℕ} 0 1 = cc in omega arith
+    go false true e = let z : _≡_ {A = ℕ} 0 1 = cc in omega arith
+    go false false e = let z : _≡_ {A = ℕ} 0 1 = cc in omega arith
+
+module _ (u : List ℕ) (t : ℕ) (is : t ≡ typeOr31 u) (picture : isPictureData (unitKind t) ≡ true) where
+  below : typeOr31 u < 12
+  below = elim (decLe t 11) [ yes h ↦ omega arith | no h ↦ absurd (not-picture t (omega arith) picture) ]
+
+  kind-is : PictureData (typeOr31 u) ≡ kindOf u
+  kind-is = sym (kind-picture (typeOr31 u) below)
+
+  pub picture-kept : (target : Option ℕ) → keeps target u ≡ true
+  picture-kept target = keeps-other target u (PictureData (typeOr31 u)) kind-is refl
+
+  pub picture-led : mayLead u ≡ false
+  picture-led = leads u (PictureData (typeOr31 u)) kind-is
+
+  pub picture-saved : saved u ≡ 1
+  picture-saved = sym (one-below (typeOr31 u) below)
 
 module _ (target : Option ℕ) (u : List ℕ) (opi : isOpi u ≡ true) where
   module _ (lent : length u ≤ 2 ^ 30) (r : OlsIdx) (said : olsIdxOf r ≡ olsIdxGiven u) where

@@ -1,21 +1,24 @@
 -- The access unit of a still (SCOPE 3.12; ISO/IEC 23008-12 L.2.2.2 and L.2.2.1.2; ISO/IEC 14496-15:2024 11.2.4.2, note 4).
-use Prim.Native.Nat.{ℕ}
-use mathlib.Core.Bool.{Bool, true, _||_}
+use Prim.Native.Nat.{ℕ, zero, suc}
+use mathlib.Core.Bool.{Bool, true, _&&_, _||_}
 use mathlib.Core.List.{List, [], _∷_, _++_, map}
 use mathlib.Core.Option.{Option, none, some}
-use lib.Dec.{eqb}
+use lib.Dec.{leb, eqb}
 use Rattle.parse.specs.Logic.{if_then_else_}
 use Rattle.parse.specs.Outcome.{Outcome, accept, refuse, lentInput}
 use Rattle.parse.specs.Steps.{_>>=_, _>>_}
 use Rattle.boxes.specs.Parts.{held}
 use Rattle.boxes.specs.declared.Span.{Span}
+use Rattle.nal.specs.Header.{typeOr31}
 use Rattle.nal.specs.Kinds.{kindOf, isAud, isRecordOf}
 use Rattle.nal.specs.declared.UnitKind.{UnitKind}
 use Rattle.unit_list.specs.Answers.{listUnits}
 use Rattle.opi.specs.Opi.{opiOlsIdx}
 use Rattle.split.specs.Item.{splitItem}
-use Rattle.split.specs.Stream.{annexB}
+use Rattle.split.specs.Stream.{StartCode, three, four, annexB}
 use Rattle.full.specs.declared.VvcConfig.{VvcConfig}
+use Rattle.access_unit.specs.declared.StartCodes.{StartCodes}
+use Rattle.access_unit.specs.declared.StartCodes.the-variants.{Four, Short}
 
 -- the target: the caller's; if there is none, the head's operating point where its PTL flag is set; else none
 abbrev pub targetOf : VvcConfig → Option ℕ → Option ℕ
@@ -89,12 +92,19 @@ abbrev pub heldIn : List ℕ → List ℕ → Source → List ℕ
 heldIn list item (ofList a) = held list a
 heldIn list item (ofItem a) = held item a
 
--- the start code before each unit of the stream
-abbrev pub startCode : List ℕ
-startCode = 0 ∷ 0 ∷ 0 ∷ 1 ∷ []
+-- the start code of a unit other than the first, by the type in its header: with short codes four bytes for types 12 to 18 (OPI, DCI, the parameter
+-- sets and APS), three for the others, among them a unit of one byte, which has no type (H.266 B.2.2, zero_byte)
+abbrev pub codeOfType : StartCodes → ℕ → StartCode
+codeOfType Four t = four
+codeOfType Short t = if leb 12 t && leb t 18 then four else three
 
--- `access_unit_annex_b`: each unit after 00 00 00 01 (SCOPE 3.12); with an output 20
-unfoldable pub assemble : VvcConfig → List ℕ → List ℕ → Option ℕ → Outcome (List ℕ)
-assemble h list item tols = do
+-- the start code of unit k of a stream: the first has four bytes (H.266 B.2.2)
+abbrev pub codeOf : StartCodes → ℕ → List ℕ → StartCode
+codeOf codes zero u = four
+codeOf codes (suc k) u = codeOfType codes (typeOr31 u)
+
+-- `access_unit_annex_b`: each unit after its start code (SCOPE 3.12); with an output 20
+unfoldable pub assemble : StartCodes → VvcConfig → List ℕ → List ℕ → Option ℕ → Outcome (List ℕ)
+assemble codes h list item tols = do
   us ← accessUnit h list item tols
-  accept (annexB startCode (map (heldIn list item) us))
+  accept (annexB (codeOf codes) (map (heldIn list item) us))

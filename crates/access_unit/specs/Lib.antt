@@ -1,3 +1,4 @@
 pub mod AccessUnit
+pub mod Streams
 pub mod Answers
 pub mod inner

@@ -18,12 +18,19 @@ pub enum Target {
     Unset,
 }
 
+// The start codes of a stream: four bytes throughout; or short ones, four bytes for the first unit and for units whose header has a type of 12 to 18,
+// three for the others (H.266 B.2.2).
+pub enum StartCodes {
+    Four,
+    Short,
+}
+
 // The number of units of the access unit. Refusals: 23, 21, 4, then in byte order 1 and 5, 19.
 pub fn access_unit_count(head: VvcConfig, list: &[u8], item: &[u8], tols: Target) -> Counted
     ensures { λ r. ⌜ countOf r ≡ countFound (accessUnit head (now (list .entry)) (now (item .entry)) (tolsOf tols)) ⌝ }
 {
     let target = kept::target_of(head, tols);
-    let measured = sizes::measure(list, item, head.length_size, target);
+    let measured = sizes::measure(list, item, head.length_size, target, StartCodes::Four);
     match measured {
         SizesAnswer::Sized(sizes) => {
             let count = sizes.listed + sizes.kept;

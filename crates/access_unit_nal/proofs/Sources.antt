@@ -19,6 +19,7 @@ use Rattle.access_unit.specs.inner.Gathered.{Gathered, gather, inOrder, sources
 use Rattle.access_unit.specs.declared.sizes.Sizes.{Sizes}
 use Rattle.access_unit.proofs.KeptUnits.{leads-and-follows}
 use Rattle.access_unit.proofs.Sums.{leading-le}
+use Rattle.access_unit.specs.declared.StartCodes.the-variants.{Four}
 use Rattle.access_unit.proofs.Gathering.{From, gathered, Known}
 use Rattle.access_unit.proofs.Order.{order-length}
 use Rattle.access_unit_nal.specs.Answers.{sourcePlace}
@@ -100,7 +101,7 @@ module _ (size : ℕ) (target : Option ℕ) (list item : List ℕ) (k : ℕ) whe
   pub source-unknown : (n : ℕ) → gather size target list item ≡ refuse n → refuse n ≡ unitPlace
   source-unknown n e = rw e
 
-  module _ (v : Sizes) (n : Known size target list item v) (s : ℕ) (same : s ≡ size) where
+  module _ (v : Sizes) (n : Known Four size target list item v) (s : ℕ) (same : s ≡ size) where
     made : From size target list item (n .parts)
     made = gathered size target list item (n .parts) (n .found)
 

@@ -1,4 +1,5 @@
 // Internal: where unit k of an access unit lies. The loop over units is left by its label, as in `split`.
+use access_unit::StartCodes;
 use access_unit::Target;
 use access_unit::kept;
 use access_unit::sizes;
@@ -90,7 +91,7 @@ pub fn source_at(list: &[u8], item: &[u8], length_size: u8, target: Target, k: u
     ensures { λ r. ⌜ (placeOf r ≡ placeFound sourcePlace (sources «length_size» (tolsOf target) (now (list .entry)) (now (item .entry))) k)
         × PlaceFits (now (list .entry)) (now (item .entry)) r ⌝ }
 {
-    let measured = sizes::measure(list, item, length_size, target);
+    let measured = sizes::measure(list, item, length_size, target, StartCodes::Four);
     match measured {
         SizesAnswer::Sized(sizes) => match number_of(sizes, k) {
             UnitNumber::Kept(n) => {

@@ -19,6 +19,7 @@ use Rattle.unit_list.proofs.Units.{units-held}
 use Rattle.unit_list.proofs.Accepted.{sound-held}
 use Rattle.full.specs.Read.{FullParsed, parseFull}
 use Rattle.access_unit.specs.AccessUnit.{assemble}
+use Rattle.access_unit.specs.declared.StartCodes.{StartCodes}
 use Rattle.path.proofs.Expansion.{then-accept}
 use Rattle.vvcc_c.specs.Exports.{readBeside, streamBeside}
 use Rattle.output_lengths.specs.Lengths.{prefixSize, scratchRoom, streamRoomWith, streamRoom, Suffices}
@@ -27,20 +28,20 @@ use Rattle.output_lengths.proofs.Refusals.{beside-not-short}
 use Rattle.output_lengths.proofs.Outputs.{suffices, lent-accepted}
 use Rattle.output_lengths.proofs.Assembled.{streamed, held-room, encoded-units, assembled-parts}
 
-module _ (rec item : List ℕ) where
+module _ (codes : StartCodes) (rec item : List ℕ) where
   read-beside : (r : FullParsed) (list : List ℕ) → readBeside rec item ≡ accept (r, list) → parseFull rec ≡ accept (r, list)
   unfolding readBeside
   read-beside r list e = lent-accepted item (parseFull rec) (r, list) e .1
 
   -- ### the scratch
   module _ (scratch : List ℕ) (tols : Option ℕ) (enough : scratchRoom rec ≤ length scratch) where
-    pub scratch-enough : streamBeside rec item tols scratch ≡ andThen (readBeside rec item) (λ r. assemble (r .0 .head) (r .1) item tols)
+    pub scratch-enough : streamBeside codes rec item tols scratch ≡ andThen (readBeside rec item) (λ r. assemble codes (r .0 .head) (r .1) item tols)
     unfolding streamBeside
     scratch-enough = go (readBeside rec item) refl
       where
         go : (o : Outcome (FullParsed × List ℕ)) → readBeside rec item ≡ o
-            → andThen o (λ r. if leb (length (r .1)) (length scratch) then assemble (r .0 .head) (r .1) item tols else refuse 20)
-            ≡ andThen o (λ r. assemble (r .0 .head) (r .1) item tols)
+            → andThen o (λ r. if leb (length (r .1)) (length scratch) then assemble codes (r .0 .head) (r .1) item tols else refuse 20)
+            ≡ andThen o (λ r. assemble codes (r .0 .head) (r .1) item tols)
         go (accept (r, list)) e =
             let f = full-read rec r list (read-beside r list e) in
             let l = ap length (f .is) in
@@ -61,17 +62,17 @@ module _ (rec item : List ℕ) where
         ap (λ (l : List ℕ). streamed (map (held l) us)) (f .is) ∙ ap streamed (g ∙ sym (units-held rec (f .arrays))) in
         omega (arith, held-room rec (unitsOf (f .arrays)), f .fits .streamed)
 
-    assembled-long : (r : FullParsed) (list b : List ℕ) → parseFull rec ≡ accept (r, list) → assemble (r .head) list item tols ≡ accept b
+    assembled-long : (r : FullParsed) (list b : List ℕ) → parseFull rec ≡ accept (r, list) → assemble codes (r .head) list item tols ≡ accept b
         → length b ≤ streamRoom rec item
     assembled-long r list b e a = go (eqb (prefixSize rec) 4) refl
       where
         go : (c : Bool) → eqb (prefixSize rec) 4 ≡ c → length b ≤ streamRoomWith c rec item
         go true f =
-            let p = assembled-parts (r .head) list item tols b a in
+            let p = assembled-parts codes (r .head) list item tols b a in
             let s = p .same (full-read rec r list e .fits .size ∙ eqb-true (prefixSize rec) 4 f) in
             omega (arith, listed-long r list e (p .units) (p .listed))
         go false f =
-            let p = assembled-parts (r .head) list item tols b a in
+            let p = assembled-parts codes (r .head) list item tols b a in
             omega (arith, p .most, listed-long r list e (p .units) (p .listed))
 
     fitted : (c : Bool) (o : Outcome (List ℕ)) (b : List ℕ) → (if c then o else refuse 20) ≡ accept b → o ≡ accept b
@@ -80,15 +81,15 @@ module _ (rec item : List ℕ) where
 
     -- the bound of the stream holds for every scratch, and with enough scratch there is no 20
     module _ (scratch : List ℕ) where
-      pub stream-long : (b : List ℕ) → streamBeside rec item tols scratch ≡ accept b → length b ≤ streamRoom rec item
+      pub stream-long : (b : List ℕ) → streamBeside codes rec item tols scratch ≡ accept b → length b ≤ streamRoom rec item
       unfolding streamBeside
       stream-long b e =
           let x = then-accept (readBeside rec item) _ b e in
           let r = x .0 .0 in
           let list = x .0 .1 in
           assembled-long r list b (read-beside r list (x .1))
-          (fitted (leb (length list) (length scratch)) (assemble (r .head) list item tols) b (x .2))
+          (fitted (leb (length list) (length scratch)) (assemble codes (r .head) list item tols) b (x .2))
 
-      pub stream-suffices : scratchRoom rec ≤ length scratch → Suffices (streamRoom rec item) (streamBeside rec item tols scratch)
-      stream-suffices enough = suffices (streamRoom rec item) (streamBeside rec item tols scratch)
-          (rw (scratch-enough scratch tols enough) (beside-not-short rec item tols)) stream-long
+      pub stream-suffices : scratchRoom rec ≤ length scratch → Suffices (streamRoom rec item) (streamBeside codes rec item tols scratch)
+      stream-suffices enough = suffices (streamRoom rec item) (streamBeside codes rec item tols scratch)
+          (rw (scratch-enough scratch tols enough) (beside-not-short codes rec item tols)) stream-long

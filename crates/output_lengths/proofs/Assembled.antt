@@ -2,10 +2,10 @@
 use Prim.Native.Nat.{ℕ, _+_, _*_, _^_, _≤_}
 use mathlib.Core.Path.{_≡_, refl, sym, ap, _∙_}
 use mathlib.Core.Bool.{Bool, true, false}
-use mathlib.Core.List.{List, [], _∷_, _++_, map}
+use mathlib.Core.List.{List, [], _∷_, _++_, map, map-append}
 use mathlib.Core.Option.{Option}
 use native.Mathlib.Omega.{arith}
-use lib.ListN.{length, drop, length-append, length-map, length-take}
+use lib.ListN.{length, drop, length-append, length-take}
 use Rattle.parse.specs.Logic.{if_then_else_}
 use Rattle.parse.specs.Outcome.{Outcome, accept, refuse, andThen}
 use Rattle.parse.specs.Parse.{Parsed, value, refused, many, outcome}
@@ -17,26 +17,33 @@ use Rattle.unit_list.proofs.Arrays.{Sound, room, run-value}
 use Rattle.unit_list.proofs.Encode.{units-encode}
 use Rattle.unit_list.proofs.Accepted.{accepted}
 use Rattle.split.specs.Item.{itemUnit}
-use Rattle.split.specs.Stream.{annexB}
+use Rattle.split.specs.Stream.{StartCode, annexB}
 use Rattle.split.specs.inner.Walk.{itemUnitsFrom}
 use Rattle.split.proofs.Items.{unit-read, unit-advances}
 use Rattle.full.specs.declared.VvcConfig.{VvcConfig}
-use Rattle.access_unit.specs.AccessUnit.{targetOf, keeps, kept, startCode, assemble}
-use Rattle.access_unit.specs.inner.Gathered.{keptLeft, lengths, Gathered, gather, sizesOf}
+use Rattle.access_unit.specs.AccessUnit.{targetOf, keeps, leading, following, kept, codeOf, assemble}
+use Rattle.access_unit.specs.inner.Gathered.{keptLeft, Gathered, gather, gatheredUnits, lengths, sizesOf}
+use Rattle.access_unit.specs.declared.StartCodes.{StartCodes}
 use Rattle.access_unit.proofs.Sums.{lengths-append}
-use Rattle.access_unit.proofs.Streams.{stream-length}
+use Rattle.access_unit.proofs.Streams.{stream-most}
+use Rattle.access_unit.proofs.KeptUnits.{leads-and-follows}
 use Rattle.access_unit.proofs.Gathering.{gathered}
+use Rattle.access_unit.proofs.Order.{units-parts}
 use Rattle.access_unit.proofs.Answering.{assemble-unknown, assemble-known}
 use Rattle.path.proofs.Expansion.{then-accept}
 
--- the bytes of units after start codes of four bytes
+-- the bytes of units after start codes of four bytes, which are the most that their stream has
 abbrev pub streamed : List (List ℕ) → ℕ
 streamed us = 4 * length us + lengths us
 
+streamed-append : (us vs : List (List ℕ)) → streamed (us ++ vs) ≡ streamed us + streamed vs
+streamed-append us vs = omega (arith, length-append us vs, lengths-append us vs)
+
 -- the stream of units and one more
-pub stream-more : (us : List (List ℕ)) (u : List ℕ) → length (annexB startCode (us ++ (u ∷ []))) ≡ streamed us + (4 + length u)
+pub stream-more : (code : ℕ → List ℕ → StartCode) (us : List (List ℕ)) (u : List ℕ)
+    → length (annexB code (us ++ (u ∷ []))) ≤ streamed us + (4 + length u)
 unfolding lengths
-stream-more us u = omega (arith, stream-length (us ++ (u ∷ [])), length-append us (u ∷ []), lengths-append us (u ∷ []))
+stream-more code us u = omega (arith, stream-most code (us ++ (u ∷ [])), streamed-append us (u ∷ []))
 
 -- units that lie in s
 pub held-room : (s : List ℕ) (us : List Span) → streamed (map (held s) us) ≤ room 4 us
@@ -105,34 +112,46 @@ module _ (size : ℕ) (item : List ℕ) (some : 1 ≤ size) where
 
 -- ### the stream
 
-module _ (h : VvcConfig) (list item : List ℕ) (tols : Option ℕ) (b : List ℕ) where
+-- the units of the list and of the item, in order
+streamed-parts : (list item : List ℕ) (g : Gathered)
+    → streamed (gatheredUnits list item g) ≡ streamed (map (held list) (g .units)) + streamed (map (held item) (g .kept))
+streamed-parts list item g =
+    let a = map (held item) (leading item (g .kept)) in
+    let b = map (held list) (g .units) in
+    let c = map (held item) (following item (g .kept)) in
+    let k : map (held item) (g .kept) ≡ a ++ c =
+    ap (map (held item)) (sym (leads-and-follows item (g .kept))) ∙ map-append (held item) (leading item (g .kept)) (following item (g .kept)) in
+    omega (arith, ap streamed (units-parts list item g), streamed-append a (b ++ c), streamed-append b c, ap streamed k, streamed-append a c)
+
+module _ (codes : StartCodes) (h : VvcConfig) (list item : List ℕ) (tols : Option ℕ) (b : List ℕ) where
   pub record Parts : Type 0 where
     pub units : List Span
     pub listed : listUnits list ≡ accept units
     pub most : 2 * length b ≤ 2 * streamed (map (held list) units) + 5 * length item
     pub same : h .«length_size» ≡ 4 → length b ≤ streamed (map (held list) units) + length item
 
-  pub assembled-parts : assemble h list item tols ≡ accept b → Parts
+  pub assembled-parts : assemble codes h list item tols ≡ accept b → Parts
   assembled-parts e = go (gather (h .«length_size») (targetOf h tols) list item) refl
     where
       go : (o : Outcome Gathered) → gather (h .«length_size») (targetOf h tols) list item ≡ o → Parts
       go (refuse n) f =
-          let x = sym (assemble-unknown h list item tols (targetOf h tols) refl n f) ∙ e in
+          let x = sym (assemble-unknown codes h list item tols (targetOf h tols) refl n f) ∙ e in
           let z : _≡_ {A = ℕ} 0 1 = cc in
           absurd (omega arith)
       go (accept g) f =
-          let a = assemble-known h list item tols (targetOf h tols) refl (sizesOf list item g) (record { parts = g; found = f; sized = refl }) in
+          let a = assemble-known codes h list item tols (targetOf h tols) refl (sizesOf codes list item g)
+          (record { parts = g; found = f; sized = refl }) in
           let x : accept b ≡ accept (a .bytes) = sym e ∙ a .given in
           let y : b ≡ a .bytes = cc in
-          let l = ap length y in
+          let l : length b ≤ streamed (gatheredUnits list item g) =
+          omega (arith, ap length y, a .long, stream-most (codeOf codes) (gatheredUnits list item g)) in
+          let p = streamed-parts list item g in
           let k = gathered (h .«length_size») (targetOf h tols) list item g f in
           let i = kept-fit (h .«length_size») item (k .some) (targetOf h tols) (g .kept) (k .found) in
           let r = held-room item (g .kept) in
-          let m = length-map (g .units) (held list) in
-          let n = length-map (g .kept) (held item) in
           record {
             units = g .units;
             listed = k .listed;
-            most = omega (arith, a .long, i .most);
-            same = λ s. let t = i .same s in omega (arith, a .long);
+            most = omega (arith, l, p, r, i .most);
+            same = λ s. let t = i .same s in omega (arith, l, p, r);
           }

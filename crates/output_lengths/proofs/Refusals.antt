@@ -40,6 +40,7 @@ use Rattle.full.specs.declared.VvcConfig.{VvcConfig}
 use Rattle.expand.specs.Expand.{multiLayerVps, ptlOfSets, expandUnits, toFull}
 use Rattle.expand.specs.declared.Picture.{Picture}
 use Rattle.access_unit.specs.AccessUnit.{Source, targetOf, arranged, notEmpty, accessUnit, assemble}
+use Rattle.access_unit.specs.declared.StartCodes.{StartCodes}
 use Rattle.still.specs.Stills.{anyPicture, stillRecord, streamWith, stillStream}
 use Rattle.vvcc_c.specs.Exports.{readBeside}
 use Rattle.output_lengths.proofs.NotShort.{NotShort, not-short-lent, not-short-if, serialize-not-short, restore-not-short}
@@ -388,9 +389,9 @@ unfolding splitItem itemUnits
 split-not-short size item =
     not-short-lent item _ (not-short-if (outside size) 4 _ (λ e. omega arith) (not-short-read (never-many (never-item size)) item 0))
 
-assemble-not-short : (h : VvcConfig) (list item : List ℕ) (tols : Option ℕ) → NotShort (assemble h list item tols)
+assemble-not-short : (codes : StartCodes) (h : VvcConfig) (list item : List ℕ) (tols : Option ℕ) → NotShort (assemble codes h list item tols)
 unfolding assemble accessUnit
-assemble-not-short h list item tols =
+assemble-not-short codes h list item tols =
     not-short-then (accessUnit h list item tols) _
     (not-short-lent item _
     (not-short-then (listUnits list) _ (list-not-short list) (λ us.
@@ -409,18 +410,19 @@ record-not-short C pic =
     not-short-then (toFull (r .0 .config) pic (r .1)) _ (full-not-short (r .0 .config) pic (r .1)) (λ full.
     serialize-not-short (full .0 .head) (full .1)))
 
-pub stream-not-short : (C S : List ℕ) (tols : Option ℕ) → NotShort (stillStream C S tols)
+pub stream-not-short : (codes : StartCodes) (C S : List ℕ) (tols : Option ℕ) → NotShort (stillStream codes C S tols)
 unfolding stillStream streamWith
-stream-not-short C S tols =
+stream-not-short codes C S tols =
     not-short-lent S _
     (not-short-then (parseCompact C) _ (compact-not-short C) (λ r.
     not-short-then (toFull (r .0 .config) anyPicture (r .1)) _ (full-not-short (r .0 .config) anyPicture (r .1)) (λ full.
     not-short-then (serializeFull (full .0 .head) (full .1)) _ (serialize-not-short (full .0 .head) (full .1)) (λ b.
     not-short-then (parseFull b) _ (parse-not-short b) (λ back.
     not-short-then (restore (r .0 .config) S) _ (restore-not-short (r .0 .config) S) (λ item.
-    assemble-not-short (back .0 .head) (back .1) item tols))))))
+    assemble-not-short codes (back .0 .head) (back .1) item tols))))))
 
-pub beside-not-short : (rec item : List ℕ) (tols : Option ℕ) → NotShort (andThen (readBeside rec item) (λ r. assemble (r .0 .head) (r .1) item tols))
+pub beside-not-short : (codes : StartCodes) (rec item : List ℕ) (tols : Option ℕ)
+    → NotShort (andThen (readBeside rec item) (λ r. assemble codes (r .0 .head) (r .1) item tols))
 unfolding readBeside
-beside-not-short rec item tols =
-    not-short-then (readBeside rec item) _ (not-short-lent item _ (parse-not-short rec)) (λ r. assemble-not-short (r .0 .head) (r .1) item tols)
+beside-not-short codes rec item tols =
+    not-short-then (readBeside rec item) _ (not-short-lent item _ (parse-not-short rec)) (λ r. assemble-not-short codes (r .0 .head) (r .1) item tols)

@@ -25,10 +25,11 @@ use Rattle.full.specs.Write.{headBytes, fullBytes, serializeFull}
 use Rattle.full.specs.declared.VvcConfig.{VvcConfig}
 use Rattle.expand.specs.Expand.{FullHead, expandedHead, toFull}
 use Rattle.expand.specs.declared.Picture.{Picture}
-use Rattle.access_unit.specs.AccessUnit.{startCode, assemble}
+use Rattle.access_unit.specs.AccessUnit.{codeOf, assemble}
 use Rattle.access_unit.specs.inner.Gathered.{lengths}
 use Rattle.path.proofs.Expansion.{then-accept}
 use Rattle.path.proofs.Lengths.{head-long, arrays-long}
+use Rattle.access_unit.specs.declared.StartCodes.{StartCodes}
 use Rattle.still.specs.Stills.{stillRecord, anyPicture, streamWith, stillStream}
 use Rattle.still.specs.inner.Steps.{ReadFrom, itemAfter, streamExpanded, unitsStream}
 use Rattle.still.proofs.Lists.{Ready, written-bytes, facts, us, types, expanded, written, ready}
@@ -100,34 +101,35 @@ module _ (C : List ℕ) (all : AllBytes C) (r : CompactParsed) (list : List ℕ)
       let m : streamed (map (held arrays) vs) ≡ streamed groups = ap (λ (l : List ℕ). streamed (map (held l) vs)) (k .is-list) ∙ ap streamed g in
       omega (arith, m, count, grouped-less units, long)
 
-  module _ (S : List ℕ) (tols : Option ℕ) (lent : length S ≤ 2 ^ 30) (b : List ℕ) (f : streamExpanded c (full .head) arrays S tols ≡ accept b) where
+  module _ (codes : StartCodes) (S : List ℕ) (tols : Option ℕ) (lent : length S ≤ 2 ^ 30) (b : List ℕ)
+      (f : streamExpanded codes c (full .head) arrays S tols ≡ accept b) where
     is-ready : Ready c (full .head) arrays
     is-ready = ready c (full .head) arrays (record { compact-list = list; from = from; picture = pic; full = full; expands = x; head = refl })
 
     -- full write and restore are accepted
     restored : (item : List ℕ) × (accept (length item) ≡ countFound (itemAfter c (full .head) arrays S))
     restored =
-        let p = then-accept (serializeFull (full .head) arrays) (λ _. andThen (restore c S) (λ item. assemble (full .head) arrays item tols)) b
-        (sym (is-ready .steps S tols) ∙ f) in
-        let q = then-accept (restore c S) (λ item. assemble (full .head) arrays item tols) b (p .2) in (
+        let p = then-accept (serializeFull (full .head) arrays) (λ _. andThen (restore c S) (λ item. assemble codes (full .head) arrays item tols)) b
+        (sym (is-ready .steps codes S tols) ∙ f) in
+        let q = then-accept (restore c S) (λ item. assemble codes (full .head) arrays item tols) b (p .2) in (
           q .0,
           item-counted c (full .head) arrays S (length (p .0)) (accept (length (q .0))) (ap countFound (sym (p .1))) (ap countFound (sym (q .1))),
         )
 
     layers-long : c .«multi_layer_flag» ≡ true → length b ≤ stillRoomWith true C S
     layers-long s =
-        let p = assembled-parts (full .head) arrays S tols b
-        (sym (stream-layers c (full .head) arrays S tols is-ready (length (restored .0)) (restored .1) lent s) ∙ f) in
+        let p = assembled-parts codes (full .head) arrays S tols b
+        (sym (stream-layers codes c (full .head) arrays S tols is-ready (length (restored .0)) (restored .1) lent s) ∙ f) in
         omega (arith, p .most, listed-long (p .units) (p .listed))
 
     plain-long : c .«multi_layer_flag» ≡ false → length b ≤ stillRoomWith false C S
     plain-long s =
-        let p = sym (stream-plain c (full .head) arrays S tols is-ready (length (restored .0)) (restored .1) lent s) ∙ f in
-        let q = then-accept (listUnits arrays) _ b (lent-accepted (toChunk (c .«length_size») (stillUnit S)) (unitsStream arrays S) b p .1) in
+        let p = sym (stream-plain codes c (full .head) arrays S tols is-ready (length (restored .0)) (restored .1) lent s) ∙ f in
+        let q = then-accept (listUnits arrays) _ b (lent-accepted (toChunk (c .«length_size») (stillUnit S)) (unitsStream codes arrays S) b p .1) in
         let vs = map (held arrays) (q .0) in
-        let y : annexB startCode (vs ++ (stillUnit S ∷ [])) ≡ b = cc (q .2) in
+        let y : annexB (codeOf codes) (vs ++ (stillUnit S ∷ [])) ≡ b = cc (q .2) in
         let l = ap length y in
-        omega (arith, l, stream-more vs (stillUnit S), listed-long (q .0) (q .1))
+        omega (arith, l, stream-more (codeOf codes) vs (stillUnit S), listed-long (q .0) (q .1))
 
     still-long : length b ≤ stillRoom C S
     still-long = go (multiLayer C) (flag-is C r list (facts c list from))
@@ -144,10 +146,10 @@ module _ (C : List ℕ) (all : AllBytes C) where
       let q = then-accept (toFull (p .0 .0 .config) pic (p .0 .1)) _ b (p .2) in
       record-long C all (p .0 .0) (p .0 .1) (p .1) pic (q .0 .0) (q .0 .1) (q .1) b (q .2))
 
-  pub still-suffices : (S : List ℕ) (tols : Option ℕ) → Suffices (stillRoom C S) (stillStream C S tols)
+  pub still-suffices : (codes : StartCodes) (S : List ℕ) (tols : Option ℕ) → Suffices (stillRoom C S) (stillStream codes C S tols)
   unfolding stillStream streamWith
-  still-suffices S tols = suffices (stillRoom C S) (stillStream C S tols) (stream-not-short C S tols) (λ b e.
+  still-suffices codes S tols = suffices (stillRoom C S) (stillStream codes C S tols) (stream-not-short codes C S tols) (λ b e.
       let l = lent-accepted S _ b e in
       let p = then-accept (parseCompact C) _ b (l .1) in
       let q = then-accept (toFull (p .0 .0 .config) anyPicture (p .0 .1)) _ b (p .2) in
-      still-long C all (p .0 .0) (p .0 .1) (p .1) anyPicture (q .0 .0) (q .0 .1) (q .1) S tols (l .0) b (q .2))
+      still-long C all (p .0 .0) (p .0 .1) (p .1) anyPicture (q .0 .0) (q .0 .1) (q .1) codes S tols (l .0) b (q .2))

@@ -20,8 +20,9 @@ use Rattle.ptl.specs.declared.VvcPtlRecord.{VvcPtlRecord}
 use Rattle.ptl_record.specs.AsWritten.{asWritten}
 use Rattle.ptl_record.proofs.RoundTrip as P
 use Rattle.split.specs.Item.{splitItem}
-use Rattle.split.specs.Stream.{annexB, streamUnitsFrom, splitStream}
-use Rattle.split.proofs.RoundTrip.{four, split-assembled, split-one, held-one}
+use Rattle.split.specs.Stream.{StartCode, annexB, streamUnitsFrom, splitStream}
+use Rattle.split.specs.RoundTrip.{Clean}
+use Rattle.split.proofs.RoundTrip.{split-assembled, split-one, held-one}
 use Rattle.grouping.specs.Grouping.{grouped}
 use Rattle.grouping.proofs.GroupedFits.{Every, grouped-sound, grouped-few, grouped-count, every-grouped, units-long, grouped-long}
 use Rattle.compact.specs.ItemData.{restore}
@@ -36,19 +37,23 @@ use Rattle.full.proofs.RecordRoundTrip.{read-written}
 use Rattle.expand.specs.Expand.{expandedHead}
 use Rattle.expand.specs.declared.Picture.{Picture}
 use Rattle.expand.proofs.WrittenGroups.{Groupable, grouped-fit}
-use Rattle.access_unit.specs.AccessUnit.{startCode, assemble}
+use Rattle.access_unit.specs.AccessUnit.{codeOf, assemble}
+use Rattle.access_unit.specs.inner.Gathered.{lengths}
+use Rattle.access_unit.specs.declared.StartCodes.{StartCodes}
 use Rattle.access_unit.proofs.OneUnit.{one-assembled}
-use Rattle.path.specs.Still.{Clean}
+use Rattle.access_unit.proofs.Streams.{stream-most}
 use Rattle.path.proofs.Lengths.{head-long, arrays-long}
 use Rattle.path.proofs.Units.{still-splits, all-split}
 
-annexB-long : (gs : List (List ℕ)) (u : List ℕ) → Every (λ x. length x ≤ 255) gs
-    → length (annexB startCode (gs ++ (u ∷ []))) ≤ 259 * length gs + 4 + length u
-unfolding annexB
-annexB-long [] u e = omega (arith, length-append u [])
-annexB-long (g ∷ gs) u e =
-    let h = e .0 in
-    omega (arith, length-append g (annexB startCode (gs ++ (u ∷ []))), annexB-long gs u (e .1))
+lengths-long : (gs : List (List ℕ)) (u : List ℕ) → Every (λ x. length x ≤ 255) gs → lengths (gs ++ (u ∷ [])) ≤ 255 * length gs + length u
+unfolding lengths
+lengths-long [] u e = omega arith
+lengths-long (g ∷ gs) u e = let h = e .0 in omega (arith, lengths-long gs u (e .1))
+
+-- whichever start codes the units have
+annexB-long : (code : ℕ → List ℕ → StartCode) (gs : List (List ℕ)) (u : List ℕ) → Every (λ x. length x ≤ 255) gs
+    → length (annexB code (gs ++ (u ∷ []))) ≤ 259 * length gs + 4 + length u
+annexB-long code gs u e = omega (arith, stream-most code (gs ++ (u ∷ [])), lengths-long gs u e, length-append gs (u ∷ []))
 
 -- what is known of a still whose record was read and expanded
 pub record Expanded (c : CompactVvcConfig) (pic : Picture) (ptl : VvcPtlRecord) (us : List (List ℕ)) (S : List ℕ) : Type 0 where
@@ -157,19 +162,23 @@ module _ (c : CompactVvcConfig) (pic : Picture) (ptl : VvcPtlRecord) (us : List 
   item-held : held item one ≡ 0 ∷ 65 ∷ S
   item-held = held-one (c .«length_size») (0 ∷ 65 ∷ S) (k .size-low) (k .size-high) (omega arith) item-fits
 
-  -- ---- the stream
+-- ---- the stream
+module _ (codes : StartCodes) (c : CompactVvcConfig) (pic : Picture) (ptl : VvcPtlRecord) (us : List (List ℕ)) (S : List ℕ)
+    (k : Expanded c pic ptl us S) where
   abbrev pub carried : List (List ℕ)
   carried = unitsOf (grouped us) ++ ((0 ∷ 65 ∷ S) ∷ [])
 
   abbrev pub stream : List ℕ
-  stream = annexB startCode carried
+  stream = annexB (codeOf codes) carried
 
-  pub assembles : (tols : Option ℕ) → assemble back groupedList item tols ≡ accept stream
+  pub assembles : (tols : Option ℕ)
+      → assemble codes (back c pic ptl us S k) (groupedList c pic ptl us S k) (item c pic ptl us S k) tols ≡ accept stream
   assembles tols =
       let l = grouped-long us (k .units .short) in
       let n = k .few in
       let r = units-encode (grouped us) (omega arith) (grouped-sound us (k .units .types)) in
-      one-assembled back groupedList item tols (r .spans) one (0 ∷ 65 ∷ S) (r .read) item-split item-held (λ x. omega arith) (λ x. omega arith)
+      one-assembled (back c pic ptl us S k) _ _ tols (r .spans) (one c pic ptl us S k) (0 ∷ 65 ∷ S) (r .read) (item-split c pic ptl us S k)
+      (item-held c pic ptl us S k) (λ x. omega arith) (λ x. omega arith) codes
       ∙ rw (r .bytes)
 
   all-splits : (j : ℕ) → j < length carried → Splittable (getD carried j [])
@@ -179,14 +188,18 @@ module _ (c : CompactVvcConfig) (pic : Picture) (ptl : VvcPtlRecord) (us : List 
   stream-long =
       let n = k .few in
       let s = k .short in
-      omega (arith, annexB-long (unitsOf (grouped us)) (0 ∷ 65 ∷ S) (every-grouped us (λ u. length u ≤ 255) (k .units .short)), grouped-count us)
+      omega (
+        arith,
+        annexB-long (codeOf codes) (unitsOf (grouped us)) (0 ∷ 65 ∷ S) (every-grouped us (λ u. length u ≤ 255) (k .units .short)),
+        grouped-count us,
+      )
 
   pub splits : splitStream stream ≡ accept (streamUnitsFrom stream 0)
   unfolding splitStream
   splits = rw (le-leb (length stream) (2 ^ 30) stream-long)
 
   pub split-units : map (held stream) (streamUnitsFrom stream 0) ≡ carried
-  split-units = split-assembled startCode four carried all-splits
+  split-units = split-assembled (codeOf codes) carried all-splits
 
   pub split-count : length (streamUnitsFrom stream 0) ≡ length us + 1
   split-count =

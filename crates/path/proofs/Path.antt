@@ -14,6 +14,7 @@ use Rattle.split.specs.Stream.{streamUnitsFrom, splitStream}
 use Rattle.grouping.specs.Grouping.{grouped}
 use Rattle.grouping.proofs.Grouping.{grouped-as}
 use Rattle.expand.specs.declared.Picture.{Picture}
+use Rattle.access_unit.specs.declared.StartCodes.{StartCodes}
 use Rattle.path.specs.Still.{unitsIn, Still}
 use Rattle.path.specs.Path.{Path, WholePath}
 use Rattle.path.proofs.Writes.{writes-of, counts-of}
@@ -22,8 +23,9 @@ use Rattle.path.proofs.Steps.{config, expansion-of, listOf, streamOf, r
 use Rattle.path.proofs.Steps.{headBack, itemOf, is-expanded, is-written, is-read-back, is-restored, is-assembled}
 
 -- one still
-module _ (C S : List ℕ) (still : Still C S) (pic : Picture) (chroma : pic .«chroma_format_idc» ≤ 3) (depth : pic .«bit_depth» ≤ 15) where
-  path : (tols : Option ℕ) → Path C S pic tols
+module _ (codes : StartCodes) (C S : List ℕ) (still : Still C S) (pic : Picture) (chroma : pic .«chroma_format_idc» ≤ 3)
+    (depth : pic .«bit_depth» ≤ 15) where
+  path : (tols : Option ℕ) → Path codes C S pic tols
   path tols =
       let k = carries C S still pic chroma depth in
       let p = expansion-of C S still .ptl in
@@ -40,21 +42,22 @@ module _ (C S : List ℕ) (still : Still C S) (pic : Picture) (chroma : pic .«c
         reads-back = writes-of _ _ _ (is-read-back C S still pic chroma depth);
         item = itemOf C S still pic chroma depth;
         restores = counts-of _ _ (is-restored C S still pic chroma depth);
-        stream = streamOf C S still;
-        assembles = counts-of _ _ (is-assembled C S still pic chroma depth tols);
-        spans = streamUnitsFrom (streamOf C S still) 0;
-        splits = splits (config C S still) pic p (unitsIn C) S k;
+        stream = streamOf codes C S still;
+        assembles = counts-of _ _ (is-assembled codes C S still pic chroma depth tols);
+        spans = streamUnitsFrom (streamOf codes C S still) 0;
+        splits = splits codes (config C S still) pic p (unitsIn C) S k;
         grouped = unitsOf (grouped (unitsIn C));
         order = grouped-as (unitsIn C);
-        count = split-count (config C S still) pic p (unitsIn C) S k;
-        unit = unit-below (config C S still) pic p (unitsIn C) S k;
-        last = unit-last (config C S still) pic p (unitsIn C) S k;
+        count = split-count codes (config C S still) pic p (unitsIn C) S k;
+        unit = unit-below codes (config C S still) pic p (unitsIn C) S k;
+        last = unit-last codes (config C S still) pic p (unitsIn C) S k;
         is-stream = refl;
       }
 
 -- two stills
-module _ {C S C′ S′ : List ℕ} {pic pic′ : Picture} {tols tols′ : Option ℕ} (p : Path C S pic tols) (q : Path C′ S′ pic′ tols′) where
-  grouped-long : {C S : List ℕ} {pic : Picture} {tols : Option ℕ} (p : Path C S pic tols) → length (p .grouped) ≡ length (unitsIn C)
+module _ {codes : StartCodes} {C S C′ S′ : List ℕ} {pic pic′ : Picture} {tols tols′ : Option ℕ} (p : Path codes C S pic tols)
+    (q : Path codes C′ S′ pic′ tols′) where
+  grouped-long : {C S : List ℕ} {pic : Picture} {tols : Option ℕ} (p : Path codes C S pic tols) → length (p .grouped) ≡ length (unitsIn C)
   grouped-long p = ap length (p .order .units) ∙ length-map (p .order .order) _ ∙ p .order .count
 
   same-streams : S ≡ S′ → p .grouped ≡ q .grouped → p .stream ≡ q .stream
@@ -80,8 +83,8 @@ module _ {C S C′ S′ : List ℕ} {pic pic′ : Picture} {tols tols′ : Optio
         (sym (p .last) ∙ same-unit (length (unitsIn C)) ∙ ap (λ (k : ℕ). held (q .stream) (getD (q .spans) k nowhere)) same-count ∙ q .last)
 
 -- The claim (specs/Path.antt).
-pub whole-path : WholePath
-whole-path C S C′ S′ still still′ pic pic′ chroma depth chroma′ depth′ tols tols′ =
-    let p = path C S still pic chroma depth tols in
-    let q = path C′ S′ still′ pic′ chroma′ depth′ tols′ in
+pub whole-path : (codes : StartCodes) → WholePath codes
+whole-path codes C S C′ S′ still still′ pic pic′ chroma depth chroma′ depth′ tols tols′ =
+    let p = path codes C S still pic chroma depth tols in
+    let q = path codes C′ S′ still′ pic′ chroma′ depth′ tols′ in
     record { first = p; second = q; same = (λ e. (cc (same-picture p q e), cc (same-grouped p q e)), λ e. same-streams p q (e .0) (e .1)) }

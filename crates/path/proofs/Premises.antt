@@ -2,19 +2,19 @@
 use Prim.Native.Nat.{ℕ, zero, suc, _+_, _^_, _≤_, _<_}
 use native.Mathlib.Omega.{arith}
 use mathlib.Core.Path.{_≡_, refl, sym, subst}
-use mathlib.Core.Bool.{Bool, true, false, _&&_}
+use mathlib.Core.Bool.{Bool, true, false}
 use mathlib.Core.List.{List, [], _∷_}
 use lib.Dec.{eqb}
 use lib.ListN.{length, getD}
 use borrow.Author.Tests.{eq-eqb}
 use Rattle.parse.specs.Logic.{if_then_else_}
 use Rattle.parse.specs.Outcome.{accept}
-use Rattle.parse.proofs.General.{both-true}
 use Rattle.boxes.proofs.AllBytes.{allBytes, bytes-of}
 use Rattle.nal.specs.Header.{typeOr31}
-use Rattle.nal.specs.StartCode.{unitChecked}
-use Rattle.nal.proofs.Checks.{Splittable, checked-splittable}
+use Rattle.nal.proofs.Checks.{Splittable}
 use Rattle.unit_list.specs.UnitList.{encode}
+use Rattle.split.specs.RoundTrip.{Clean}
+use Rattle.split.proofs.Checked.{allChecked, splits-at, clean-of}
 use Rattle.ptl.proofs.Examples.{ptlOfP}
 use Rattle.grouping.specs.Grouping.{havingType, grouped}
 use Rattle.grouping.specs.Order.{typeAt}
@@ -22,21 +22,7 @@ use Rattle.compact.specs.Compact.{CompactParsed, oneArray, parseCompact}
 use Rattle.compact.specs.declared.CompactVvcConfig.{CompactVvcConfig}
 use Rattle.expand.specs.Expand.{FullHead, expandedHead, withList, toFull}
 use Rattle.expand.specs.declared.Picture.{Picture}
-use Rattle.path.specs.Still.{Clean, AtMostOne, unitsIn, Still}
-
--- no unit is empty, contains 00 00 01 or ends in 00: the unit check (SCOPE 4.6)
-unfoldable pub allChecked : List (List ℕ) → Bool
-allChecked [] = true
-allChecked (v ∷ us) = unitChecked v && allChecked us
-
-splits-at : (us : List (List ℕ)) → allChecked us ≡ true → (k : ℕ) → k < length us → Splittable (getD us k [])
-unfolding allChecked
-splits-at [] e k h = absurd (omega arith)
-splits-at (v ∷ us) e zero h = checked-splittable v (both-true (unitChecked v) (allChecked us) e .0)
-splits-at (v ∷ us) e (suc k) h = splits-at us (both-true (unitChecked v) (allChecked us) e .1) k (omega arith)
-
-pub clean-of : (v : List ℕ) → Splittable v → Clean v
-clean-of v s = record { free = λ i a b c d. s .free i (record { inside = a; first = b; second = c; third = d }); ends = λ _. s .ends }
+use Rattle.path.specs.Still.{AtMostOne, unitsIn, Still}
 
 pub clean-none : Clean []
 clean-none = record { free = λ i a b c d. omega arith; ends = λ h. absurd (omega arith) }

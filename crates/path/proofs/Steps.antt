@@ -13,6 +13,7 @@ use Rattle.boxes.specs.Bytes.{AllBytes}
 use Rattle.nal.specs.Header.{largestUnitType, typeOr31}
 use Rattle.nal.proofs.Checks.{Splittable}
 use Rattle.unit_list.specs.UnitList.{unitsOf, encode}
+use Rattle.split.proofs.Checked.{clean-splits}
 use Rattle.split.specs.Stream.{annexB}
 use Rattle.grouping.specs.Grouping.{havingType, grouped}
 use Rattle.grouping.proofs.GroupedFits.{Every}
@@ -28,9 +29,10 @@ use Rattle.expand.specs.Expand.{expandedHead, withList, expandUnits, toFull}
 use Rattle.expand.specs.declared.Picture.{Picture}
 use Rattle.expand.proofs.Expansion.{list-expanded}
 use Rattle.expand.proofs.WrittenGroups.{Groupable}
-use Rattle.access_unit.specs.AccessUnit.{startCode, assemble}
+use Rattle.access_unit.specs.AccessUnit.{codeOf, assemble}
+use Rattle.access_unit.specs.declared.StartCodes.{StartCodes}
 use Rattle.path.specs.Still.{Still, unitsIn}
-use Rattle.path.proofs.Units.{every-of, every-at, one-of, type-small, clean-splits}
+use Rattle.path.proofs.Units.{every-of, every-at, one-of, type-small}
 use Rattle.path.proofs.Record.{Facts, facts, is-read}
 use Rattle.path.proofs.Expansion.{Expansion, expansion, of-units}
 use Rattle.path.proofs.Carried.{Expanded, back, item, written, read-back, restored, assembles}
@@ -72,12 +74,9 @@ module _ (C S : List ℕ) (still : Still C S) where
       (subst (λ (vs : List (List ℕ)). expandUnits config (still .picture) vs ≡ accept (still .full, still .full-list)) (known .units .bytes)
       (of-units config (still .picture) (still .list) (known .units .spans) (still .full, still .full-list) (known .units .read) (still .expands)))
 
-  -- the list and the stream depend neither on the picture nor on the target
+  -- the list does not depend on the picture
   abbrev pub listOf : List ℕ
   listOf = encode (grouped us)
-
-  abbrev pub streamOf : List ℕ
-  streamOf = annexB startCode (unitsOf (grouped us) ++ ((0 ∷ 65 ∷ S) ∷ []))
 
   pub reads-as : parseCompact C ≡ accept (record { config = config; unitCount = length us; listLength = length (still .list) }, still .list)
   reads-as = is-read C (still .bytes) (still .read) (still .list) (still .reads)
@@ -124,5 +123,12 @@ module _ (C S : List ℕ) (still : Still C S) where
     pub is-restored : restore config S ≡ accept itemOf
     is-restored = restored config pic (expansion-of .ptl) us S carries
 
-    pub is-assembled : (tols : Option ℕ) → assemble headBack listOf itemOf tols ≡ accept streamOf
-    is-assembled tols = assembles config pic (expansion-of .ptl) us S carries tols
+module _ (codes : StartCodes) (C S : List ℕ) (still : Still C S) where
+  -- the stream depends neither on the picture nor on the target
+  abbrev pub streamOf : List ℕ
+  streamOf = annexB (codeOf codes) (unitsOf (grouped (unitsIn C)) ++ ((0 ∷ 65 ∷ S) ∷ []))
+
+  pub is-assembled : (pic : Picture) (chroma : pic .«chroma_format_idc» ≤ 3) (depth : pic .«bit_depth» ≤ 15) (tols : Option ℕ)
+      → assemble codes (headBack C S still pic chroma depth) (listOf C S still) (itemOf C S still pic chroma depth) tols ≡ accept streamOf
+  is-assembled pic chroma depth tols =
+      assembles codes (config C S still) pic (expansion-of C S still .ptl) (unitsIn C) S (carries C S still pic chroma depth) tols

@@ -14,11 +14,12 @@ use Rattle.boxes.specs.Bytes.{AllBytes}
 use Rattle.nal.specs.Header.{largestUnitType, typeOr31}
 use Rattle.nal.proofs.StartCodes.{CodeAt}
 use Rattle.nal.proofs.Checks.{Splittable}
+use Rattle.split.specs.RoundTrip.{Clean}
 use Rattle.split.proofs.RoundTrip.{AllSplittable}
 use Rattle.grouping.specs.Grouping.{havingType}
 use Rattle.grouping.specs.Order.{typeAt}
 use Rattle.grouping.proofs.GroupedFits.{Every}
-use Rattle.path.specs.Still.{Clean, AtMostOne}
+use Rattle.path.specs.Still.{AtMostOne}
 
 -- what holds of unit k for every k holds of every unit, and conversely
 pub every-of : (P : List ℕ → Type 0) (us : List (List ℕ)) → ((k : ℕ) → k < length us → P (getD us k [])) → Every P us
@@ -54,10 +55,6 @@ pub type-small : (u : List ℕ) → AllBytes u → typeOr31 u ≤ largestUnitTyp
 type-small [] b = omega arith
 type-small (x ∷ []) b = omega arith
 type-small (x ∷ y ∷ u) b = omega (arith, b 1)
-
--- units into which a stream splits
-pub clean-splits : (u : List ℕ) → 0 < length u → Clean u → Splittable u
-clean-splits u h c = record { some = h; free = λ i k. c .free i (k .inside) (k .first) (k .second) (k .third); ends = c .ends h }
 
 no-code : (S : List ℕ) → Clean S → (i : ℕ) → CodeAt (0 ∷ 65 ∷ S) i → ⊥
 no-code S c zero k = let e = k .second in omega arith

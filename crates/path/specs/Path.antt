@@ -18,15 +18,17 @@ use Rattle.full.specs.Write.{serializeFull}
 use Rattle.full.specs.declared.VvcConfig.{VvcConfig}
 use Rattle.expand.specs.Expand.{toFull}
 use Rattle.expand.specs.declared.Picture.{Picture}
-use Rattle.access_unit.specs.AccessUnit.{assemble}
+use Rattle.access_unit.specs.AccessUnit.{codeOf, assemble}
+use Rattle.access_unit.specs.declared.StartCodes.{StartCodes}
 use Rattle.path.specs.Still.{unitsIn, Still}
 
 -- A call that writes is accepted with any output that is long enough: it returns a, and its bytes are at the front of the output.
 abbrev pub Writes : {A : Type 0} → Outcome (A × List ℕ) → A → List ℕ → Type 0
 Writes o a bytes = (out : List ℕ) → length bytes ≤ length out → lentOutput o out ≡ (accept a, overlay bytes out)
 
--- One still: every step is accepted, each with the results of the steps before it; and the units of the split stream (SCOPE 5.3).
-pub record Path (C S : List ℕ) (pic : Picture) (tols : Option ℕ) : Type 0 where
+-- One still, with a choice of start codes: every step is accepted, each with the results of the steps before it; and the units of the split stream
+-- (SCOPE 5.3).
+pub record Path (codes : StartCodes) (C S : List ℕ) (pic : Picture) (tols : Option ℕ) : Type 0 where
   -- compact read of C; expand of what it returned, with the picture
   pub config : CompactVvcConfig
   pub list : List ℕ
@@ -42,9 +44,9 @@ pub record Path (C S : List ℕ) (pic : Picture) (tols : Option ℕ) : Type 0 wh
   -- restore of S with compact read's flag and prefix size
   pub item : List ℕ
   pub restores : Writes (counted (restore config S)) (length item) item
-  -- assemble of full read's head and list, that item and the target
+  -- assemble of full read's head and list, that item and the target, with the choice of start codes
   pub stream : List ℕ
-  pub assembles : Writes (counted (assemble head full-list item tols)) (length stream) stream
+  pub assembles : Writes (counted (assemble codes head full-list item tols)) (length stream) stream
   -- split of the stream
   pub spans : List Span
   pub splits : splitStream stream ≡ accept spans
@@ -55,19 +57,20 @@ pub record Path (C S : List ℕ) (pic : Picture) (tols : Option ℕ) : Type 0 wh
   pub count : length spans ≡ length (unitsIn C) + 1
   pub unit : (k : ℕ) → k < length (unitsIn C) → held stream (getD spans k nowhere) ≡ getD grouped k []
   pub last : held stream (getD spans (length (unitsIn C)) nowhere) ≡ 0x00 ∷ 0x41 ∷ S
-  -- the stream is these units, each after 00 00 00 01
-  pub is-stream : stream ≡ annexB (0x00 ∷ 0x00 ∷ 0x00 ∷ 0x01 ∷ []) (grouped ++ ((0x00 ∷ 0x41 ∷ S) ∷ []))
+  -- the stream is these units, each after its start code
+  pub is-stream : stream ≡ annexB (codeOf codes) (grouped ++ ((0x00 ∷ 0x41 ∷ S) ∷ []))
 
--- Two stills, each with its own picture and target: both paths; and the streams are the same bytes exactly when S = S′ and the grouped units are
--- equal, one by one in order (SCOPE 5.3).
-pub record Paths (C S C′ S′ : List ℕ) (pic pic′ : Picture) (tols tols′ : Option ℕ) : Type 0 where
-  pub first : Path C S pic tols
-  pub second : Path C′ S′ pic′ tols′
+-- Two stills, each with its own picture and target, under one choice of start codes: both paths; and the streams are the same bytes exactly when
+-- S = S′ and the grouped units are equal, one by one in order (SCOPE 5.3).
+pub record Paths (codes : StartCodes) (C S C′ S′ : List ℕ) (pic pic′ : Picture) (tols tols′ : Option ℕ) : Type 0 where
+  pub first : Path codes C S pic tols
+  pub second : Path codes C′ S′ pic′ tols′
   pub same : (first .stream ≡ second .stream) ↔ ((S ≡ S′) × (first .grouped ≡ second .grouped))
 
--- The claim, for any two stills that meet the premises and any targets, with chroma at most 3, depth at most 15 and any dimensions.
-abbrev pub WholePath : Type 0
-WholePath =
+-- The claim under a choice of start codes, for any two stills that meet the premises and any targets, with chroma at most 3, depth at most 15 and any
+-- dimensions.
+abbrev pub WholePath : StartCodes → Type 0
+WholePath codes =
     (C S C′ S′ : List ℕ) → Still C S → Still C′ S′
     → (pic pic′ : Picture) → pic .«chroma_format_idc» ≤ 3 → pic .«bit_depth» ≤ 15 → pic′ .«chroma_format_idc» ≤ 3 → pic′ .«bit_depth» ≤ 15
-    → (tols tols′ : Option ℕ) → Paths C S C′ S′ pic pic′ tols tols′
+    → (tols tols′ : Option ℕ) → Paths codes C S C′ S′ pic pic′ tols tols′

@@ -1,5 +1,5 @@
 -- The premises of the whole path about a still (SCOPE 5.1).
-use Prim.Native.Nat.{ℕ, _+_, _-_, _^_, _≤_, _<_}
+use Prim.Native.Nat.{ℕ, _+_, _^_, _≤_, _<_}
 use mathlib.Core.Path.{_≡_}
 use mathlib.Core.Bool.{false}
 use mathlib.Core.List.{List, [], map}
@@ -9,16 +9,12 @@ use Rattle.parse.specs.Parse.{Parsed, value, refused}
 use Rattle.boxes.specs.Parts.{held}
 use Rattle.boxes.specs.Bytes.{AllBytes}
 use Rattle.boxes.specs.declared.Span.{Span}
+use Rattle.split.specs.RoundTrip.{Clean}
 use Rattle.grouping.specs.Order.{typeAt}
 use Rattle.compact.specs.Compact.{CompactParsed, compactRecord, parseCompact}
 use Rattle.compact.specs.declared.CompactVvcConfig.{CompactVvcConfig}
 use Rattle.expand.specs.Expand.{FullHead, toFull}
 use Rattle.expand.specs.declared.Picture.{Picture}
-
--- u does not contain 00 00 01 and does not end in 00
-pub record Clean (u : List ℕ) : Type 0 where
-  pub free : (i : ℕ) → i + 2 < length u → getD u i 0 ≡ 0 → getD u (i + 1) 0 ≡ 0 → getD u (i + 2) 0 ≡ 1 → ⊥
-  pub ends : 0 < length u → getD u (length u - 1) 0 ≡ 0 → ⊥
 
 -- at most one unit has type t
 abbrev pub AtMostOne : ℕ → List (List ℕ) → Type 0

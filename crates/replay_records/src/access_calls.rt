@@ -1,4 +1,5 @@
 // Internal: the calls of `access_unit`, `access_unit_annex_b` and `access_unit_nal`.
+use access_unit::StartCodes;
 use access_unit::Target;
 use full::VvcConfig;
 use replay_text::fields;
@@ -10,6 +11,24 @@ fn target_of(numbers: &[u8]) -> Target {
         return Target::Ols(fields::two(numbers, 1) as u16);
     }
     Target::Unset
+}
+
+// `access_unit_annex_b`
+fn stream(
+    head: VvcConfig,
+    list: &[u8],
+    item: &[u8],
+    tols: Target,
+    codes: StartCodes,
+    lent: &mut [u8],
+    text: &mut [u8],
+    at: usize,
+) -> usize {
+    shown::written(
+        text,
+        at,
+        access_unit_annex_b::access_unit_annex_b(head, list, item, tols, codes, lent),
+    )
 }
 
 // `access_unit_count`
@@ -77,13 +96,10 @@ pub fn answer<'a>(
     let k = fields::eight(numbers, 3);
     let head = replay_heads::full_head(numbers, 11, fill);
     match op {
-        36 => shown::written(
-            text,
-            at,
-            access_unit_annex_b::access_unit_annex_b(head, list, item, tols, lent),
-        ),
+        36 => stream(head, list, item, tols, StartCodes::Four, lent, text, at),
         37 => count(head, list, item, tols, text, at),
         38 => unit(head, list, item, tols, k, text, at),
+        54 => stream(head, list, item, tols, StartCodes::Short, lent, text, at),
         _ => unit_at(head, list, item, tols, k, text, at),
     }
 }

@@ -4,5 +4,6 @@ pub mod Items
 pub mod Trim
 pub mod Streams
 pub mod ItemRoundTrip
+pub mod Checked
 pub mod RoundTrip
 pub mod Examples

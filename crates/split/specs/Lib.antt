@@ -1,4 +1,5 @@
 pub mod Item
 pub mod Stream
+pub mod RoundTrip
 pub mod Answers
 pub mod inner

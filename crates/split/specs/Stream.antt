@@ -44,7 +44,16 @@ streamUnitsFrom s p = nonEmpty (allRead (many segment s (startCodeFrom s p)))
 unfoldable pub splitStream : List ℕ → Outcome (List Span)
 splitStream s = lentInput s (accept (streamUnitsFrom s 0))
 
--- written: units, each after a start code
-unfoldable pub annexB : List ℕ → List (List ℕ) → List ℕ
-annexB startCode [] = []
-annexB startCode (u ∷ us) = startCode ++ (u ++ annexB startCode us)
+-- a start code of three bytes, start_code_prefix_one_3bytes, or of four, with a zero_byte before it (H.266 B.2.1)
+pub data StartCode : Type 0 where
+  three : StartCode
+  four : StartCode
+
+abbrev pub codeBytes : StartCode → List ℕ
+codeBytes three = 0 ∷ 0 ∷ 1 ∷ []
+codeBytes four = 0 ∷ 0 ∷ 0 ∷ 1 ∷ []
+
+-- written: units, each after its start code; code says which one unit k has
+unfoldable pub annexB : (ℕ → List ℕ → StartCode) → List (List ℕ) → List ℕ
+annexB code [] = []
+annexB code (u ∷ us) = codeBytes (code 0 u) ++ (u ++ annexB (λ k. code (suc k)) us)

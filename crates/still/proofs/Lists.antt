@@ -30,6 +30,7 @@ use Rattle.full.proofs.RecordRoundTrip.{Typed, headRead, read-after-write}
 use Rattle.expand.specs.Expand.{FullHead, expandedHead, withList, expandUnits, toFull}
 use Rattle.expand.specs.declared.Picture.{Picture}
 use Rattle.access_unit.specs.AccessUnit.{accessUnit, assemble}
+use Rattle.access_unit.specs.declared.StartCodes.{StartCodes}
 use Rattle.path.proofs.Units.{every-of, type-small}
 use Rattle.path.proofs.Expansion.{Expansion, expansion, of-units}
 use Rattle.path.proofs.Lengths.{head-long, arrays-long}
@@ -49,8 +50,8 @@ written-bytes h xs b e = go (eqb (h .«length_size») 3) (recordFits h xs) e
 pub record Ready (c : CompactVvcConfig) (h : VvcConfig) (list : List ℕ) : Type 0 where
   pub plain : Plain (c .«length_size») list
   pub size : h .«length_size» ≡ c .«length_size»
-  pub steps : (S : List ℕ) (tols : Option ℕ)
-      → streamExpanded c h list S tols ≡ andThen (serializeFull h list) (λ _. andThen (restore c S) (λ item. assemble h list item tols))
+  pub steps : (codes : StartCodes) (S : List ℕ) (tols : Option ℕ)
+      → streamExpanded codes c h list S tols ≡ andThen (serializeFull h list) (λ _. andThen (restore c S) (λ item. assemble codes h list item tols))
 
 module _ (c : CompactVvcConfig) (list : List ℕ) (from : ReadFrom c list) where
   pub facts : CompactFacts (from .compact) (from .read) list
@@ -155,24 +156,25 @@ module _ (c : CompactVvcConfig) (list : List ℕ) (from : ReadFrom c list) where
         read-after-write head typed (grouped us) (grouped-sound us types) b w (omega (arith, record-long))
 
     -- assembly uses only what full read keeps of the head
-    assembles-back : (item : List ℕ) (tols : Option ℕ) → assemble (headRead head) arrays item tols ≡ assemble head arrays item tols
+    assembles-back : (codes : StartCodes) (item : List ℕ) (tols : Option ℕ)
+        → assemble codes (headRead head) arrays item tols ≡ assemble codes head arrays item tols
     unfolding assemble accessUnit
-    assembles-back item none = refl
-    assembles-back item (some t) = refl
+    assembles-back codes item none = refl
+    assembles-back codes item (some t) = refl
 
-    needs-no-read : (S : List ℕ) (tols : Option ℕ)
-        → streamExpanded c head arrays S tols
-        ≡ andThen (serializeFull head arrays) (λ _. andThen (restore c S) (λ item. assemble head arrays item tols))
-    needs-no-read S tols = go (serializeFull head arrays) refl
+    needs-no-read : (codes : StartCodes) (S : List ℕ) (tols : Option ℕ)
+        → streamExpanded codes c head arrays S tols
+        ≡ andThen (serializeFull head arrays) (λ _. andThen (restore c S) (λ item. assemble codes head arrays item tols))
+    needs-no-read codes S tols = go (serializeFull head arrays) refl
       where
         same : (o : Outcome (List ℕ))
-            → andThen o (λ item. assemble (headRead head) arrays item tols) ≡ andThen o (λ item. assemble head arrays item tols)
-        same (accept item) = assembles-back item tols
+            → andThen o (λ item. assemble codes (headRead head) arrays item tols) ≡ andThen o (λ item. assemble codes head arrays item tols)
+        same (accept item) = assembles-back codes item tols
         same (refuse n) = refl
 
         go : (o : Outcome (List ℕ)) → serializeFull head arrays ≡ o
-            → andThen o (λ b. andThen (parseFull b) (λ back. andThen (restore c S) (λ item. assemble (back .0 .head) (back .1) item tols)))
-            ≡ andThen o (λ _. andThen (restore c S) (λ item. assemble head arrays item tols))
+            → andThen o (λ b. andThen (parseFull b) (λ back. andThen (restore c S) (λ item. assemble codes (back .0 .head) (back .1) item tols)))
+            ≡ andThen o (λ _. andThen (restore c S) (λ item. assemble codes head arrays item tols))
         go (refuse n) e = refl
         go (accept b) e = rw (reads-back b e) (same (restore c S))
 

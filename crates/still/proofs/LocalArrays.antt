@@ -32,6 +32,7 @@ use Rattle.expand.specs.declared.Picture.{Picture}
 use Rattle.expand.specs.declared.ExpandAnswer.{ExpandAnswer}
 use Rattle.expand.specs.declared.Expanded as E
 use Rattle.expand.specs.declared.ExpandAnswer.the-variants as A
+use Rattle.access_unit.specs.declared.StartCodes.{StartCodes}
 use Rattle.still.specs.Stills.{stillRecord, streamWith, anyPicture, stillStream}
 use Rattle.still.specs.inner.Steps.{ReadFrom, ExpandedFrom, recordFrom, streamExpanded, streamFrom}
 use Rattle.still.proofs.Lists.{list-short, expanded-short, expanded-count}
@@ -190,12 +191,12 @@ module _ (c : CompactVvcConfig) (pic : Picture) (list : List ℕ) where
   pub record-unexpanded : (n : ℕ) → toFull c pic list ≡ refuse n → recordFrom c pic list ≡ refuse n
   record-unexpanded n e = rw e
 
-module _ (c : CompactVvcConfig) (list S : List ℕ) (tols : Option ℕ) where
+module _ (codes : StartCodes) (c : CompactVvcConfig) (list S : List ℕ) (tols : Option ℕ) where
   pub stream-expanded : (full : FullHead) (l : List ℕ) → toFull c anyPicture list ≡ accept (full, l)
-      → streamFrom c list S tols ≡ streamExpanded c (full .head) l S tols
+      → streamFrom codes c list S tols ≡ streamExpanded codes c (full .head) l S tols
   stream-expanded full l e = rw e
 
-  pub stream-unexpanded : (n : ℕ) → toFull c anyPicture list ≡ refuse n → streamFrom c list S tols ≡ refuse n
+  pub stream-unexpanded : (n : ℕ) → toFull c anyPicture list ≡ refuse n → streamFrom codes c list S tols ≡ refuse n
   stream-unexpanded n e = rw e
 
 module _ (C : List ℕ) (pic : Picture) where
@@ -207,17 +208,17 @@ module _ (C : List ℕ) (pic : Picture) where
   unfolding stillRecord
   record-unread n e = rw e
 
-module _ (C S : List ℕ) (tols : Option ℕ) where
-  pub stream-too-long : 2 ^ 30 < length S → stillStream C S tols ≡ refuse 23
+module _ (codes : StartCodes) (C S : List ℕ) (tols : Option ℕ) where
+  pub stream-too-long : 2 ^ 30 < length S → stillStream codes C S tols ≡ refuse 23
   unfolding stillStream streamWith
   stream-too-long h = lent-too-long S _ h
 
   module _ (lent : length S ≤ 2 ^ 30) where
     pub stream-read : (r : CompactParsed) (list : List ℕ) → parseCompact C ≡ accept (r, list)
-        → stillStream C S tols ≡ streamFrom (r .config) list S tols
+        → stillStream codes C S tols ≡ streamFrom codes (r .config) list S tols
     unfolding stillStream streamWith
     stream-read r list e = lent-within S _ lent ∙ rw e
 
-    pub stream-unread : (n : ℕ) → parseCompact C ≡ refuse n → stillStream C S tols ≡ refuse n
+    pub stream-unread : (n : ℕ) → parseCompact C ≡ refuse n → stillStream codes C S tols ≡ refuse n
     unfolding stillStream streamWith
     stream-unread n e = lent-within S _ lent ∙ rw e

@@ -25,6 +25,7 @@ use Rattle.expand.specs.Expand.{FullHead, multiLayerVps, ptlOfSets, expandedHea
 use Rattle.expand.specs.declared.Picture.{Picture}
 use Rattle.expand.proofs.Expansion.{list-expanded}
 use Rattle.access_unit.specs.AccessUnit.{accessUnit, assemble}
+use Rattle.access_unit.specs.declared.StartCodes.{StartCodes}
 use Rattle.still.specs.Stills.{streamWith, anyPicture, stillStream}
 use Rattle.still.specs.inner.Steps.{ReadFrom, streamExpanded}
 use Rattle.still.proofs.Lists.{Ready, facts, us, expanded, ready}
@@ -100,35 +101,38 @@ module _ (pic any : Picture) where
         go (accept xs) = write-alike (heldArrays list xs)
         go (refuse n) = refl
 
-    assemble-alike : (list item : List ℕ) (tols : Option ℕ)
-        → assemble (expandedHead c pic ptl) list item tols ≡ assemble (expandedHead c any ptl) list item tols
+    assemble-alike : (codes : StartCodes) (list item : List ℕ) (tols : Option ℕ)
+        → assemble codes (expandedHead c pic ptl) list item tols ≡ assemble codes (expandedHead c any ptl) list item tols
     unfolding assemble accessUnit
-    assemble-alike list item none = refl
-    assemble-alike list item (some t) = refl
+    assemble-alike codes list item none = refl
+    assemble-alike codes list item (some t) = refl
 
     -- the rest of the path uses nothing of the picture
-    stream-alike : (list S : List ℕ) (tols : Option ℕ) → Ready c (expandedHead c pic ptl) list → Ready c (expandedHead c any ptl) list
-        → streamExpanded c (expandedHead c pic ptl) list S tols ≡ streamExpanded c (expandedHead c any ptl) list S tols
-    stream-alike list S tols r q =
-        r .steps S tols ∙ both (serializeFull (expandedHead c pic ptl) list) (serializeFull (expandedHead c any ptl) list) (serialize-alike list)
-        ∙ sym (q .steps S tols)
+    stream-alike : (codes : StartCodes) (list S : List ℕ) (tols : Option ℕ)
+        → Ready c (expandedHead c pic ptl) list → Ready c (expandedHead c any ptl) list
+        → streamExpanded codes c (expandedHead c pic ptl) list S tols ≡ streamExpanded codes c (expandedHead c any ptl) list S tols
+    stream-alike codes list S tols r q =
+        r .steps codes S tols
+        ∙ both (serializeFull (expandedHead c pic ptl) list) (serializeFull (expandedHead c any ptl) list) (serialize-alike list)
+        ∙ sym (q .steps codes S tols)
       where
-        rest : (o : Outcome (List ℕ)) → andThen o (λ item. assemble (expandedHead c pic ptl) list item tols)
-            ≡ andThen o (λ item. assemble (expandedHead c any ptl) list item tols)
-        rest (accept item) = assemble-alike list item tols
+        rest : (o : Outcome (List ℕ)) → andThen o (λ item. assemble codes (expandedHead c pic ptl) list item tols)
+            ≡ andThen o (λ item. assemble codes (expandedHead c any ptl) list item tols)
+        rest (accept item) = assemble-alike codes list item tols
         rest (refuse n) = refl
 
         both : (o x : Outcome (List ℕ)) → done o ≡ done x
-            → andThen o (λ _. andThen (restore c S) (λ item. assemble (expandedHead c pic ptl) list item tols))
-            ≡ andThen x (λ _. andThen (restore c S) (λ item. assemble (expandedHead c any ptl) list item tols))
+            → andThen o (λ _. andThen (restore c S) (λ item. assemble codes (expandedHead c pic ptl) list item tols))
+            ≡ andThen x (λ _. andThen (restore c S) (λ item. assemble codes (expandedHead c any ptl) list item tols))
         both (accept a) (accept b) e = rest (restore c S)
         both (accept a) (refuse n) e = let z : _≡_ {A = ℕ} 0 1 = cc in absurd (omega arith)
         both (refuse m) (accept b) e = let z : _≡_ {A = ℕ} 0 1 = cc in absurd (omega arith)
         both (refuse m) (refuse n) e = let z : m ≡ n = cc in ap refuse z
 
-module _ (S : List ℕ) (tols : Option ℕ) (pic : Picture) (chroma : pic .«chroma_format_idc» ≤ 3) (depth : pic .«bit_depth» ≤ 15) where
+module _ (codes : StartCodes) (S : List ℕ) (tols : Option ℕ) (pic : Picture) (chroma : pic .«chroma_format_idc» ≤ 3)
+    (depth : pic .«bit_depth» ≤ 15) where
   abbrev streamOf : Picture → CompactVvcConfig → List ℕ → Outcome (List ℕ)
-  streamOf p c list = andThen (toFull c p list) (λ full. streamExpanded c (full .0 .head) (full .1) S tols)
+  streamOf p c list = andThen (toFull c p list) (λ full. streamExpanded codes c (full .0 .head) (full .1) S tols)
 
   list-alike : (c : CompactVvcConfig) (list : List ℕ) → ReadFrom c list → streamOf pic c list ≡ streamOf anyPicture c list
   list-alike c list from = go (toFull c pic list) refl
@@ -143,11 +147,11 @@ module _ (S : List ℕ) (tols : Option ℕ) (pic : Picture) (chroma : pic .«chr
           let f = of-units anyPicture ∙ k .of-any anyPicture in
           let g = of-units pic ∙ k .of-any pic in
           rw (g, f)
-          (stream-alike pic anyPicture c (k .ptl) chroma depth (omega arith) (omega arith) (encode (grouped (us c list from))) S tols
+          (stream-alike pic anyPicture c (k .ptl) chroma depth (omega arith) (omega arith) codes (encode (grouped (us c list from))) S tols
           (ready c _ _ (record { compact-list = list; from = from; picture = pic; full = _; expands = g; head = refl }))
           (ready c _ _ (record { compact-list = list; from = from; picture = anyPicture; full = _; expands = f; head = refl })))
 
-  pub any-picture : (C : List ℕ) → AllBytes C → streamWith pic C S tols ≡ stillStream C S tols
+  pub any-picture : (C : List ℕ) → AllBytes C → streamWith codes pic C S tols ≡ stillStream codes C S tols
   unfolding streamWith stillStream
   any-picture C bytes = ap (lentInput S) (go (parseCompact C) refl)
     where

@@ -22,6 +22,7 @@ use Rattle.item_data.proofs.Stills.{restore-unit, prefixed-long, prefixed-given
 use Rattle.full.specs.Write.{serializeFull}
 use Rattle.full.specs.declared.VvcConfig.{VvcConfig}
 use Rattle.access_unit.specs.AccessUnit.{accessUnit, assemble}
+use Rattle.access_unit.specs.declared.StartCodes.{StartCodes}
 use Rattle.access_unit.proofs.OneUnit.{one-assembled}
 use Rattle.still.specs.inner.Steps.{itemAfter, plainStream, streamExpanded}
 use Rattle.still.proofs.Lists.{Ready}
@@ -43,17 +44,14 @@ module _ (c : CompactVvcConfig) (h : VvcConfig) (list S : List ℕ) where
       go (accept b) e = let z : _≡_ {A = ℕ} 0 1 = cc in absurd (omega arith)
       go (refuse k) e = e
 
-module _ (c : CompactVvcConfig) (h : VvcConfig) (list S : List ℕ) (tols : Option ℕ) (ready : Ready c h list) where
-  abbrev after : Outcome (List ℕ) → Outcome (List ℕ) → Outcome (List ℕ)
-  after o x = andThen o (λ _. andThen x (λ item. assemble h list item tols))
+-- the item of stored bytes where the flag is clear: one unit, 00 41 and the bytes
+abbrev chunk : CompactVvcConfig → List ℕ → List ℕ
+chunk c S = toChunk (c .«length_size») (stillUnit S)
 
-  pub stream-refused : (n : ℕ) → refuse n ≡ countFound (itemAfter c h list S) → streamExpanded c h list S tols ≡ refuse n
-  stream-refused n e = ready .steps S tols ∙ go (serializeFull h list) (restore c S) e
-    where
-      go : (o x : Outcome (List ℕ)) → refuse n ≡ countFound (andThen o (λ _. x)) → after o x ≡ refuse n
-      go (refuse m) x e = let z : m ≡ n = cc in ap refuse z
-      go (accept b) (refuse m) e = let z : m ≡ n = cc in ap refuse z
-      go (accept b) (accept i) e = let z : _≡_ {A = ℕ} 0 1 = cc in absurd (omega arith)
+-- what both steps give, under any choice of start codes
+module _ (c : CompactVvcConfig) (h : VvcConfig) (list S : List ℕ) (tols : Option ℕ) (ready : Ready c h list) where
+  abbrev after : StartCodes → Outcome (List ℕ) → Outcome (List ℕ) → Outcome (List ℕ)
+  after codes o x = andThen o (λ _. andThen x (λ item. assemble codes h list item tols))
 
   module _ (m : ℕ) (e : accept m ≡ countFound (itemAfter c h list S)) where
     -- both steps are accepted: the item, and its stream
@@ -61,7 +59,7 @@ module _ (c : CompactVvcConfig) (h : VvcConfig) (list S : List ℕ) (tols : Opti
       item : List ℕ
       long : m ≡ length item
       restored : restore c S ≡ accept item
-      made : streamExpanded c h list S tols ≡ assemble h list item tols
+      made : (codes : StartCodes) → streamExpanded codes c h list S tols ≡ assemble codes h list item tols
 
     steps-made : Made
     steps-made = go (serializeFull h list) refl (restore c S) refl e
@@ -74,31 +72,20 @@ module _ (c : CompactVvcConfig) (h : VvcConfig) (list S : List ℕ) (tols : Opti
           item = i;
           long = cc;
           restored = g;
-          made = ready .steps S tols ∙ ap (λ (o : Outcome (List ℕ)). after o (restore c S)) f ∙ ap (after (accept b)) g;
+          made = λ codes.
+              ready .steps codes S tols ∙ ap (λ (o : Outcome (List ℕ)). after codes o (restore c S)) f ∙ ap (after codes (accept b)) g;
         }
 
-    -- with the flag set the stored bytes are the item
-    pub stream-layers : length S ≤ 2 ^ 30 → c .«multi_layer_flag» ≡ true → streamExpanded c h list S tols ≡ assemble h list S tols
-    unfolding restore
-    stream-layers l f =
-        let k = steps-made in
-        let r : accept S ≡ accept (k .item) = sym (lent-within S _ l ∙ rw f) ∙ k .restored in
-        let z : S ≡ k .item = cc in
-        k .made ∙ ap (λ (i : List ℕ). assemble h list i tols) (sym z)
-
-    -- with the flag clear it is one unit: 00 41 and the stored bytes
+    -- with the flag clear
     module _ (l : length S ≤ 2 ^ 30) (clear : c .«multi_layer_flag» ≡ false) where
       abbrev size : ℕ
       size = c .«length_size»
 
-      abbrev chunk : List ℕ
-      chunk = toChunk size (stillUnit S)
-
       -- the item, whose unit fits its prefix
       record One : Type 0 where
         fits : length (stillUnit S) < 256 ^ size
-        long : m ≡ length chunk
-        made : streamExpanded c h list S tols ≡ assemble h list chunk tols
+        long : m ≡ length (chunk c S)
+        made : (codes : StartCodes) → streamExpanded codes c h list S tols ≡ assemble codes h list (chunk c S) tols
 
       one : One
       one =
@@ -112,28 +99,60 @@ module _ (c : CompactVvcConfig) (h : VvcConfig) (list S : List ℕ) (tols : Opti
             | no k ↦
                 let y : length (stillUnit S) < 256 ^ size = omega arith in
                 let x = prefixed-given size (stillUnit S) (ready .plain .low) (ready .plain .high) y in
-                let z : d .item ≡ chunk = cc in
-                record { fits = y; long = d .long ∙ ap length z; made = d .made ∙ ap (λ (i : List ℕ). assemble h list i tols) z }
+                let z : d .item ≡ chunk c S = cc in
+                record {
+                  fits = y;
+                  long = d .long ∙ ap length z;
+                  made = λ codes. d .made codes ∙ ap (λ (i : List ℕ). assemble codes h list i tols) z;
+                }
           ]
-
-      too-long : 2 ^ 30 < length chunk → assemble h list chunk tols ≡ plainStream size list S
-      unfolding assemble accessUnit
-      too-long k = rw (lt-leb (length chunk) (2 ^ 30) k)
-
-      lent : length chunk ≤ 2 ^ 30 → assemble h list chunk tols ≡ plainStream size list S
-      lent k =
-          let f = one .fits in
-          let a : Span = record { start = size; len = length (stillUnit S) } in
-          let split : splitItem (h .«length_size») chunk ≡ accept (a ∷ []) =
-          rw (ready .size) (split-lent size chunk k ∙ split-one size (stillUnit S) (ready .plain .low) (ready .plain .high) (omega arith) f) in
-          let holds = held-one size (stillUnit S) (ready .plain .low) (ready .plain .high) (omega arith) f in
-          one-assembled h list chunk tols (ready .plain .units) a (stillUnit S) (ready .plain .listed) split holds
-          (λ x. omega arith) (λ x. omega arith)
-          ∙ rw (le-leb (length chunk) (2 ^ 30) k, ready .plain .listed)
-
-      pub stream-plain : streamExpanded c h list S tols ≡ plainStream size list S
-      stream-plain = one .made ∙ elim (decLe (length chunk) (2 ^ 30)) [ yes k ↦ lent k | no k ↦ too-long (omega arith) ]
 
       -- its length is the one that was measured
       pub plain-item : m ≡ length (toChunk (c .«length_size») (stillUnit S))
       plain-item = one .long
+
+-- the stream under a choice
+module _ (codes : StartCodes) (c : CompactVvcConfig) (h : VvcConfig) (list S : List ℕ) (tols : Option ℕ) (ready : Ready c h list) where
+  pub stream-refused : (n : ℕ) → refuse n ≡ countFound (itemAfter c h list S) → streamExpanded codes c h list S tols ≡ refuse n
+  stream-refused n e = ready .steps codes S tols ∙ go (serializeFull h list) (restore c S) e
+    where
+      go : (o x : Outcome (List ℕ)) → refuse n ≡ countFound (andThen o (λ _. x)) → after c h list S tols ready codes o x ≡ refuse n
+      go (refuse m) x e = let z : m ≡ n = cc in ap refuse z
+      go (accept b) (refuse m) e = let z : m ≡ n = cc in ap refuse z
+      go (accept b) (accept i) e = let z : _≡_ {A = ℕ} 0 1 = cc in absurd (omega arith)
+
+  module _ (m : ℕ) (e : accept m ≡ countFound (itemAfter c h list S)) where
+    -- with the flag set the stored bytes are the item
+    pub stream-layers : length S ≤ 2 ^ 30 → c .«multi_layer_flag» ≡ true → streamExpanded codes c h list S tols ≡ assemble codes h list S tols
+    unfolding restore
+    stream-layers l f =
+        let k = steps-made c h list S tols ready m e in
+        let r : accept S ≡ accept (k .item) = sym (lent-within S _ l ∙ rw f) ∙ k .restored in
+        let z : S ≡ k .item = cc in
+        k .made codes ∙ ap (λ (i : List ℕ). assemble codes h list i tols) (sym z)
+
+    -- with the flag clear it is one unit
+    module _ (l : length S ≤ 2 ^ 30) (clear : c .«multi_layer_flag» ≡ false) where
+      abbrev width : ℕ
+      width = c .«length_size»
+
+      too-long : 2 ^ 30 < length (chunk c S) → assemble codes h list (chunk c S) tols ≡ plainStream codes width list S
+      unfolding assemble accessUnit
+      too-long k = rw (lt-leb (length (chunk c S)) (2 ^ 30) k)
+
+      lent : length (chunk c S) ≤ 2 ^ 30 → assemble codes h list (chunk c S) tols ≡ plainStream codes width list S
+      lent k =
+          let f = one c h list S tols ready m e l clear .fits in
+          let a : Span = record { start = width; len = length (stillUnit S) } in
+          let split : splitItem (h .«length_size») (chunk c S) ≡ accept (a ∷ []) =
+          rw (ready .size)
+          (split-lent width (chunk c S) k ∙ split-one width (stillUnit S) (ready .plain .low) (ready .plain .high) (omega arith) f) in
+          let holds = held-one width (stillUnit S) (ready .plain .low) (ready .plain .high) (omega arith) f in
+          one-assembled h list (chunk c S) tols (ready .plain .units) a (stillUnit S) (ready .plain .listed) split holds
+          (λ x. omega arith) (λ x. omega arith) codes
+          ∙ rw (le-leb (length (chunk c S)) (2 ^ 30) k, ready .plain .listed)
+
+      pub stream-plain : streamExpanded codes c h list S tols ≡ plainStream codes width list S
+      stream-plain =
+          one c h list S tols ready m e l clear .made codes
+          ∙ elim (decLe (length (chunk c S)) (2 ^ 30)) [ yes k ↦ lent k | no k ↦ too-long (omega arith) ]

@@ -12,6 +12,7 @@ use Rattle.full.specs.Write.{serializeFull}
 use Rattle.expand.specs.Expand.{toFull}
 use Rattle.expand.specs.declared.Picture.{Picture}
 use Rattle.access_unit.specs.AccessUnit.{assemble}
+use Rattle.access_unit.specs.declared.StartCodes.{StartCodes}
 
 -- the full record of C with the caller's picture: compact read, expand, full write
 unfoldable pub stillRecord : List ℕ → Picture → Outcome (List ℕ)
@@ -21,19 +22,19 @@ stillRecord C pic = do
   serializeFull (full .0 .head) (full .1)
 
 -- the stream of C and S with a picture: compact read, expand, full write, full read, restore, assemble. 23 of S comes first
-unfoldable pub streamWith : Picture → List ℕ → List ℕ → Option ℕ → Outcome (List ℕ)
-streamWith pic C S tols = lentInput S do
+unfoldable pub streamWith : StartCodes → Picture → List ℕ → List ℕ → Option ℕ → Outcome (List ℕ)
+streamWith codes pic C S tols = lentInput S do
   read ← parseCompact C
   full ← toFull (read .0 .config) pic (read .1)
   bytes ← serializeFull (full .0 .head) (full .1)
   back ← parseFull bytes
   item ← restore (read .0 .config) S
-  assemble (back .0 .head) (back .1) item tols
+  assemble codes (back .0 .head) (back .1) item tols
 
 -- the stream does not depend on the picture (`any-picture`, crates/still/proofs/Pictures.antt)
 abbrev pub anyPicture : Picture
 anyPicture = record { «chroma_format_idc» = 1; «bit_depth» = 8; width = 0; height = 0 }
 
 -- so `still_stream` takes no picture
-unfoldable pub stillStream : List ℕ → List ℕ → Option ℕ → Outcome (List ℕ)
-stillStream C S tols = streamWith anyPicture C S tols
+unfoldable pub stillStream : StartCodes → List ℕ → List ℕ → Option ℕ → Outcome (List ℕ)
+stillStream codes C S tols = streamWith codes anyPicture C S tols

@@ -19,6 +19,7 @@ use Rattle.boxes.specs.Bytes.{chunk}
 use Rattle.boxes.specs.Parts.{held}
 use Rattle.boxes.specs.declared.Span.{Span}
 use Rattle.boxes.proofs.Fields.{chunk-read}
+use Rattle.access_unit.specs.declared.StartCodes.the-variants.{Four}
 use Rattle.still.specs.Stills.{stillStream}
 use Rattle.still_main.specs.Input.{inputStream}
 
@@ -40,7 +41,7 @@ module _ (s : List ℕ) where
     input-cut e = rw (le-ltb 65536 (length s) short, whole (refused 1) e)
 
     pub input-given : (a : Span) (C : List ℕ) → C ≡ held s a → value a (a .start + a .len) ≡ chunk 2 (take (length s) s) 0
-        → inputStream s ≡ stillStream C (take (length s - (a .start + a .len)) (drop (a .start + a .len) s)) none
+        → inputStream s ≡ stillStream Four C (take (length s - (a .start + a .len)) (drop (a .start + a .len) s)) none
     unfolding inputStream
     input-given a C h e =
         let n = a .start + a .len in

@@ -10,6 +10,7 @@ use Rattle.parse.specs.Parse.{outcome}
 use Rattle.parse.specs.Steps.{_>>=_}
 use Rattle.boxes.specs.Bytes.{chunk}
 use Rattle.boxes.specs.Parts.{held}
+use Rattle.access_unit.specs.declared.StartCodes.the-variants.{Four}
 use Rattle.still.specs.Stills.{stillStream}
 
 -- 23 above 64 KiB; 1 where the compact record runs past the end; then the refusals of a still's stream, with no target
@@ -18,4 +19,4 @@ inputStream s =
     if ltb 65536 (length s) then refuse 23
     else do
       a ← outcome (chunk 2 s 0)
-      stillStream (held s a) (drop (a .start + a .len) s) none
+      stillStream Four (held s a) (drop (a .start + a .len) s) none

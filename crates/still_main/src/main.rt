@@ -7,6 +7,7 @@
 // alone on a line, and to standard error in words; the file OUT is then neither created nor changed. Whatever else fails is reported on
 // standard error: a file that cannot be opened, read or written in full, one that is too long, a wrong number of arguments. The exit status
 // is always 0, as for every Rattle program.
+use access_unit::StartCodes;
 use access_unit::Target;
 use boxes::place;
 use error::Refusal;
@@ -45,7 +46,8 @@ fn input_stream(input: &[u8], out: &mut [u8]) -> Written
     };
     let after = a.start + a.len;
     let target = Target::Unset;
-    still_stream::still_stream(place::part(input, a), &input[after..], target, out)
+    let codes = StartCodes::Four;
+    still_stream::still_stream(place::part(input, a), &input[after..], target, codes, out)
 }
 
 // Writes the answer to an input to standard output: the stream, or the refusal.
@@ -72,7 +74,8 @@ fn answer_input(input: &mut [u8], out: &mut [u8]) {
 // Writes the stream of a record and stored bytes to the file OUT. On a refusal that file is not opened.
 fn convert(record: &[u8], stored: &[u8], out: &mut [u8]) {
     let target = Target::Unset;
-    let written = still_stream::still_stream(record, stored, target, out);
+    let codes = StartCodes::Four;
+    let written = still_stream::still_stream(record, stored, target, codes, out);
     match written {
         Written::Bytes(len) => files::write(3, &out[..len]),
         Written::Refused(e) => ground::refused(e),

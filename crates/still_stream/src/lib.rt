@@ -1,4 +1,5 @@
 // The Annex B stream of a still in one call (SCOPE 4.7). Intermediate results are in local arrays, so only the output is lent.
+use access_unit::StartCodes;
 use access_unit::Target;
 use compact::CompactRead;
 use compact::CompactVvcConfig;
@@ -29,18 +30,26 @@ fn put_expanded(
     list: &[u8],
     stored: &[u8],
     tols: Target,
+    codes: StartCodes,
     out: &mut [u8],
 ) -> Written
     requires { ⌜ ExpandedFrom config head (now list) × (length (now stored) ≤ 2 ^ 30) ⌝ }
     ensures { λ r. ⌜ (writtenOf r, now (out .exit))
-        ≡ lentOutput (counted (streamExpanded config head (now (list .entry)) (now (stored .entry)) (tolsOf tols))) (now (out .entry)) ⌝ }
+        ≡ lentOutput (counted (streamExpanded codes config head (now (list .entry)) (now (stored .entry)) (tolsOf tols))) (now (out .entry)) ⌝ }
 {
     match stream::restored_len(config, head, list, stored) {
         Counted::Count(item_len) => {
             if config.multi_layer_flag {
-                return access_unit_annex_b::access_unit_annex_b(head, list, stored, tols, out);
+                return access_unit_annex_b::access_unit_annex_b(
+                    head,
+                    list,
+                    stored,
+                    tols,
+                    codes,
+                    out,
+                );
             }
-            plain::put_plain(config.length_size, list, stored, item_len, out)
+            plain::put_plain(config.length_size, list, stored, item_len, codes, out)
         }
         Counted::Refused(e) => Written::Refused(e),
     }
@@ -53,28 +62,37 @@ fn put_stream(
     list: &[u8],
     stored: &[u8],
     tols: Target,
+    codes: StartCodes,
     out: &mut [u8],
 ) -> Written
     requires { ⌜ ReadFrom config (now list) × (length (now stored) ≤ 2 ^ 30) ⌝ }
     ensures { λ r. ⌜ (writtenOf r, now (out .exit))
-        ≡ lentOutput (counted (streamFrom config (now (list .entry)) (now (stored .entry)) (tolsOf tols))) (now (out .entry)) ⌝ }
+        ≡ lentOutput (counted (streamFrom codes config (now (list .entry)) (now (stored .entry)) (tolsOf tols))) (now (out .entry)) ⌝ }
 {
     let mut grouped = [0u8; EXPANDED_LIST];
     let expanded = expand::to_full(config, list, ANY_PICTURE, &mut grouped);
     let answer = expanded.answer;
     let head = expanded.head;
     match answer {
-        ExpandAnswer::List(len) => put_expanded(config, head, &grouped[..len], stored, tols, out),
+        ExpandAnswer::List(len) => {
+            put_expanded(config, head, &grouped[..len], stored, tols, codes, out)
+        }
         ExpandAnswer::Refused(e) => Written::Refused(e),
     }
 }
 
-// Writes the stream of a compact record and stored bytes, with the caller's target or none.
+// Writes the stream of a compact record and stored bytes, with the caller's target or none and choice of start codes.
 // Refusals: 23, 1, 7; with the flag set 16 and the VPS's; 17, the SPS's, 18, the VPS's; 3, 22; with the flag clear 6 and 23 (an item above 2^30
 // bytes), else in byte order 1 and 5; 20.
-pub fn still_stream(record: &[u8], stored: &[u8], tols: Target, out: &mut [u8]) -> Written
+pub fn still_stream(
+    record: &[u8],
+    stored: &[u8],
+    tols: Target,
+    codes: StartCodes,
+    out: &mut [u8],
+) -> Written
     ensures { λ r. ⌜ (writtenOf r, now (out .exit))
-        ≡ lentOutput (counted (stillStream (now («record» .entry)) (now (stored .entry)) (tolsOf tols))) (now (out .entry)) ⌝ }
+        ≡ lentOutput (counted (stillStream codes (now («record» .entry)) (now (stored .entry)) (tolsOf tols))) (now (out .entry)) ⌝ }
 {
     if LARGEST_INPUT < stored.len() {
         return Written::Refused(Refusal::InputTooLong);
@@ -82,7 +100,14 @@ pub fn still_stream(record: &[u8], stored: &[u8], tols: Target, out: &mut [u8]) 
     let mut list = [0u8; COMPACT_LIST];
     let read = compact_read::parse(record, &mut list);
     match read {
-        CompactRead::Read(config, _, len) => put_stream(config, &list[..len], stored, tols, out),
+        CompactRead::Read(config, _, len) => put_stream(
+            config,
+            &list[..len],
+            stored,
+            tols,
+            codes,
+            out,
+        ),
         CompactRead::Refused(e) => Written::Refused(e),
     }
 }

@@ -21,10 +21,11 @@ use Rattle.full_read.specs.declared.FullAnswer.{FullAnswer}
 use Rattle.full_read.specs.declared.FullAnswer.the-variants as A
 use Rattle.full_read.specs.declared.FullRead.{FullRead}
 use Rattle.access_unit.specs.AccessUnit.{assemble}
+use Rattle.access_unit.specs.declared.StartCodes.{StartCodes}
 use Rattle.vvcc_c.specs.Exports.{writtenAnswer, writtenGiven, readAnswer, readGiven, readBeside, scratchFilled, streamBeside}
 use Rattle.vvcc_c.specs.declared.VvccRead.{VvccRead}
 use Rattle.vvcc_c.specs.declared.VvccWritten.{VvccWritten}
-use Rattle.vvcc_c.proofs.Given.{given-refused, given-target}
+use Rattle.vvcc_c.proofs.Given.{given-refused, given-choice}
 
 -- ### a result of bytes in lent memory, and a call that continues with it
 
@@ -67,9 +68,9 @@ given-read o scratch exit f r g e =
     ∙ ap (λ (y : (Outcome FullParsed × VvcConfig) × List ℕ). (readAnswer (y .0 .0), y .1)) e
     ∙ ap (λ (x : Outcome FullParsed). (readAnswer x, lentOutput o scratch .1)) (hands-first (λ x. x .head) zeroHead (lentOutput o scratch .0))
 
-module _ (rec item scratch : List ℕ) (tols : Option ℕ) where
+module _ (codes : StartCodes) (rec item scratch : List ℕ) (tols : Option ℕ) where
   -- the item is too long
-  stream-too-long : 2 ^ 30 < length item → streamBeside rec item tols scratch ≡ refuse 23
+  stream-too-long : 2 ^ 30 < length item → streamBeside codes rec item tols scratch ≡ refuse 23
   unfolding streamBeside readBeside
   stream-too-long h = rw (lt-leb (length item) (2 ^ 30) h)
 
@@ -78,15 +79,15 @@ module _ (rec item scratch : List ℕ) (tols : Option ℕ) where
   scratch-too-long h = sym (ap (λ (o : Outcome (FullParsed × List ℕ)). lentOutput o scratch .1) (lent-too-long item (parseFull rec) h))
 
   pub too-long : (out : List ℕ) (r : VvccWritten) → 2 ^ 30 < length item → r ≡ writtenAnswer (refuse 23)
-      → ((r, out) ≡ writtenGiven (streamBeside rec item tols scratch) out) × (scratch ≡ scratchFilled rec item scratch)
-  too-long out r h f = (given-refused (streamBeside rec item tols scratch) out 23 r f (stream-too-long h), scratch-too-long h)
+      → ((r, out) ≡ writtenGiven (streamBeside codes rec item tols scratch) out) × (scratch ≡ scratchFilled rec item scratch)
+  too-long out r h f = (given-refused (streamBeside codes rec item tols scratch) out 23 r f (stream-too-long h), scratch-too-long h)
 
   -- what is known once the record was read into the scratch
   pub record ReadInto (exit : List ℕ) (r : FullRead) : Type 0 where
     pub filled : exit ≡ scratchFilled rec item scratch
-    pub refused : (n : ℕ) → fullAnswerOf (r .answer) (r .head) ≡ refuse n → streamBeside rec item tols scratch ≡ refuse n
+    pub refused : (n : ℕ) → fullAnswerOf (r .answer) (r .head) ≡ refuse n → streamBeside codes rec item tols scratch ≡ refuse n
     pub fits : (q n : ℕ) → r .answer ≡ A.Read q n → n ≤ length exit
-    pub made : (q n : ℕ) → r .answer ≡ A.Read q n → streamBeside rec item tols scratch ≡ assemble (r .head) (take (n - 0) exit) item tols
+    pub made : (q n : ℕ) → r .answer ≡ A.Read q n → streamBeside codes rec item tols scratch ≡ assemble codes (r .head) (take (n - 0) exit) item tols
 
   module _ (lent : length item ≤ 2 ^ 30) (exit : List ℕ) (r : FullRead) (gave : (fullOf r, exit) ≡ fullGiven rec scratch) where
     read-here : readBeside rec item ≡ parseFull rec
@@ -103,11 +104,11 @@ module _ (rec item scratch : List ℕ) (tols : Option ℕ) where
     scratch-filled : exit ≡ scratchFilled rec item scratch
     scratch-filled = left ∙ ap (λ (o : Outcome (FullParsed × List ℕ)). lentOutput o scratch .1) (sym read-here)
 
-    stream-here : streamBeside rec item tols scratch ≡ onward (parseFull rec) scratch (λ x. assemble (x .0 .head) (x .1) item tols)
+    stream-here : streamBeside codes rec item tols scratch ≡ onward (parseFull rec) scratch (λ x. assemble codes (x .0 .head) (x .1) item tols)
     unfolding streamBeside
     stream-here = rw read-here
 
-    stream-refused : (n : ℕ) → fullAnswerOf (r .answer) (r .head) ≡ refuse n → streamBeside rec item tols scratch ≡ refuse n
+    stream-refused : (n : ℕ) → fullAnswerOf (r .answer) (r .head) ≡ refuse n → streamBeside codes rec item tols scratch ≡ refuse n
     stream-refused n e = stream-here ∙ onward-refused (parseFull rec) scratch _ n (sym e ∙ answered)
 
     -- the list is at the front of the scratch
@@ -131,15 +132,15 @@ module _ (rec item scratch : List ℕ) (tols : Option ℕ) where
       list-front : take (n - 0) exit ≡ into .bytes
       list-front = ap (take (n - 0)) (into .holds) ∙ take-at (into .bytes) (drop (length (into .bytes)) scratch) (n - 0) (omega (arith, long))
 
-      stream-made : streamBeside rec item tols scratch ≡ assemble (r .head) (take (n - 0) exit) item tols
+      stream-made : streamBeside codes rec item tols scratch ≡ assemble codes (r .head) (take (n - 0) exit) item tols
       stream-made = stream-here ∙ rw (into .given, le-leb _ _ (into .fits), list-front)
 
     pub read-into : ReadInto exit r
     read-into = record { filled = scratch-filled; refused = stream-refused; fits = list-fits; made = stream-made }
 
 -- what assembly of the head and the list returned, and what it left in the output
-pub given-assembled : (o : Outcome (List ℕ)) (head : VvcConfig) (list item : List ℕ) (t tols : Option ℕ) (out exit : List ℕ)
-    (w : Outcome ℕ) (r : VvccWritten)
-    → r ≡ writtenAnswer w → (w, exit) ≡ lentOutput (counted (assemble head list item t)) out → t ≡ tols → o ≡ assemble head list item tols
-    → (r, exit) ≡ writtenGiven o out
-given-assembled o head list item t tols out exit w r f g h e = rw e (given-target (assemble head list item) t tols out exit w r f g h)
+pub given-assembled : (o : Outcome (List ℕ)) (head : VvcConfig) (list item : List ℕ) (c codes : StartCodes) (t tols : Option ℕ) (out exit : List ℕ)
+    (w : Outcome ℕ) (r : VvccWritten) → r ≡ writtenAnswer w → (w, exit) ≡ lentOutput (counted (assemble c head list item t)) out
+    → c ≡ codes → t ≡ tols → o ≡ assemble codes head list item tols → (r, exit) ≡ writtenGiven o out
+given-assembled o head list item c codes t tols out exit w r f g k h e =
+    rw e (given-choice (λ x. assemble x head list item) c codes t tols out exit w r f g k h)

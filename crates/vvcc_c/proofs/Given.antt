@@ -5,7 +5,9 @@ use mathlib.Core.List.{List}
 use mathlib.Core.Option.{Option, none, some}
 use borrow.Author.Tests.{eq-eqb, ne-eqb}
 use Rattle.parse.specs.Outcome.{Outcome, refuse, lentOutput, counted}
-use Rattle.vvcc_c.specs.Exports.{writtenAnswer, writtenGiven, readAnswer, unitAnswer, targetFrom}
+use Rattle.vvcc_c.specs.Exports.{writtenAnswer, writtenGiven, readAnswer, unitAnswer, targetFrom, codesFrom}
+use Rattle.access_unit.specs.declared.StartCodes.{StartCodes}
+use Rattle.access_unit.specs.declared.StartCodes.the-variants.{Four, Short}
 use Rattle.vvcc_c.specs.declared.VvccWritten.{VvccWritten}
 use Rattle.vvcc_c.specs.declared.VvccRead.{VvccRead}
 use Rattle.vvcc_c.specs.declared.VvccUnit.{VvccUnit}
@@ -25,6 +27,12 @@ no-target h t e = rw (eq-eqb h 0 e)
 pub some-target : (h t : ℕ) → (h ≡ 0 → ⊥) → some t ≡ targetFrom h t
 some-target h t e = rw (ne-eqb h 0 e)
 
+pub four-codes : (n : ℕ) → n ≡ 0 → Four ≡ codesFrom n
+four-codes n e = rw (eq-eqb n 0 e)
+
+pub short-codes : (n : ℕ) → (n ≡ 0 → ⊥) → Short ≡ codesFrom n
+short-codes n e = rw (ne-eqb n 0 e)
+
 -- a refusal leaves the output as it is
 pub given-refused : (o : Outcome (List ℕ)) (out : List ℕ) (n : ℕ) (r : VvccWritten) → r ≡ writtenAnswer (refuse n) → o ≡ refuse n
     → (r, out) ≡ writtenGiven o out
@@ -36,7 +44,8 @@ pub given-by : (o : Outcome (List ℕ)) (out exit : List ℕ) (w : Outcome ℕ) 
 given-by o out exit w r f e =
     ap (λ (x : VvccWritten). (x, exit)) f ∙ ap (λ (y : Outcome ℕ × List ℕ). (writtenAnswer (y .0), y .1)) e
 
--- the same for a call with a target
-pub given-target : (f : Option ℕ → Outcome (List ℕ)) (t tols : Option ℕ) (out exit : List ℕ) (w : Outcome ℕ) (r : VvccWritten)
-    → r ≡ writtenAnswer w → (w, exit) ≡ lentOutput (counted (f t)) out → t ≡ tols → (r, exit) ≡ writtenGiven (f tols) out
-given-target f t tols out exit w r g e h = given-by (f tols) out exit w r g (e ∙ ap (λ (x : Option ℕ). lentOutput (counted (f x)) out) h)
+-- the same for a call with start codes and a target
+pub given-choice : (f : StartCodes → Option ℕ → Outcome (List ℕ)) (c codes : StartCodes) (t tols : Option ℕ) (out exit : List ℕ) (w : Outcome ℕ)
+    (r : VvccWritten) → r ≡ writtenAnswer w → (w, exit) ≡ lentOutput (counted (f c t)) out → c ≡ codes → t ≡ tols
+    → (r, exit) ≡ writtenGiven (f codes tols) out
+given-choice f c codes t tols out exit w r g e k h = given-by (f codes tols) out exit w r g (rw (k, h) at e)

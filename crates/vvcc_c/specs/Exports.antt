@@ -11,6 +11,8 @@ use Rattle.parse.specs.Steps.{_>>=_}
 use Rattle.split.specs.Answers.{Next}
 use Rattle.full.specs.Read.{FullParsed, parseFull}
 use Rattle.access_unit.specs.AccessUnit.{assemble}
+use Rattle.access_unit.specs.declared.StartCodes.{StartCodes}
+use Rattle.access_unit.specs.declared.StartCodes.the-variants.{Four, Short}
 use Rattle.vvcc_c.specs.declared.VvccWritten.{VvccWritten}
 use Rattle.vvcc_c.specs.declared.VvccRead.{VvccRead}
 use Rattle.vvcc_c.specs.declared.VvccUnit.{VvccUnit}
@@ -43,6 +45,10 @@ unitAnswer (refuse e) = record { refusal = e; found = 0; start = 0; len = 0; nex
 abbrev pub targetFrom : ℕ → ℕ → Option ℕ
 targetFrom has t = if eqb has 0 then none else some t
 
+-- the start codes that a caller asks for: four bytes throughout if the number is 0
+abbrev pub codesFrom : ℕ → StartCodes
+codesFrom n = if eqb n 0 then Four else Short
+
 -- a full record, read for assembly with an item: 23 for either input, then the reader's refusals
 unfoldable pub readBeside : List ℕ → List ℕ → Outcome (FullParsed × List ℕ)
 readBeside rec item = lentInput item (parseFull rec)
@@ -52,7 +58,7 @@ abbrev pub scratchFilled : List ℕ → List ℕ → List ℕ → List ℕ
 scratchFilled rec item scratch = lentOutput (readBeside rec item) scratch .1
 
 -- the stream of a full record and an item: those refusals, 20 if the scratch is shorter than the unit list, then the refusals of assembly
-unfoldable pub streamBeside : List ℕ → List ℕ → Option ℕ → List ℕ → Outcome (List ℕ)
-streamBeside rec item tols scratch = do
+unfoldable pub streamBeside : StartCodes → List ℕ → List ℕ → Option ℕ → List ℕ → Outcome (List ℕ)
+streamBeside codes rec item tols scratch = do
   r ← readBeside rec item
-  if leb (length (r .1)) (length scratch) then assemble (r .0 .head) (r .1) item tols else refuse 20
+  if leb (length (r .1)) (length scratch) then assemble codes (r .0 .head) (r .1) item tols else refuse 20

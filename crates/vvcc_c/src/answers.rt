@@ -2,6 +2,7 @@
 use super::VvccRead;
 use super::VvccUnit;
 use super::VvccWritten;
+use access_unit::StartCodes;
 use access_unit::Target;
 use error::Refusal;
 use error::Written;
@@ -17,7 +18,7 @@ ghost use Rattle.parse.specs.Answers.{writtenOf};
 ghost use Rattle.split.specs.Answers.{nextOf};
 ghost use Rattle.full_read.specs.Answers.{fullOf};
 ghost use Rattle.access_unit.specs.Answers.{tolsOf};
-ghost use Rattle.vvcc_c.specs.Exports.{writtenAnswer, readAnswer, unitAnswer, targetFrom};
+ghost use Rattle.vvcc_c.specs.Exports.{writtenAnswer, readAnswer, unitAnswer, targetFrom, codesFrom};
 
 // A refusal of a call that writes.
 pub fn refused(e: Refusal) -> VvccWritten
@@ -64,6 +65,16 @@ pub fn target_from(has_target: u8, target: u16) -> Target
         return Target::Unset;
     }
     Target::Ols(target)
+}
+
+// The start codes that a caller asks for: four bytes throughout if `short_codes` is 0.
+pub fn codes_from(short_codes: u8) -> StartCodes
+    ensures { λ r. ⌜ r ≡ codesFrom «short_codes» ⌝ }
+{
+    if short_codes == 0 {
+        return StartCodes::Four;
+    }
+    StartCodes::Short
 }
 
 // A refusal of a walk.

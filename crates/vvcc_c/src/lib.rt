@@ -10,7 +10,7 @@ ghost use mathlib.Core.Path.{_≡_};
 ghost use Rattle.split.specs.Answers.{nextItemUnit, nextGiven};
 ghost use Rattle.full.specs.Strict.{parseStrict};
 ghost use Rattle.still.specs.Stills.{stillRecord, stillStream};
-ghost use Rattle.vvcc_c.specs.Exports.{writtenGiven, readGiven, unitAnswer, targetFrom, scratchFilled, streamBeside};
+ghost use Rattle.vvcc_c.specs.Exports.{writtenGiven, readGiven, unitAnswer, targetFrom, codesFrom, scratchFilled, streamBeside};
 
 // The answer of a call that writes: 0 and how many bytes are now at the front of the output, or a refusal's number and 0.
 #[repr(C)]
@@ -67,13 +67,16 @@ pub extern "C" fn vvcc_still_stream(
     stored: &[u8],
     has_target: u8,
     target: u16,
+    short_codes: u8,
     out: &mut [u8],
 ) -> VvccWritten
     ensures { λ r. ⌜ (r, now (out .exit))
-        ≡ writtenGiven (stillStream (now («record» .entry)) (now (stored .entry)) (targetFrom «has_target» target)) (now (out .entry)) ⌝ }
+        ≡ writtenGiven (stillStream (codesFrom «short_codes») (now («record» .entry)) (now (stored .entry)) (targetFrom «has_target» target))
+        (now (out .entry)) ⌝ }
 {
     let tols = answers::target_from(has_target, target);
-    let written = still_stream::still_stream(record, stored, tols, out);
+    let codes = answers::codes_from(short_codes);
+    let written = still_stream::still_stream(record, stored, tols, codes, out);
     answers::written(written)
 }
 
@@ -85,11 +88,13 @@ pub extern "C" fn vvcc_access_unit(
     item: &[u8],
     has_target: u8,
     target: u16,
+    short_codes: u8,
     scratch: &mut [u8],
     out: &mut [u8],
 ) -> VvccWritten
     ensures { λ r. ⌜ (r, now (out .exit)) ≡ writtenGiven
-        (streamBeside (now («record» .entry)) (now (item .entry)) (targetFrom «has_target» target) (now (scratch .entry))) (now (out .entry)) ⌝ }
+        (streamBeside (codesFrom «short_codes») (now («record» .entry)) (now (item .entry)) (targetFrom «has_target» target) (now (scratch .entry)))
+        (now (out .entry)) ⌝ }
     ensures { λ _. ⌜ now (scratch .exit) ≡ scratchFilled (now («record» .entry)) (now (item .entry)) (now (scratch .entry)) ⌝ }
 {
     if LARGEST_INPUT < item.len() {
@@ -101,7 +106,8 @@ pub extern "C" fn vvcc_access_unit(
     match answer {
         FullAnswer::Read(_, len) => {
             let tols = answers::target_from(has_target, target);
-            let written = access_unit_annex_b(head, &scratch[0..len], item, tols, out);
+            let codes = answers::codes_from(short_codes);
+            let written = access_unit_annex_b(head, &scratch[0..len], item, tols, codes, out);
             answers::written(written)
         }
         FullAnswer::Refused(e) => answers::refused(e),

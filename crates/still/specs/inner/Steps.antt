@@ -19,7 +19,8 @@ use Rattle.full.specs.Write.{serializeFull}
 use Rattle.full.specs.declared.VvcConfig.{VvcConfig}
 use Rattle.expand.specs.Expand.{FullHead, toFull}
 use Rattle.expand.specs.declared.Picture.{Picture}
-use Rattle.access_unit.specs.AccessUnit.{startCode, assemble}
+use Rattle.access_unit.specs.AccessUnit.{codeOf, assemble}
+use Rattle.access_unit.specs.declared.StartCodes.{StartCodes}
 use Rattle.still.specs.Stills.{anyPicture}
 
 -- a configuration and a list that compact read returned
@@ -46,18 +47,18 @@ recordFrom c pic list = do
   serializeFull (full .0 .head) (full .1)
 
 -- the stream of an expanded head and list, from full write on
-abbrev pub streamExpanded : CompactVvcConfig → VvcConfig → List ℕ → List ℕ → Option ℕ → Outcome (List ℕ)
-streamExpanded c h list S tols = do
+abbrev pub streamExpanded : StartCodes → CompactVvcConfig → VvcConfig → List ℕ → List ℕ → Option ℕ → Outcome (List ℕ)
+streamExpanded codes c h list S tols = do
   bytes ← serializeFull h list
   back ← parseFull bytes
   item ← restore c S
-  assemble (back .0 .head) (back .1) item tols
+  assemble codes (back .0 .head) (back .1) item tols
 
 -- the stream of what compact read returned; `stream-read` (proofs/LocalArrays.antt) ties it to `stillStream`
-abbrev pub streamFrom : CompactVvcConfig → List ℕ → List ℕ → Option ℕ → Outcome (List ℕ)
-streamFrom c list S tols = do
+abbrev pub streamFrom : StartCodes → CompactVvcConfig → List ℕ → List ℕ → Option ℕ → Outcome (List ℕ)
+streamFrom codes c list S tols = do
   full ← toFull c anyPicture list
-  streamExpanded c (full .0 .head) (full .1) S tols
+  streamExpanded codes c (full .0 .head) (full .1) S tols
 
 -- the item of the stored bytes, if full write accepts the record
 abbrev pub itemAfter : CompactVvcConfig → VvcConfig → List ℕ → List ℕ → Outcome (List ℕ)
@@ -65,15 +66,15 @@ itemAfter c h list S = do
   serializeFull h list
   restore c S
 
--- the units of the list and the one unit of S, each after a start code
-abbrev pub unitsStream : List ℕ → List ℕ → Outcome (List ℕ)
-unitsStream list S = do
+-- the units of the list and the one unit of S, each after its start code
+abbrev pub unitsStream : StartCodes → List ℕ → List ℕ → Outcome (List ℕ)
+unitsStream codes list S = do
   us ← listUnits list
-  accept (annexB startCode (map (held list) us ++ (stillUnit S ∷ [])))
+  accept (annexB (codeOf codes) (map (held list) us ++ (stillUnit S ∷ [])))
 
 -- the same, with 23 for the item of S
-abbrev pub plainStream : ℕ → List ℕ → List ℕ → Outcome (List ℕ)
-plainStream size list S = lentInput (toChunk size (stillUnit S)) (unitsStream list S)
+abbrev pub plainStream : StartCodes → ℕ → List ℕ → List ℕ → Outcome (List ℕ)
+plainStream codes size list S = lentInput (toChunk size (stillUnit S)) (unitsStream codes list S)
 
 -- a prefix size of 1 to 4, and a list with units
 pub record Plain (size : ℕ) (list : List ℕ) : Type 0 where

@@ -5,6 +5,7 @@ use mathlib.Core.Option.{none}
 use lib.ListN.{length}
 use lib.Seq.{length-take-le}
 use borrow.Author.Needs.{needs}
+use Rattle.access_unit.specs.declared.StartCodes.the-variants.{Four}
 use Rattle.still.specs.Stills.{stillStream}
 use Rattle.still_main.proofs.Inputs.{answer-within}
 use Rattle.still_main.proofs.convert.Statement.{statement}
@@ -18,11 +19,12 @@ enum-known-written c = search needs
 
 -- the stream that was written lies in the output
 within-at : (c : tie.After-known-told)
-    → c .before .written .given .0 .0 ≤ length (c .before .before .before .before .before .still-stream .last .1 .1 .1 .0)
+    → c .before .written .given .0 .0 ≤ length (c .before .before .before .before .before .still-stream .last .1 .1 .1 .1 .0)
 within-at c =
     let s = c .before .before .before .before .before in
     let a = s .before .before .before .before .before .args in
-    answer-within (stillStream (a .«record» .now) (a .stored .now) none) (a .out .now) _ _ _ (c .before .written .given .1) (s .still-stream .ensures)
+    answer-within (stillStream Four (a .«record» .now) (a .stored .now) none) (a .out .now) _ _ _ (c .before .written .given .1)
+    (s .still-stream .ensures)
 
 slice-reshare-prefix-write : tie.Need-slice-reshare-prefix-write
 slice-reshare-prefix-write c = within-at c

@@ -31,7 +31,7 @@ returns : tie.Need-returns
 returns c =
     let il = c .before .before .before .before .before .before in
     let b = start il in
-    given-as _ _ _ _ (stream-layers _ _ _ _ _ (ready _ _ _ (b .pre .0)) _ (sym (ap countOf (il .item-len .given .1))
+    given-as _ _ _ _ (stream-layers _ _ _ _ _ _ (ready _ _ _ (b .pre .0)) _ (sym (ap countOf (il .item-len .given .1))
     ∙ il .before .before .restored-len .ensures) (b .pre .1) (c .before .before .before .before .if1 .taken))
     (c .before .before .access-unit-annex-b .ensures)
 
@@ -56,7 +56,7 @@ returns-2 : tie.Need-returns-2
 returns-2 c =
     let il = c .before .before .before .before .before .before in
     let b = start il in
-    given-as _ _ _ _ (stream-plain _ _ _ _ _ (ready _ _ _ (b .pre .0)) _ (sym (ap countOf (il .item-len .given .1))
+    given-as _ _ _ _ (stream-plain _ _ _ _ _ _ (ready _ _ _ (b .pre .0)) _ (sym (ap countOf (il .item-len .given .1))
     ∙ il .before .before .restored-len .ensures) (b .pre .1) (c .before .before .before .before .if1 .left))
     (c .before .before .put-plain .ensures)
 
@@ -64,8 +64,8 @@ returns-3 : tie.Need-returns-3
 returns-3 c =
     let b = c .before .before .before .before .before .before .before in
     let a = b .args in
-    written-refused (streamExpanded (a .config) (a .head) (a .list .now) (a .stored .now) (tolsOf (a .tols))) (a .out .now) _
-    (stream-refused _ _ _ _ _ (ready _ _ _ (b .pre .0)) _
+    written-refused (streamExpanded (a .codes) (a .config) (a .head) (a .list .now) (a .stored .now) (tolsOf (a .tols))) (a .out .now) _
+    (stream-refused _ _ _ _ _ _ (ready _ _ _ (b .pre .0)) _
     (sym (ap countOf (c .before .e .given .1)) ∙ c .before .before .before .restored-len .ensures))
 
 pub put-expanded-spec : {M : Type 1} → statement M

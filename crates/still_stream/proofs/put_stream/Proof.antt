@@ -51,7 +51,7 @@ same-length : tie.Need-same-length
 same-length c = search needs
 
 returns : tie.Need-returns
-returns c = given-as _ _ _ _ (stream-expanded _ _ _ _ _ _ (expanded-at (c .before .before .before .before .before) .given))
+returns c = given-as _ _ _ _ (stream-expanded _ _ _ _ _ _ _ (expanded-at (c .before .before .before .before .before) .given))
     (c .before .before .put-expanded .ensures)
 
 returns-2 : tie.Need-returns-2
@@ -60,8 +60,8 @@ returns-2 c =
     let s = start tf in
     let a = s .args in
     let y = tf .to-full in
-    written-refused (streamFrom (a .config) (a .list .now) (a .stored .now) (tolsOf (a .tols))) (a .out .now) _
-    (stream-unexpanded (a .config) (a .list .now) (a .stored .now) (tolsOf (a .tols)) _
+    written-refused (streamFrom (a .codes) (a .config) (a .list .now) (a .stored .now) (tolsOf (a .tols))) (a .out .now) _
+    (stream-unexpanded (a .codes) (a .config) (a .list .now) (a .stored .now) (tolsOf (a .tols)) _
     (not-expanded (a .config) anyPicture (a .list .now) (s .pre .0) _ (y .result) _ (y .ensures) (omega arith) _ (c .before .answer2 .given .1)))
 
 pub put-stream-spec : {M : Type 1} → statement M

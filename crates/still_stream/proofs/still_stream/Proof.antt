@@ -21,8 +21,8 @@ after-list c = c .before .before .before .before .before
 returns : tie.Need-returns
 returns c =
     let a = c .before .before .before .before .args in
-    written-refused (stillStream (a .«record» .now) (a .stored .now) (tolsOf (a .tols))) (a .out .now) 23
-    (stream-too-long (a .«record» .now) (a .stored .now) (tolsOf (a .tols)) (c .if1 .taken))
+    written-refused (stillStream (a .codes) (a .«record» .now) (a .stored .now) (tolsOf (a .tols))) (a .out .now) 23
+    (stream-too-long (a .codes) (a .«record» .now) (a .stored .now) (tolsOf (a .tols)) (c .if1 .taken))
 
 slice-aggregate-parse : tie.Need-slice-aggregate-parse
 slice-aggregate-parse c = search needs
@@ -64,15 +64,15 @@ same-length c = search needs
 returns-2 : tie.Need-returns-2
 returns-2 c =
     let kt = c .before .before .before .before .before in
-    given-as _ _ _ _ (stream-read _ _ _ (after-list kt .before .if1 .left) _ _ (read-at kt .given)) (c .before .before .put-stream .ensures)
+    given-as _ _ _ _ (stream-read _ _ _ _ (after-list kt .before .if1 .left) _ _ (read-at kt .given)) (c .before .before .put-stream .ensures)
 
 returns-3 : tie.Need-returns-3
 returns-3 c =
     let l = c .before .before .before .before .before in
     let a = start l .args in
     let y = c .before .before .before .before .parse in
-    written-refused (stillStream (a .«record» .now) (a .stored .now) (tolsOf (a .tols))) (a .out .now) _
-    (stream-unread (a .«record» .now) (a .stored .now) (tolsOf (a .tols)) (l .before .if1 .left) _
+    written-refused (stillStream (a .codes) (a .«record» .now) (a .stored .now) (tolsOf (a .tols))) (a .out .now) _
+    (stream-unread (a .codes) (a .«record» .now) (a .stored .now) (tolsOf (a .tols)) (l .before .if1 .left) _
     (not-read (a .«record» .now) (bytes-at l) _ (y .result) _ (y .ensures) (omega arith) _ (c .before .read2 .given .1)))
 
 pub still-stream-spec : {M : Type 1} → statement M

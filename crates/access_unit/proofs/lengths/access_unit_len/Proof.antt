@@ -1,12 +1,9 @@
 -- `lengths::access_unit_len` returns the length of the stream of the access unit.
-use mathlib.Core.Path.{_≡_, sym, ap, _∙_}
+use mathlib.Core.Path.{sym, ap, _∙_}
 use borrow.Author.Needs.{needs}
-use native.Mathlib.Omega.{arith}
 use Rattle.access_unit.specs.Answers.{tolsOf}
 use Rattle.access_unit.specs.inner.Gathered.{sizesAnswerOf}
-use Rattle.access_unit.specs.declared.sizes.Sizes.{Sizes}
-use Rattle.access_unit.specs.declared.sizes.SizesAnswer.the-variants.{Sized}
-use Rattle.access_unit.proofs.Gathering.{Known, known, unknown, known-small}
+use Rattle.access_unit.proofs.Gathering.{known, unknown}
 use Rattle.access_unit.proofs.Answering.{length-known, length-unknown}
 use Rattle.access_unit.proofs.lengths.access_unit_len.Statement.{statement}
 use Rattle.access_unit.proofs.lengths.access_unit_len.Tie as tie
@@ -17,51 +14,25 @@ target-of-requires c κs = search needs
 measure-requires : tie.Need-measure-requires
 measure-requires c κs = search needs
 
--- what was measured
-known-at : (d : tie.After-measure) (v : Sizes) → d .measure .result ≡ Sized v
-    → Known (d .before .before .before .before .args .head .«length_size») (tolsOf (d .before .target-of .result))
-    (d .before .before .before .before .args .list .now) (d .before .before .before .before .args .item .now) v
-known-at d v e = known _ _ _ _ v (ap sizesAnswerOf (sym e) ∙ d .measure .ensures)
-
 enum-known-measured : tie.Need-enum-known-measured
 enum-known-measured c = search needs
-
-add-count : tie.Need-add-count
-add-count c =
-    let s = known-small _ _ _ _ _ (known-at (c .before .before .before .before) _ (c .before .before .measured .given .1)) in
-    omega (arith, s .units)
-
-stream-len-requires : tie.Need-stream-len-requires
-stream-len-requires c κs =
-    let s = known-small _ _ _ _ _ (known-at (c .before .before .before .before) _ (c .before .before .measured .given .1)) in
-    (omega (arith, s .units), omega (arith, s .bytes))
 
 enum-known-measured-2 : tie.Need-enum-known-measured-2
 enum-known-measured-2 c = search needs
 
 returns : tie.Need-returns
 returns c =
-    let m = c .before .before .before .before .before in
+    let m = c .before .before .before in
     let a = m .before .before .before .before .args in
-    length-known (a .head) (a .list .now) (a .item .now) (tolsOf (a .tols)) _ (m .before .target-of .ensures) _
-    (known-at m _ (c .before .before .before .measured .given .1)) _ (c .stream-len .ensures)
+    length-known (a .codes) (a .head) (a .list .now) (a .item .now) (tolsOf (a .tols)) _ (m .before .target-of .ensures) _
+    (known _ _ _ _ _ _ (ap sizesAnswerOf (sym (c .before .measured .given .1)) ∙ m .measure .ensures))
 
 returns-2 : tie.Need-returns-2
 returns-2 c =
     let m = c .before .before .before in
     let a = m .before .before .before .before .args in
-    length-unknown (a .head) (a .list .now) (a .item .now) (tolsOf (a .tols)) _ (m .before .target-of .ensures) _
-    (unknown _ _ _ _ _ (ap sizesAnswerOf (sym (c .before .measured2 .given .1)) ∙ m .measure .ensures))
+    length-unknown (a .codes) (a .head) (a .list .now) (a .item .now) (tolsOf (a .tols)) _ (m .before .target-of .ensures) _
+    (unknown _ _ _ _ _ _ (ap sizesAnswerOf (sym (c .before .measured2 .given .1)) ∙ m .measure .ensures))
 
 pub access-unit-len-spec : {M : Type 1} → statement M
-access-unit-len-spec =
-    tie.close
-    (tie.spec
-    target-of-requires
-    measure-requires
-    enum-known-measured
-    add-count
-    stream-len-requires
-    enum-known-measured-2
-    returns
-    returns-2)
+access-unit-len-spec = tie.close (tie.spec target-of-requires measure-requires enum-known-measured enum-known-measured-2 returns returns-2)

@@ -1,22 +1,27 @@
 -- `sizes::add` adds one unit.
-use mathlib.Core.Logic.{⊎-elim}
 use borrow.Author.Needs.{needs}
-use borrow.Author.Tests.{eqb-true, eqb-false}
-use Rattle.access_unit.proofs.Sums.{add-leads, add-last, add-after}
 use Rattle.access_unit.proofs.sizes.add.Statement.{statement}
 use Rattle.access_unit.proofs.sizes.add.Tie as tie
 
-add-count : tie.Need-add-count
-add-count c = search needs
+lead-with-requires : tie.Need-lead-with-requires
+lead-with-requires c κs = search needs
 
-add-lengths : tie.Need-add-lengths
-add-lengths c = search needs
+zero-with-requires : tie.Need-zero-with-requires
+zero-with-requires c κs = search needs
+
+add-t7 : tie.Need-add-t7
+add-t7 c = search needs
+
+add-t8 : tie.Need-add-t8
+add-t8 c = search needs
+
+add-t9 : tie.Need-add-t9
+add-t9 c = search needs
 
 returns : tie.Need-returns
-returns c = add-leads _ _ _ (c .before .before .if1 .taken) (eqb-true _ _ (c .if2 .taken))
-
-returns-2 : tie.Need-returns-2
-returns-2 c = ⊎-elim (λ h. add-after _ _ _ (h .0 .taken) (eqb-false _ _ (h .2 .left))) (λ h. add-last _ _ _ (h .left)) (c .if1 .came)
+returns c =
+    let z = c .before .before .before in
+    rw (z .zero-with .ensures, z .before .lead-with .ensures)
 
 pub add-spec : {M : Type 1} → statement M
-add-spec = tie.close (tie.spec add-count add-lengths returns returns-2)
+add-spec = tie.close (tie.spec lead-with-requires zero-with-requires add-t7 add-t8 add-t9 returns)

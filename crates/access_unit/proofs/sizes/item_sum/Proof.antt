@@ -8,7 +8,7 @@ use Rattle.access_unit.specs.Answers.{tolsOf}
 use Rattle.access_unit.specs.inner.Gathered.{keptLeft, itemSum}
 use Rattle.access_unit.proofs.KeptUnits.{over-end, over-refused}
 use Rattle.access_unit.proofs.Sums.{Summing, summing-start, summing-small, summing-kept}
-use Rattle.access_unit.proofs.Sums.{summing-end, summing-refused, item-sum-none, leading-le}
+use Rattle.access_unit.proofs.Sums.{summing-end, summing-refused, item-sum-none}
 use Rattle.access_unit.proofs.sizes.item_sum.Statement.{statement}
 use Rattle.access_unit.proofs.sizes.item_sum.Tie as tie
 
@@ -39,9 +39,8 @@ add-kept-requires c κs =
     let t = turn-at c in
     let l = c .before .before .before .before .loop in
     let b = c .before .before .before .before .before .before in
-    let s = summing-small _ _ _ _ _ (l .inv .1) (leading-le (b .args .item .now)) (c .before .a .given .0 .0 .len)
-    (omega (arith, t .here, b .pre .lent)) in
-    (omega (arith, t .here), b .pre .lent, s .0, s .1)
+    let s = summing-small _ _ _ _ _ (l .inv .1) (c .before .a .given .0 .0 .len) (omega (arith, t .here, b .pre .lent)) in
+    (omega (arith, t .here), b .pre .lent, s)
 
 loop-less : tie.Need-loop-less Inv-loop μ-loop
 loop-less c = let t = turn-at (c .before) in omega (arith, t .here)
@@ -51,7 +50,8 @@ loop-again c =
     let t = turn-at (c .before) in
     let l = c .before .before .before .before .before .loop in
     let a = c .before .before .before .before .before .before .before .args in
-    (omega (arith, t .here), rw (c .add-kept .ensures) (summing-kept (a .size) (tolsOf (a .target)) (a .item .now) _ _ _ _ t (l .sum) (l .inv .1)))
+    let s = summing-kept (a .size) (tolsOf (a .target)) (a .item .now) _ _ _ _ t (l .sum) (l .inv .1) in
+    (omega (arith, t .here), rw (c .add-kept .ensures) s)
 
 enum-told : tie.Need-enum-told Inv-loop μ-loop
 enum-told c = search needs

@@ -23,16 +23,16 @@ enum-known-e c = search needs
 
 returns : tie.Need-returns
 returns c =
-    let list = c .before .before .before .before .before .before .args .list .now in
+    let a = c .before .before .before .before .before .before .args in
     c .units-sum .ensures
-    ∙ ap (λ (o : Outcome (List Span)). andThen o (λ us. accept (listSum list us)))
-    (start-units list _ (c .before .before .before .before .start .ensures) _ (c .before .before .c .given .1))
+    ∙ ap (λ (o : Outcome (List Span)). andThen o (λ us. accept (listSum (a .list .now) us)))
+    (start-units _ _ (c .before .before .before .before .start .ensures) _ (c .before .before .c .given .1))
 
 returns-2 : tie.Need-returns-2
 returns-2 c =
-    let list = c .before .before .before .before .before .args .list .now in
-    ap (λ (o : Outcome (List Span)). andThen o (λ us. accept (listSum list us)))
-    (start-refused list _ (c .before .before .before .start .ensures) _ (c .before .e .given .1))
+    let a = c .before .before .before .before .before .args in
+    ap (λ (o : Outcome (List Span)). andThen o (λ us. accept (listSum (a .list .now) us)))
+    (start-refused _ _ (c .before .before .before .start .ensures) _ (c .before .e .given .1))
 
 pub list-sum-spec : {M : Type 1} → statement M
 list-sum-spec =

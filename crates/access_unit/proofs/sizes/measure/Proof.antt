@@ -16,7 +16,7 @@ use Rattle.access_unit.proofs.sizes.measure.Tie as tie
 returns : tie.Need-returns
 returns c =
     let a = c .before .before .before .args in
-    ap (λ (o : Outcome Gathered). andThen o (λ g. accept (sizesOf (a .list .now) (a .item .now) g)))
+    ap (λ (o : Outcome Gathered). andThen o (λ g. accept (sizesOf (a .codes) (a .list .now) (a .item .now) g)))
     (sym (gather-too-long (a .length-size) (tolsOf (a .target)) (a .list .now) (a .item .now) (omega arith)))
 
 list-sum-requires : tie.Need-list-sum-requires
@@ -27,15 +27,15 @@ lent : (d : tie.After-list-sum) → length (d .before .before .before .before .a
 lent d = omega arith
 
 listed : (d : tie.After-list-sum) (v : UnitSum) → d .list-sum .result ≡ Sum v
-    → Listed (d .before .before .before .before .args .length-size) (tolsOf (d .before .before .before .before .args .target))
-    (d .before .before .before .before .args .list .now) (d .before .before .before .before .args .item .now) (lent d) v
-listed d v e = gather-listed _ _ _ _ (lent d) v (ap summedOf (sym e) ∙ d .list-sum .ensures)
+    → let a = d .before .before .before .before .args in
+    Listed (a .codes) (a .length-size) (tolsOf (a .target)) (a .list .now) (a .item .now) (lent d) v
+listed d v e = gather-listed _ _ _ _ _ (lent d) v (ap summedOf (sym e) ∙ d .list-sum .ensures)
 
 enum-known-summed : tie.Need-enum-known-summed
 enum-known-summed c = search needs
 
 measure-item-requires : tie.Need-measure-item-requires
-measure-item-requires c κs = let d = c .before .before .before in (lent d, listed d _ (c .before .summed .given .1) .few)
+measure-item-requires c κs = let d = c .before .before .before in (lent d, listed d _ (c .before .summed .given .1) .small)
 
 enum-known-summed-2 : tie.Need-enum-known-summed-2
 enum-known-summed-2 c = search needs
@@ -47,8 +47,8 @@ returns-3 : tie.Need-returns-3
 returns-3 c =
     let d = c .before .before .before in
     let a = d .before .before .before .before .args in
-    ap (λ (o : Outcome Gathered). andThen o (λ g. accept (sizesOf (a .list .now) (a .item .now) g)))
-    (sym (gather-list (a .length-size) (tolsOf (a .target)) (a .list .now) (a .item .now) (lent d) _
+    ap (λ (o : Outcome Gathered). andThen o (λ g. accept (sizesOf (a .codes) (a .list .now) (a .item .now) g)))
+    (sym (gather-list (a .codes) (a .length-size) (tolsOf (a .target)) (a .list .now) (a .item .now) (lent d) _
     (ap summedOf (sym (c .before .summed2 .given .1)) ∙ d .list-sum .ensures)))
 
 pub measure-spec : {M : Type 1} → statement M

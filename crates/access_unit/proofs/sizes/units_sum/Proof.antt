@@ -4,10 +4,13 @@ use mathlib.Core.Bool.{false}
 use lib.ListN.{length}
 use borrow.Author.Needs.{needs}
 use native.Mathlib.Omega.{arith}
+use Rattle.boxes.specs.Parts.{held}
 use Rattle.unit_list.specs.inner.Walk.{Fits}
 use Rattle.unit_list.specs.inner.Find.{unitsLeft}
 use Rattle.unit_list.proofs.Turns.{ListTurn, list-found, list-end, list-malformed}
-use Rattle.access_unit.specs.inner.Gathered.{listSum}
+use Rattle.access_unit.specs.inner.Gathered.{laterCode, listSum}
+use Rattle.access_unit.specs.declared.StartCodes.the-variants.{Short}
+use Rattle.access_unit.proofs.Streams.{code-saves}
 use Rattle.access_unit.proofs.Sums.{Summing, summing-start, summing-small, summing-more}
 use Rattle.access_unit.proofs.Sums.{summing-end, summing-refused, list-sum-none, list-sum-more}
 use Rattle.access_unit.proofs.sizes.units_sum.Statement.{statement}
@@ -34,11 +37,12 @@ turn-at : (c : tie.After-known-told Inv-loop μ-loop)
     (c .before .a .given .0 .0) (c .before .a .given .0 .1 .0)
 turn-at c = list-found _ _ _ (c .before .before .before .step .ensures) _ _ (c .before .a .given .1)
 
-add-requires : tie.Need-add-requires Inv-loop μ-loop
-add-requires c κs =
+add-listed-requires : tie.Need-add-listed-requires Inv-loop μ-loop
+add-listed-requires c κs =
     let t = turn-at c in
     let l = c .before .before .before .before .loop in
-    summing-small _ _ _ _ _ (l .inv .1) (λ done. omega arith) _ (omega (arith, t .passed .start, t .inside, l .inv .0 .lent))
+    let s = summing-small _ _ _ _ _ (l .inv .1) (c .before .a .given .0 .0 .len) (omega (arith, t .passed .start, t .inside, l .inv .0 .lent)) in
+    (t .inside, s)
 
 loop-less : tie.Need-loop-less Inv-loop μ-loop
 loop-less c = let t = turn-at (c .before) in omega (arith, t .passed .start, t .passed .next, t .inside)
@@ -48,11 +52,11 @@ loop-again c =
     let u = c .before in
     let t = turn-at u in
     let l = u .before .before .before .before .loop in
-    let list = u .before .before .before .before .before .before .args .list .now in
+    let b = u .before .before .before .before .before .before .args in
     let a = u .before .a .given .0 .0 in (
       t .passed .fits,
-      rw (c .add .ensures) (summing-more _ _ _ _ _ (l .inv .1) false a (λ done. list-sum-more list done a (t .inside)) _ (t .rest) _
-          (omega (arith, t .passed .start, t .passed .next))),
+      rw (c .add-listed .ensures) (summing-more _ _ _ _ _ (l .inv .1) false _ (code-saves (laterCode Short (held (b .list .now) a)) .1) a
+          (λ done. list-sum-more (b .list .now) done a (t .inside)) _ (t .rest) _ (omega (arith, t .passed .start, t .passed .next))),
     )
 
 enum-told : tie.Need-enum-told Inv-loop μ-loop
@@ -80,7 +84,7 @@ units-sum-spec =
     loop-holds
     step-requires
     enum-known-a
-    add-requires
+    add-listed-requires
     loop-less
     loop-again
     enum-told

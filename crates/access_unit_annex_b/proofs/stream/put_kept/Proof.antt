@@ -14,13 +14,13 @@ use Rattle.access_unit_annex_b.proofs.stream.put_kept.Statement.{statem
 use Rattle.access_unit_annex_b.proofs.stream.put_kept.Tie as tie
 
 abbrev Inv-loop : tie.InvT-loop
-Inv-loop item size target from n out₀ to at₀ end₀ left₀ out at end left =
+Inv-loop item size target codes from n out₀ to at₀ end₀ left₀ out at end left =
     (at ≤ length item)
-    × FirstLeft item out₀ to (firstUnits n (keptLeft size (tolsOf target) item from)) (restUnits n (keptLeft size (tolsOf target) item from))
+    × FirstLeft codes item out₀ to (firstUnits n (keptLeft size (tolsOf target) item from)) (restUnits n (keptLeft size (tolsOf target) item from))
     (keptLeft size (tolsOf target) item at) left out end
 
 abbrev μ-loop : tie.MeasureT-loop
-μ-loop item size target from n out₀ to at₀ end₀ left₀ out at end left = length item - at
+μ-loop item size target codes from n out₀ to at₀ end₀ left₀ out at end left = length item - at
 
 -- Where the function starts, seen from a later place.
 abbrev start : (c : tie.After-step Inv-loop μ-loop) → tie.Start Inv-loop μ-loop
@@ -29,7 +29,7 @@ start c = c .before .before .before .before .before .before .before
 loop-holds : tie.Need-loop-holds Inv-loop μ-loop
 loop-holds c =
     let p = c .before .before .pre in
-    (p .walks .within, first-start _ _ (p .units) (p .found) _ (p .enough) _ _ (p .room))
+    (p .walks .within, first-start _ _ _ (p .units) (p .found) _ (p .enough) _ _ (p .room))
 
 item-step-requires : tie.Need-item-step-requires Inv-loop μ-loop
 item-step-requires c κs = let w = c .before .before .before .before .pre .walks in (w .some, w .four, c .before .loop .inv .0, w .lent)
@@ -46,7 +46,7 @@ returns c =
     let a = b .before .before .before .args in
     let r = c .before .item-step in
     let z = over-nothing (a .size) (tolsOf (a .target)) (a .item .now) (b .loop .at) (found-none _ _ _ (r .result) (r .ensures) (c .match .keys2)) in
-    absurd (first-some _ _ _ _ _ _ _ _ _ (b .loop .inv .1) (c .before .before .loop-test .taken) z)
+    absurd (first-some _ _ _ _ _ _ _ _ _ _ (b .loop .inv .1) (c .before .before .loop-test .taken) z)
 
 -- the unit that the step found
 turn-at : (c : tie.After-known-told Inv-loop μ-loop)
@@ -71,7 +71,7 @@ put-unit-requires c κs =
     let k = over-kept (a .size) (tolsOf (a .target)) (a .item .now) _ _ _ (t .rest)
     (sym (c .before .before .kept-at .ensures) ∙ c .before .if1 .taken) in (
       inside-at u,
-      first-room _ _ _ _ _ _ _ (keptLeft (a .size) (tolsOf (a .target)) (a .item .now) (u .before .step .given .0 .1 .0)) k (inside-at u) _ _ _
+      first-room _ _ _ _ _ _ _ _ (keptLeft (a .size) (tolsOf (a .target)) (a .item .now) (u .before .step .given .0 .1 .0)) k _ _ _
           (l .inv .1) (u .before .before .before .before .loop-test .taken),
     )
 
@@ -91,7 +91,7 @@ loop-again c =
     let k = over-kept (a .size) (tolsOf (a .target)) (a .item .now) _ _ _ (t .rest)
     (sym (c .before .before .before .before .before .kept-at .ensures) ∙ c .before .before .before .before .if1 .taken) in (
       omega (arith, t .here),
-      first-more _ _ _ _ _ _ _ (keptLeft (a .size) (tolsOf (a .target)) (a .item .now) (u .before .step .given .0 .1 .0)) k (inside-at u) _ _ _
+      first-more _ _ _ _ _ _ _ _ (keptLeft (a .size) (tolsOf (a .target)) (a .item .now) (u .before .step .given .0 .1 .0)) k _ _ _
           (l .inv .1) (u .before .before .before .before .loop-test .taken) _ _ (p .0) (p .1),
     )
 
@@ -105,7 +105,7 @@ loop-again-2 c =
     let l = u .before .before .before .before .before .loop in
     let a = start (u .before) .args in
     let d = over-dropped (a .size) (tolsOf (a .target)) (a .item .now) _ _ _ (t .rest) (sym (c .before .kept-at .ensures) ∙ c .if1 .left) in
-    (omega (arith, t .here), first-on _ _ _ _ _ _ _ d _ _ _ (l .inv .1))
+    (omega (arith, t .here), first-on _ _ _ _ _ _ _ _ d _ _ _ (l .inv .1))
 
 same-length-2 : tie.Need-same-length-2 Inv-loop μ-loop
 same-length-2 c = c .before .loop .inv .1 .storing .same
@@ -113,7 +113,7 @@ same-length-2 c = c .before .loop .inv .1 .storing .same
 returns-2 : tie.Need-returns-2 Inv-loop μ-loop
 returns-2 c =
     let l = c .before .loop in
-    let w = first-end _ _ _ _ _ _ (l .left) _ _ (l .inv .1) (c .loop-test .left) in
+    let w = first-end _ _ _ _ _ _ _ (l .left) _ _ (l .inv .1) (c .loop-test .left) in
     record { within = l .inv .0; next = w .2; ends = w .0; stored = w .1 }
 
 pub put-kept-spec : {M : Type 1} → statement M

@@ -12,12 +12,12 @@ use Rattle.access_unit_annex_b.proofs.stream.put_units.Statement.{state
 use Rattle.access_unit_annex_b.proofs.stream.put_units.Tie as tie
 
 abbrev Inv-loop : tie.InvT-loop
-Inv-loop list out₀ to here₀ end₀ out here end =
+Inv-loop list codes out₀ to here₀ end₀ out here end =
     Fits list here
-    × Remaining list out₀ to (unitsLeft list here₀) (unitsLeft list here) out end
+    × Remaining codes list out₀ to (unitsLeft list here₀) (unitsLeft list here) out end
 
 abbrev μ-loop : tie.MeasureT-loop
-μ-loop list out₀ to here₀ end₀ out here end = length list - here .at
+μ-loop list codes out₀ to here₀ end₀ out here end = length list - here .at
 
 loop-holds : tie.Need-loop-holds Inv-loop μ-loop
 loop-holds c = let p = c .before .before .pre in (p .0, putting-start _ _ _ _ (p .1))
@@ -34,8 +34,9 @@ same-length c = c .before .before .loop .inv .1 .same
 returns : tie.Need-returns Inv-loop μ-loop
 returns c =
     let l = c .before .before .loop in
-    let list = c .before .before .before .before .before .args .list .now in
-    remaining-end _ _ _ _ _ _ _ (l .inv .1) (list-none list (l .here) (c .before .step .result) (c .before .step .ensures .0) (c .match .keys2))
+    let a = c .before .before .before .before .before .args in
+    remaining-end (a .codes) (a .list .now) _ _ _ _ _ _ (l .inv .1)
+    (list-none (a .list .now) (l .here) (c .before .step .result) (c .before .step .ensures .0) (c .match .keys2))
 
 -- the unit that the step found
 turn-at : (c : tie.After-known-told Inv-loop μ-loop)
@@ -47,7 +48,8 @@ put-unit-requires : tie.Need-put-unit-requires Inv-loop μ-loop
 put-unit-requires c κs =
     let t = turn-at (c .before) in
     let l = c .before .before .before .before .before .loop in
-    (t .inside, remaining-room _ _ _ _ _ _ _ (l .inv .1) _ (unitsLeft _ (c .before .before .a .given .0 .1 .0)) (t .rest) (t .inside))
+    let a = c .before .before .before .before .before .before .before .before .args in
+    (t .inside, remaining-room (a .codes) (a .list .now) _ _ _ _ _ _ (l .inv .1) _ (unitsLeft _ (c .before .before .a .given .0 .1 .0)) (t .rest))
 
 loop-less : tie.Need-loop-less Inv-loop μ-loop
 loop-less c = let t = turn-at (c .before .before .before .before) in omega (arith, t .passed .start, t .passed .next, t .inside)
@@ -58,7 +60,10 @@ loop-again c =
     let t = turn-at u in
     let l = u .before .before .before .before .loop in
     let p = c .before .before .put-unit .ensures in
-    (t .passed .fits, remaining-more _ _ _ _ _ _ _ (l .inv .1) _ (unitsLeft _ (u .before .a .given .0 .1 .0)) (t .rest) (t .inside) _ _ (p .0) (p .1))
+    let a = u .before .before .before .before .before .before .before .args in (
+      t .passed .fits,
+      remaining-more (a .codes) (a .list .now) _ _ _ _ _ _ (l .inv .1) _ (unitsLeft _ (u .before .a .given .0 .1 .0)) (t .rest) _ _ (p .0) (p .1),
+    )
 
 pub put-units-spec : {M : Type 1} → statement M
 put-units-spec =

@@ -7,6 +7,7 @@ use Rattle.boxes.proofs.Places.{fits-more}
 use Rattle.unit_list.specs.Answers.{listUnits}
 use Rattle.access_unit.specs.Answers.{tolsOf}
 use Rattle.access_unit.specs.inner.Gathered.{sizesAnswerOf}
+use Rattle.access_unit.specs.declared.StartCodes.the-variants.{Four}
 use Rattle.access_unit.proofs.Gathering.{Known, known, unknown}
 use Rattle.access_unit_nal.specs.inner.Kept.{Numbered}
 use Rattle.access_unit_nal.proofs.Sources.{source-unknown, has-kept, at-listed, at-past, KeptAt, kept-number}
@@ -22,8 +23,8 @@ after-known-told c = c .before .before .before .before .before
 
 -- what was measured
 known-at : (c : tie.After-known-told)
-    → let a = start c .args in Known (a .length-size) (tolsOf (a .target)) (a .list .now) (a .item .now) (c .before .measured .given .0 .0)
-known-at c = known _ _ _ _ _ (ap sizesAnswerOf (sym (c .before .measured .given .1)) ∙ c .before .before .before .measure .ensures)
+    → let a = start c .args in Known Four (a .length-size) (tolsOf (a .target)) (a .list .now) (a .item .now) (c .before .measured .given .0 .0)
+known-at c = known _ _ _ _ _ _ (ap sizesAnswerOf (sym (c .before .measured .given .1)) ∙ c .before .before .before .measure .ensures)
 
 -- the kept unit that is unit k
 kept-at : (c : tie.After-wide)
@@ -92,7 +93,7 @@ returns-4 : tie.Need-returns-4
 returns-4 c =
     let a = c .before .before .before .before .before .before .args in (
       source-unknown (a .length-size) (tolsOf (a .target)) (a .list .now) (a .item .now) (a .k) _
-          (unknown _ _ _ _ _ (ap sizesAnswerOf (sym (c .before .measured2 .given .1)) ∙ c .before .before .before .measure .ensures)),
+          (unknown _ _ _ _ _ _ (ap sizesAnswerOf (sym (c .before .measured2 .given .1)) ∙ c .before .before .before .measure .ensures)),
       tt,
     )
 

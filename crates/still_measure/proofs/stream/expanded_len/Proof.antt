@@ -26,7 +26,7 @@ returns : tie.Need-returns
 returns c =
     let il = c .before .before .before in
     let b = start il in
-    counted-as _ _ _ (stream-layers _ _ _ _ _ (ready _ _ _ (b .pre .0)) _ (sym (ap countOf (il .item-len .given .1))
+    counted-as _ _ _ (stream-layers _ _ _ _ _ _ (ready _ _ _ (b .pre .0)) _ (sym (ap countOf (il .item-len .given .1))
     ∙ il .before .before .restored-len .ensures) (b .pre .1) (c .before .if1 .taken)) (c .access-unit-len .ensures)
 
 plain-len-requires : tie.Need-plain-len-requires
@@ -46,13 +46,13 @@ returns-2 : tie.Need-returns-2
 returns-2 c =
     let il = c .before .before .before in
     let b = start il in
-    counted-as _ _ _ (stream-plain _ _ _ _ (tolsOf (b .args .tols)) (ready _ _ _ (b .pre .0)) _ (sym (ap countOf (il .item-len .given .1))
+    counted-as _ _ _ (stream-plain _ _ _ _ _ (tolsOf (b .args .tols)) (ready _ _ _ (b .pre .0)) _ (sym (ap countOf (il .item-len .given .1))
     ∙ il .before .before .restored-len .ensures) (b .pre .1) (c .before .if1 .left)) (c .plain-len .ensures)
 
 returns-3 : tie.Need-returns-3
 returns-3 c =
     let b = c .before .before .before .before .before .before in
-    counted-refused _ _ (stream-refused _ _ _ _ (tolsOf (b .args .tols)) (ready _ _ _ (b .pre .0)) _
+    counted-refused _ _ (stream-refused _ _ _ _ _ (tolsOf (b .args .tols)) (ready _ _ _ (b .pre .0)) _
     (sym (ap countOf (c .before .e .given .1)) ∙ c .before .before .before .restored-len .ensures))
 
 pub expanded-len-spec : {M : Type 1} → statement M

@@ -20,8 +20,8 @@ after-parse c = c .before .before .before .before
 returns : tie.Need-returns
 returns c =
     let a = c .before .before .before .args in
-    counted-refused (stillStream (a .«record» .now) (a .stored .now) (tolsOf (a .tols))) 23
-    (stream-too-long (a .«record» .now) (a .stored .now) (tolsOf (a .tols)) (c .if1 .taken))
+    counted-refused (stillStream (a .codes) (a .«record» .now) (a .stored .now) (tolsOf (a .tols))) 23
+    (stream-too-long (a .codes) (a .«record» .now) (a .stored .now) (tolsOf (a .tols)) (c .if1 .taken))
 
 slice-aggregate-parse : tie.Need-slice-aggregate-parse
 slice-aggregate-parse c = search needs
@@ -59,15 +59,16 @@ enum-known-read-2 c = search needs
 
 returns-2 : tie.Need-returns-2
 returns-2 c = counted-as _ _ _
-    (stream-read _ _ _ (after-parse (c .before .before) .before .before .if1 .left) _ _ (read-at (c .before .before) .given)) (c .stream-len .ensures)
+    (stream-read _ _ _ _ (after-parse (c .before .before) .before .before .if1 .left) _ _ (read-at (c .before .before) .given))
+    (c .stream-len .ensures)
 
 returns-3 : tie.Need-returns-3
 returns-3 c =
     let p = c .before .before .before .before in
     let a = start p .args in
     let y = p .parse in
-    counted-refused (stillStream (a .«record» .now) (a .stored .now) (tolsOf (a .tols))) _
-    (stream-unread (a .«record» .now) (a .stored .now) (tolsOf (a .tols)) (p .before .before .if1 .left) _
+    counted-refused (stillStream (a .codes) (a .«record» .now) (a .stored .now) (tolsOf (a .tols))) _
+    (stream-unread (a .codes) (a .«record» .now) (a .stored .now) (tolsOf (a .tols)) (p .before .before .if1 .left) _
     (not-read (a .«record» .now) (bytes-at (p .before)) _ (y .result) _ (y .ensures) (omega arith) _ (c .before .read2 .given .1)))
 
 pub still-stream-len-spec : {M : Type 1} → statement M

@@ -47,7 +47,7 @@ enum-known-answer-2 : tie.Need-enum-known-answer-2
 enum-known-answer-2 c = search needs
 
 returns : tie.Need-returns
-returns c = counted-as _ _ _ (stream-expanded _ _ _ _ _ _ (expanded-at (c .before .before) .given)) (c .expanded-len .ensures)
+returns c = counted-as _ _ _ (stream-expanded _ _ _ _ _ _ _ (expanded-at (c .before .before) .given)) (c .expanded-len .ensures)
 
 returns-2 : tie.Need-returns-2
 returns-2 c =
@@ -55,8 +55,8 @@ returns-2 c =
     let s = start tf in
     let a = s .args in
     let y = tf .to-full in
-    counted-refused (streamFrom (a .config) (a .list .now) (a .stored .now) (tolsOf (a .tols))) _
-    (stream-unexpanded (a .config) (a .list .now) (a .stored .now) (tolsOf (a .tols)) _
+    counted-refused (streamFrom (a .codes) (a .config) (a .list .now) (a .stored .now) (tolsOf (a .tols))) _
+    (stream-unexpanded (a .codes) (a .config) (a .list .now) (a .stored .now) (tolsOf (a .tols)) _
     (not-expanded (a .config) anyPicture (a .list .now) (s .pre .0) _ (y .result) _ (y .ensures) (omega arith) _ (c .before .answer2 .given .1)))
 
 pub stream-len-spec : {M : Type 1} → statement M

@@ -20,7 +20,7 @@ enum-known-sizes c = search needs
 put-sized-requires : tie.Need-put-sized-requires
 put-sized-requires c κs =
     let ps = c .before .before .before .before in
-    (sized-listed _ _ _ _ (ps .plain-sizes .ensures) _ (c .before .before .sizes .given .1) .0, start ps .pre .1)
+    (sized-listed _ _ _ _ _ (ps .plain-sizes .ensures) _ (c .before .before .sizes .given .1) .0, start ps .pre .1)
 
 enum-known-e : tie.Need-enum-known-e
 enum-known-e c = search needs
@@ -29,15 +29,15 @@ same-length : tie.Need-same-length
 same-length c = search needs
 
 returns : tie.Need-returns
-returns c = given-as _ _ _ _ (sized-listed _ _ _ _ (c .before .before .before .before .before .before .before .plain-sizes .ensures) _
+returns c = given-as _ _ _ _ (sized-listed _ _ _ _ _ (c .before .before .before .before .before .before .before .plain-sizes .ensures) _
     (c .before .before .before .before .before .sizes .given .1) .1) (c .before .before .put-sized .ensures)
 
 returns-2 : tie.Need-returns-2
 returns-2 c =
     let ps = c .before .before .before in
     let a = start ps .args in
-    written-refused (plainStream (a .length-size) (a .list .now) (a .stored .now)) (a .out .now) _
-    (sized-refused _ _ _ _ (ps .plain-sizes .ensures) _ (c .before .e .given .1))
+    written-refused (plainStream (a .codes) (a .length-size) (a .list .now) (a .stored .now)) (a .out .now) _
+    (sized-refused _ _ _ _ _ (ps .plain-sizes .ensures) _ (c .before .e .given .1))
 
 pub put-plain-spec : {M : Type 1} → statement M
 put-plain-spec =

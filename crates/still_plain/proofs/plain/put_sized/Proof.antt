@@ -10,25 +10,20 @@ use Rattle.still_plain.proofs.plain.put_sized.Tie as tie
 
 -- Where the function starts, seen from a later place.
 abbrev start : (c : tie.After-picture-end) → tie.Start
-start c = c .before .before .before .before .before
-
-stream-len-requires : tie.Need-stream-len-requires
-stream-len-requires c κs =
-    let h = listed-small _ _ _ (c .before .before .before .pre .0) in
-    (omega (arith, h .0), omega (arith, h .1))
+start c = c .before .before .before .before
 
 picture-end-requires : tie.Need-picture-end-requires
 picture-end-requires c κs =
-    let h = listed-small _ _ _ (c .before .before .before .before .pre .0) in
-    (omega (arith, h .0, h .1, c .stream-len .ensures), c .before .before .before .before .pre .1)
+    let p = c .before .before .before .pre in
+    (omega (arith, listed-small _ _ _ _ (p .0)), p .1)
 
 returns : tie.Need-returns
 returns c =
     let b = start (c .before) in
     let a = b .args in
     let k = b .pre .0 in
-    written-short (unitsStream (a .list .now) (a .stored .now)) (a .out .now) _ (stream-given _ _ _ k (a .stored .now))
-    (omega (arith, c .if1 .taken, c .before .picture-end .ensures, c .before .before .stream-len .ensures, stream-long _ _ _ k (a .stored .now)))
+    written-short (unitsStream (a .codes) (a .list .now) (a .stored .now)) (a .out .now) _ (stream-given _ _ _ _ k (a .stored .now))
+    (omega (arith, c .if1 .taken, c .before .picture-end .ensures, stream-long _ _ _ _ k (a .stored .now)))
 
 slice-aggregate-put-stream : tie.Need-slice-aggregate-put-stream
 slice-aggregate-put-stream c = search needs
@@ -37,8 +32,7 @@ put-stream-requires : tie.Need-put-stream-requires
 put-stream-requires c κs =
     let pe = c .before .before .before in
     let b = start pe in
-    puts-front _ _ _ (b .pre .0) (b .args .out .now)
-    (omega (arith, c .before .before .if1 .left, pe .picture-end .ensures, pe .before .stream-len .ensures))
+    puts-front _ _ _ _ (b .pre .0) (b .args .out .now) (omega (arith, c .before .before .if1 .left, pe .picture-end .ensures))
 
 put-picture-requires : tie.Need-put-picture-requires
 put-picture-requires c κs = search needs
@@ -53,17 +47,15 @@ returns-2 c =
     let b = start pe in
     let a = b .args in
     let k = b .pre .0 in
-    let l = stream-long _ _ _ k (a .stored .now) in
-    let s = pe .before .stream-len .ensures in
-    written-fits (unitsStream (a .list .now) (a .stored .now)) (a .out .now) _ (stream-given _ _ _ k (a .stored .now)) _ _
-    (omega (arith, pe .picture-end .ensures, s)) (ps .before .before .before .if1 .left)
-    (stream-stored _ _ _ k (a .stored .now) (a .out .now) _ _ _ s (ps .put-stream .ensures) (c .before .before .put-picture .ensures))
+    let l = stream-long _ _ _ _ k (a .stored .now) in
+    written-fits (unitsStream (a .codes) (a .list .now) (a .stored .now)) (a .out .now) _ (stream-given _ _ _ _ k (a .stored .now)) _ _
+    (omega (arith, pe .picture-end .ensures, l)) (ps .before .before .before .if1 .left)
+    (stream-stored _ _ _ _ k (a .stored .now) (a .out .now) _ _ (ps .put-stream .ensures) (c .before .before .put-picture .ensures))
 
 pub put-sized-spec : {M : Type 1} → statement M
 put-sized-spec =
     tie.close
     (tie.spec
-    stream-len-requires
     picture-end-requires
     returns
     slice-aggregate-put-stream

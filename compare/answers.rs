@@ -398,8 +398,15 @@ fn list_place(h: &VvcConfig, s: &[u8], t: Option<u8>, k: u64) -> String {
     place(&all, k)
 }
 
-/// The count and the units of an access unit: a number, the bytes of unit k, or where they lie.
-fn access_unit(c: &Case) -> Result<String, Refusal> {
+/// An access unit: the original's stream, its units, and where they lie.
+pub struct Assembled<'a> {
+    pub stream: Vec<u8>,
+    pub units: Vec<&'a [u8]>,
+    places: Vec<Place>,
+}
+
+/// The access unit of a case. The units are those of the original's stream.
+pub fn assembled(c: &Case) -> Result<Assembled<'_>, Refusal> {
     let (h, _) = with_list(c, 11)?;
     let tols = (c.byte(0) != 0).then(|| c.number(1, 2) as u16);
     let stream = vvcc::access_unit_annex_b(&h, &c.second, tols).map_err(|e| number(&e))?;
@@ -417,12 +424,40 @@ fn access_unit(c: &Case) -> Result<String, Refusal> {
         stream, joined,
         "the units of the access unit are not those of the original's stream"
     );
+    Ok(Assembled {
+        stream,
+        units,
+        places,
+    })
+}
+
+/// The count and the units of an access unit: a number, the bytes of unit k, or where they lie.
+fn access_unit(c: &Case) -> Result<String, Refusal> {
+    let a = assembled(c)?;
     let k = c.number(3, 8);
     Ok(match c.op {
-        37 => format!(" {}", units.len()),
-        38 => part(&units, k),
-        _ => place(&places, k),
+        37 => format!(" {}", a.units.len()),
+        38 => part(&a.units, k),
+        _ => place(&a.places, k),
     })
+}
+
+/// The stream of an access unit with short start codes. Put back to four bytes it is the original's stream.
+fn short_stream(c: &Case) -> Result<Vec<u8>, Refusal> {
+    let a = assembled(c)?;
+    let short = reading::short_stream(&a.units);
+    let lengths = a.units.iter().map(|u| u.len());
+    let (back, three) = reading::put_back(&short, lengths).expect("a start code before each unit");
+    assert_eq!(
+        back, a.stream,
+        "put back to four bytes it is not the original's stream"
+    );
+    assert_eq!(
+        short.len() + three,
+        a.stream.len(),
+        "the length is not the original's less one for each code of three bytes"
+    );
+    Ok(short)
 }
 
 /// The PTL of a case's head, with as many entries as its counts say.
@@ -573,11 +608,8 @@ fn writing(c: &Case) -> Result<(String, Vec<u8>), Refusal> {
             put_head(&mut text, Some(&h));
             (text, list)
         }
-        36 => {
-            let (h, _) = with_list(c, 11)?;
-            let tols = (c.byte(0) != 0).then(|| c.number(1, 2) as u16);
-            plain(vvcc::access_unit_annex_b(&h, &c.second, tols).map_err(said)?)
-        }
+        36 => plain(assembled(c)?.stream),
+        54 => plain(short_stream(c)?),
         50 => {
             let read = full_record(s)?;
             reading::strict(s)?;
@@ -640,7 +672,7 @@ pub fn answer(c: &Case) -> Answer {
                 Err(e) => refused(number(&e), out),
             }
         }
-        18 | 28..=33 | 35 | 36 | 50..=52 => match writing(c) {
+        18 | 28..=33 | 35 | 36 | 50..=52 | 54 => match writing(c) {
             Err(e) => refused(e, out),
             Ok((_, result)) if result.len() > c.room => Answer {
                 result: Some(result.len()),

@@ -17,7 +17,7 @@ pub struct Case {
 const FRONT: usize = 18;
 
 /// The names of the calls by their numbers, from 1 on.
-pub const NAMES: [&str; 53] = [
+pub const NAMES: [&str; 54] = [
     "number",
     "VvcConfig::bit_depth",
     "u8_at",
@@ -71,6 +71,7 @@ pub const NAMES: [&str; 53] = [
     "parse (HEVC)",
     "serialize (HEVC)",
     "record_len",
+    "access_unit_annex_b (short)",
 ];
 
 /// The digits of bytes, in lower case.

@@ -63,7 +63,7 @@ fn fronts(op: u8) -> Vec<Vec<u8>> {
         6..=9 | 19 => sps(),
         20 => vec![0, 0x71, 0, 0],
         21 => vec![0, 0x61, 0xc0],
-        14..=17 | 29 | 33..=38 | 40 | 41 | 44 | 46 | 47 | 52 | 53 => {
+        14..=17 | 29 | 33..=38 | 40 | 41 | 44 | 46 | 47 | 52..=54 => {
             [&[1, 0, 0, 0, 9, 1, 16, 0, 0, 0, 3][..], &pps()].concat()
         }
         23 | 24 | 31 | 39 | 42 => vec![0, 0, 0, 2, 0, 0x41],
@@ -86,14 +86,14 @@ fn numbers(op: u8) -> Vec<u8> {
         33 | 34 | 53 => vec![4],
         52 => [vec![0; 27], vec![4]].concat(),
         35 => vec![0, 4, 1, 8],
-        36..=38 | 44 => [vec![0; 11], vec![4]].concat(),
+        36..=38 | 44 | 54 => [vec![0; 11], vec![4]].concat(),
         _ => vec![],
     }
 }
 
 /// The calls that take an input.
 fn calls() -> impl Iterator<Item = u8> {
-    (3..=9).chain(14..=21).chain(23..=47).chain(50..=53)
+    (3..=9).chain(14..=21).chain(23..=47).chain(50..=54)
 }
 
 /// Every call that takes an input, with one that is too long; where it takes two, with either and both.
@@ -105,7 +105,7 @@ fn too_long(emit: &mut dyn FnMut(Case)) {
                 room: 3,
                 ..Case::new(op, numbers(op), long(&front, LARGEST + 1))
             };
-            if matches!(op, 36..=38 | 44) {
+            if matches!(op, 36..=38 | 44 | 54) {
                 emit(Case {
                     second: vec![0, 0, 0, 1, 9],
                     ..c.clone()

@@ -16,6 +16,7 @@ mod reading;
 mod recorded;
 mod rng;
 mod shapes;
+mod start_codes;
 mod strict;
 
 use case::{Case, NAMES};
@@ -23,7 +24,6 @@ use std::collections::BTreeMap;
 use std::io::{BufRead, BufReader, BufWriter, Write};
 use std::process::{Command, Stdio};
 use std::sync::mpsc::{sync_channel, Receiver};
-use strict::{Asked, Held};
 
 /// The bytes that `replay` has for a case, and for an output.
 const LONGEST: usize = 524_288;
@@ -31,30 +31,71 @@ const LONGEST: usize = 524_288;
 /// The bytes of a case and its output together for whose digits `replay` has room.
 const TOGETHER: usize = 600_000;
 
-/// A case's line, its expected answer, its call and its refusal; for strict reading also what the original's writer gives for the record; for an HEVC
-/// record that is written again, the bytes that must come.
-type Expected = (String, String, u8, u32, Option<Asked>, Option<Vec<u8>>);
+/// A case's line, its expected answer, its call and its refusal, and what the answer is held to besides.
+type Expected = (String, String, u8, u32, HeldTo);
 
-/// What is held to more than the expected answers: strict reading, and HEVC records written again.
+/// What an answer is held to besides the expected one: for strict reading what the original's writer gives for the record, for an HEVC record that is
+/// written again the bytes that must come, for short start codes the original's stream.
+enum HeldTo {
+    Nothing,
+    Writer(strict::Asked),
+    Record(Vec<u8>),
+    Stream(start_codes::Asked),
+}
+
+/// The answers that are held to more than the expected ones.
 #[derive(Default)]
-struct BothHeld {
-    strict: Held,
+struct AllHeld {
+    strict: strict::Held,
     hevc: hevc::Held,
+    streams: start_codes::Held,
+}
+
+impl AllHeld {
+    /// Holds an answer line of `replay`. Returns what it disagrees with, for the first ten of each kind.
+    fn disagreement(&mut self, got: &str, to: HeldTo) -> Option<&'static str> {
+        let (agrees, so_far, with) = match to {
+            HeldTo::Nothing => return None,
+            HeldTo::Writer(asked) => {
+                let agrees = self.strict.agrees(refusal_in(got), asked);
+                (agrees, self.strict.disagree, "the original's writer")
+            }
+            HeldTo::Record(bytes) => {
+                let agrees = self.hevc.agrees(got, &bytes);
+                (agrees, self.hevc.disagree, "the record that was read")
+            }
+            HeldTo::Stream(asked) => {
+                let agrees = self.streams.agrees(got, &asked);
+                (agrees, self.streams.disagree, "the original's stream")
+            }
+        };
+        (!agrees && so_far <= 10).then_some(with)
+    }
+
+    /// Prints the counts, and returns how many answers disagree.
+    fn print(&self) -> u64 {
+        self.strict.print();
+        self.hevc.print();
+        self.streams.print();
+        self.strict.disagree + self.hevc.disagree + self.streams.disagree
+    }
 }
 
 /// How often both returned a refusal's number, for each call.
 type Table = BTreeMap<(u8, u32), u64>;
 
-/// Every case of a run: the fixed lists first, then as many of any shape as are asked for. An HEVC record that reads is written again.
+/// Every case of a run: the fixed lists first, then as many of any shape as are asked for. An HEVC record that reads is written again; a stream is
+/// assembled with both choices of start codes.
 fn all_cases(seed: u64, count: usize, emit: generator::Emit) {
     let emit: generator::Emit = &mut |c| {
-        let again = hevc::written_again(&c);
+        let further = hevc::written_again(&c).or_else(|| start_codes::shortened(&c));
         emit(c);
-        again.into_iter().for_each(&mut *emit);
+        further.into_iter().for_each(&mut *emit);
     };
     generator::worked(emit);
     generator::numbers(emit);
     limits::limits(emit);
+    start_codes::fixed(emit);
     codes::codes(emit);
     strict::short(emit);
     strict::fixed(emit);
@@ -72,6 +113,16 @@ fn all_cases(seed: u64, count: usize, emit: generator::Emit) {
     }
 }
 
+/// What the answer to a case is held to besides.
+fn held_to(c: &Case) -> HeldTo {
+    match (c.op, &c.again) {
+        (strict::CALL, _) => HeldTo::Writer(strict::asked(&c.first)),
+        (start_codes::SHORT, _) => start_codes::asked(c).map_or(HeldTo::Nothing, HeldTo::Stream),
+        (_, Some(bytes)) => HeldTo::Record(bytes.clone()),
+        _ => HeldTo::Nothing,
+    }
+}
+
 fn expected(c: &Case) -> Expected {
     let a = answers::answer(c);
     (
@@ -79,8 +130,7 @@ fn expected(c: &Case) -> Expected {
         answers::line(c, &a),
         c.op,
         if c.op == 1 { 0 } else { a.refusal },
-        (c.op == strict::CALL).then(|| strict::asked(&c.first)),
-        c.again.clone(),
+        held_to(c),
     )
 }
 
@@ -101,20 +151,15 @@ fn compare(
     mut lines: impl BufRead,
     cases: Receiver<Vec<Expected>>,
     table: &mut Table,
-    held: &mut BothHeld,
+    held: &mut AllHeld,
 ) -> (u64, u64) {
     let (mut n, mut differ) = (0, 0);
     let mut got = String::new();
-    for (line, want, op, refusal, asked, again) in cases.into_iter().flatten() {
+    for (line, want, op, refusal, to) in cases.into_iter().flatten() {
         next_line(&mut lines, &mut got);
         n += 1;
-        let agrees = asked.map_or(true, |a| held.strict.agrees(refusal_in(&got), a));
-        if !agrees && held.strict.disagree <= 10 {
-            print!("disagrees with the original's writer: {line}");
-        }
-        let agrees = again.map_or(true, |bytes| held.hevc.agrees(&got, &bytes));
-        if !agrees && held.hevc.disagree <= 10 {
-            print!("disagrees with the record that was read: {line}");
+        if let Some(with) = held.disagreement(&got, to) {
+            print!("disagrees with {with}: {line}");
         }
         if got == want {
             *table.entry((op, refusal)).or_default() += 1;
@@ -187,7 +232,7 @@ fn run(replay: &str, seed: u64, count: usize, wrong: Option<usize>) -> bool {
         }
     });
     let reader = std::thread::spawn(move || {
-        let (mut table, mut held) = (Table::new(), BothHeld::default());
+        let (mut table, mut held) = (Table::new(), AllHeld::default());
         let counts = compare(output, cases, &mut table, &mut held);
         (counts, table, held)
     });
@@ -219,12 +264,10 @@ fn run(replay: &str, seed: u64, count: usize, wrong: Option<usize>) -> bool {
 }
 
 /// Compares the longest inputs too, prints the table and the counts, and returns whether nothing differs.
-fn end(seed: u64, (mut n, mut differ): (u64, u64), mut table: Table, held: &BothHeld) -> bool {
+fn end(seed: u64, (mut n, mut differ): (u64, u64), mut table: Table, held: &AllHeld) -> bool {
     longest_inputs(&mut n, &mut differ, &mut table);
     print(&table);
-    held.strict.print();
-    held.hevc.print();
-    differ += held.strict.disagree + held.hevc.disagree;
+    differ += held.print();
     println!("\nseed {seed}\n{n} cases, {differ} differ");
     differ == 0
 }

@@ -1,6 +1,6 @@
 //! What the original does not have, from the rules of docs/SCOPE.md: the unit list (2), the unit check (4.6), the kinds of units (3.3), the limits of
-//! full write (3.9) and of HEVC write (4.11), where units lie, the units of an access unit one by one (3.12), and the two rules of strict reading
-//! (4.10).
+//! full write (3.9) and of HEVC write (4.11), where units lie, the units of an access unit one by one and their stream with short start codes (3.12),
+//! and the two rules of strict reading (4.10).
 
 use original::hvcc::{split_length_prefixed, HevcConfig, NalArray};
 use original::vvcc::{self, VvcConfig, VvcNalArray};
@@ -271,4 +271,38 @@ pub fn access_unit(h: &VvcConfig, list: &[u8], item: &[u8], tols: Option<u16>) -
     out.extend(list_places(list).into_iter().map(|p| p.1));
     out.extend(of_item(&units[leading..]));
     out
+}
+
+/// The stream of units with short start codes (H.266 B.2.2): 00 00 01 before each unit, and one more 00 before that for the first unit and for those
+/// of types 12 to 18. A unit of fewer than two bytes has no type.
+pub fn short_stream(units: &[&[u8]]) -> Vec<u8> {
+    let mut out = Vec::new();
+    for (i, u) in units.iter().enumerate() {
+        if i == 0 || u.len() > 1 && matches!(u[1] / 8, 12..=18) {
+            out.push(0);
+        }
+        out.extend([0, 0, 1]);
+        out.extend_from_slice(u);
+    }
+    out
+}
+
+/// A stream of units of the given lengths, put back to start codes of four bytes, and how many of its codes have three. It does not ask which of the
+/// two a unit should have. None if there is no start code before a unit, or other bytes follow the last unit.
+pub fn put_back(stream: &[u8], lengths: impl Iterator<Item = usize>) -> Option<(Vec<u8>, usize)> {
+    let (mut rest, mut out, mut three) = (stream, Vec::new(), 0);
+    for len in lengths {
+        rest = match rest {
+            [0, 0, 0, 1, after @ ..] => after,
+            [0, 0, 1, after @ ..] => {
+                three += 1;
+                after
+            }
+            _ => return None,
+        };
+        out.extend([0, 0, 0, 1]);
+        out.extend_from_slice(rest.get(..len)?);
+        rest = &rest[len..];
+    }
+    rest.is_empty().then_some((out, three))
 }

@@ -10,6 +10,7 @@ use crate::limits;
 use crate::reading;
 use crate::rng::Rng;
 use crate::shapes;
+use crate::start_codes;
 use crate::strict;
 use original::vvcc::VvcNalArray;
 use std::collections::BTreeMap;
@@ -72,6 +73,11 @@ impl List {
         self.cases += 1;
     }
 
+    /// Takes a case; if it assembles a stream, with both choices of start codes.
+    fn take_both(&mut self, c: Case) {
+        start_codes::both(c).for_each(|c| self.take(&c, &answers::answer(&c)));
+    }
+
     /// Takes a case if it is new in its kind or reaches a new region.
     fn offer(&mut self, c: Case, of_a_kind: usize) {
         let a = answers::answer(&c);
@@ -103,7 +109,8 @@ pub fn write(folder: &str, seed: u64) -> bool {
     };
     list.program_lines();
     generator::worked(&mut |c| list.take(&c, &answers::answer(&c)));
-    limits::limits(&mut |c| list.take(&c, &answers::answer(&c)));
+    limits::limits(&mut |c| list.take_both(c));
+    start_codes::fixed(&mut |c| list.take_both(c));
     strict::short(&mut |c| list.take(&c, &answers::answer(&c)));
     hevc::short(&mut |c| list.take(&c, &answers::answer(&c)));
     codes::short(&mut |c| list.take(&c, &answers::answer(&c)));
@@ -126,12 +133,10 @@ pub fn write(folder: &str, seed: u64) -> bool {
     generator::short_strings(1, &mut |c| list.offer(c, 4));
     let mut r = Rng(seed);
     for _ in 0..400_000 {
-        let c = generator::any(&mut r);
-        list.offer(c, OF_A_KIND);
+        start_codes::both(generator::any(&mut r)).for_each(|c| list.offer(c, OF_A_KIND));
     }
     for line in include_str!("further_cases").lines() {
-        let c = Case::of_line(line).expect("a case");
-        list.take(&c, &answers::answer(&c));
+        list.take_both(Case::of_line(line).expect("a case"));
     }
     list.long_cases();
     fs::write(Path::new(folder).join("stdin"), &list.input).expect("stdin is written");
@@ -178,7 +183,7 @@ impl List {
             (&long.line(), "case too long\n"),
             (&together.line(), "case too long\n"),
             (&beyond, "case too long\n"),
-            (&none(54).line(), "54 no such call =abab\n"),
+            (&none(55).line(), "55 no such call =abab\n"),
             (&none(0).line(), "0 no such call =abab\n"),
             (&odd, "6 0 1 0 =\n"),
         ] {

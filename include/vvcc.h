@@ -57,6 +57,17 @@ enum vvcc_refusal {
     VVCC_CONFIGURATION_VERSION = 27    /* the first byte of an HEVC record is not 1 */
 };
 
+/* The start codes of a stream: the number that a call takes as `short_codes`. Any number but 0 means short codes.
+ * Short codes are those of H.266 B.2.2: the first unit of the stream, and each unit whose header has a type from 12 to 18, follow 00 00 00 01;
+ * all others follow 00 00 01. The type is in bits 7 to 3 of the second byte of the unit; a unit with fewer than two bytes has none.
+ * Under both choices the stream has the same units in the same order, and the refusals are the same but for 20 of `out`, which goes by the
+ * length of the stream to be written. With short codes the stream is one byte shorter for each unit that follows 00 00 01, and never longer:
+ * the lengths given for `out` are sufficient for both. */
+enum vvcc_start_codes {
+    VVCC_FOUR_BYTES = 0, /* every unit follows 00 00 00 01 */
+    VVCC_SHORT = 1       /* short codes */
+};
+
 /* The answer of a call that writes. */
 typedef struct vvcc_written {
     uint32_t refusal; /* 0, or the number of the refusal */
@@ -86,27 +97,28 @@ vvcc_written vvcc_still_record(const uint8_t *record, size_t record_len,
                                uint8_t chroma_format_idc, uint8_t bit_depth, uint32_t width, uint32_t height,
                                uint8_t *out, size_t out_len);
 
-/* The Annex B stream (H.266) of a still: the units of its compact record, grouped by type, then its picture, each after 00 00 00 01.
+/* The Annex B stream (H.266) of a still: the units of its compact record, grouped by type, then its picture, each after its start code.
  * `stored` is what the file stores for the picture. If `has_target` is not 0, `target` is the operating point that the caller asks for.
+ * `short_codes` is 0 for start codes of four bytes; any other number is for short ones (vvcc_start_codes).
  * `out` needs at most 4*record_len + stored_len + 6 bytes if the multi-layer flag of the record is clear, and at most
  * 4*record_len + 5*stored_len/2 if it is set.
  * Refusals, in this order: 23; those of vvcc_still_record without 20; with the flag clear 6, then 23 if the item would have more than 2^30
  * bytes; with the flag set those of vvcc_access_unit for the item; 20. */
 vvcc_written vvcc_still_stream(const uint8_t *record, size_t record_len,
                                const uint8_t *stored, size_t stored_len,
-                               uint8_t has_target, uint16_t target,
+                               uint8_t has_target, uint16_t target, uint8_t short_codes,
                                uint8_t *out, size_t out_len);
 
 /* The Annex B stream of a full record and an item of length-prefixed units. Leading AUD and OPI units of the item come first, then the units of
  * the record, then the rest of the item. An OPI unit of the item with another operating point than the target is left out. If `has_target` is 0,
- * the target is that of the record.
+ * the target is that of the record. `short_codes` is 0 for start codes of four bytes; any other number is for short ones (vvcc_start_codes).
  * The unit list of the record is written to `scratch` as soon as the record is accepted; `scratch` needs at most 4*record_len bytes. `out` needs
  * at most 2*record_len + 5*item_len/2 bytes, and with prefix size 4 at most 2*record_len + item_len.
  * Refusals, in this order: 23 (either input); 3, then in byte order 1 and 2 (the record); 20 (`scratch`); 23 (the unit list has more than 2^30
  * bytes); in byte order 1 and 5 (the item); 19; 20. */
 vvcc_written vvcc_access_unit(const uint8_t *record, size_t record_len,
                               const uint8_t *item, size_t item_len,
-                              uint8_t has_target, uint16_t target,
+                              uint8_t has_target, uint16_t target, uint8_t short_codes,
                               uint8_t *scratch, size_t scratch_len,
                               uint8_t *out, size_t out_len);
 

@@ -31,8 +31,8 @@ void fail(const test_case *c, const char *what) {
     fprintf(stderr, "\nsecond:");
     for (size_t i = 0; i < c->second.len; i++)
         fprintf(stderr, " %02X", c->second.at[i]);
-    fprintf(stderr, "\nchroma %u, depth %u, %lu by %lu, target %u %u, length size %u, from %zu\n", c->chroma_format_idc, c->bit_depth,
-            (unsigned long)c->width, (unsigned long)c->height, c->has_target, c->target, c->length_size, c->from);
+    fprintf(stderr, "\nchroma %u, depth %u, %lu by %lu, target %u %u, short codes %u, length size %u, from %zu\n", c->chroma_format_idc,
+            c->bit_depth, (unsigned long)c->width, (unsigned long)c->height, c->has_target, c->target, c->short_codes, c->length_size, c->from);
     exit(1);
 }
 
@@ -84,15 +84,16 @@ static vvcc_written read_strictly(const test_case *c, const uint8_t *first, run 
 
 /* The call itself. */
 static vvcc_written make_call(const test_case *c, const uint8_t *first, const uint8_t *second, run *r) {
+    uint8_t codes = r->four_bytes ? VVCC_FOUR_BYTES : c->short_codes;
     switch (c->call) {
     case STILL_RECORD:
         return vvcc_still_record(first, c->first.len, c->chroma_format_idc, c->bit_depth, c->width, c->height, r->out, r->out_len);
     case STILL_STREAM:
-        return vvcc_still_stream(first, c->first.len, second, c->second.len, c->has_target, c->target, r->out, r->out_len);
+        return vvcc_still_stream(first, c->first.len, second, c->second.len, c->has_target, c->target, codes, r->out, r->out_len);
     case STRICT_RECORD: return read_strictly(c, first, r);
     default:
-        return vvcc_access_unit(first, c->first.len, second, c->second.len, c->has_target, c->target, r->scratch, r->scratch_len, r->out,
-                                r->out_len);
+        return vvcc_access_unit(first, c->first.len, second, c->second.len, c->has_target, c->target, codes, r->scratch, r->scratch_len,
+                                r->out, r->out_len);
     }
 }
 

@@ -19,6 +19,12 @@ static void any_target(test_case *c) {
     c->target = one_in(6) ? (uint16_t)below(65536) : (uint16_t)below(3);
 }
 
+/* Start codes: four bytes, or short ones under two of their numbers. */
+static void any_codes(test_case *c) {
+    static const uint8_t numbers[] = {VVCC_FOUR_BYTES, VVCC_SHORT, 255};
+    c->short_codes = numbers[below(3)];
+}
+
 /* What a file states of a still, within its fields most of the time. */
 static void any_picture(test_case *c) {
     c->chroma_format_idc = (uint8_t)below(one_in(20) ? 256 : 4);
@@ -48,6 +54,7 @@ static void still_case(test_case *c) {
         stored_bytes(c);
     any_picture(c);
     any_target(c);
+    any_codes(c);
     maybe_damaged(&c->first);
     if (c->call == STILL_STREAM && one_in(6))
         damage(&c->second);
@@ -78,6 +85,7 @@ static void access_unit_case(test_case *c) {
     any_record(&c->first);
     item(&c->second, 1 + (c->first.at[0] >> 1 & 3), any_most());
     any_target(c);
+    any_codes(c);
     maybe_damaged(&c->first);
     if (one_in(6))
         damage(&c->second);
@@ -148,6 +156,7 @@ void longest_case(test_case *c, size_t k) {
     c->first.len = c->second.len = 0;
     any_picture(c);
     any_target(c);
+    any_codes(c);
     if (c->call >= ACCESS_UNIT)
         most_scratch(&c->first);
     else

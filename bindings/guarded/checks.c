@@ -97,6 +97,59 @@ static void check_lengths(const test_case *c, enum side side, uint8_t fill, size
     check_scratch(c, &r);
 }
 
+/* Whether 00 00 00 01 lies at a place. */
+static bool is_code(const uint8_t *s, size_t len, size_t at) {
+    return len - at >= 4 && !s[at] && !s[at + 1] && !s[at + 2] && s[at + 3] == 1;
+}
+
+/* How often an input holds 00 00 00 01. */
+static size_t codes_inside(const bytes *b) {
+    size_t n = 0;
+    for (size_t at = 0; at < b->len; at++)
+        n += is_code(b->at, b->len, at);
+    return n;
+}
+
+/* Whether short codes leave the four bytes at a place as they are: those of the first unit, and of a unit whose header has a type from 12 to 18.
+ * After a unit without a second byte comes a zero or nothing, which is no such type. */
+static bool stays_whole(const uint8_t *s, size_t len, size_t at) {
+    unsigned type = len - at > 5 ? s[at + 5] >> 3 : 0;
+    return at == 0 || (type >= 12 && type <= 18);
+}
+
+/* A stream with short codes is that with four bytes, `four`, without the first zero of each start code that does not stay whole. A unit may hold
+ * 00 00 00 01 itself, which is no start code and stays: no more often than the inputs hold it. Returns how many zeros were taken out. */
+static size_t check_taken_out(const test_case *c, const uint8_t *four, size_t len) {
+    const uint8_t *got = whole.out;
+    size_t n = whole.answer.len, at = 0, inside = 0, taken = 0;
+    for (size_t i = 0; i < len; i++, at++) {
+        if (is_code(four, len, i) && !stays_whole(four, len, i)) {
+            bool out = n - at >= 3 && got[at + 2] == 1;
+            i += out;
+            taken += out;
+            inside += !out;
+        }
+        if (at == n || got[at] != four[i])
+            fail(c, "short codes: other bytes than with four");
+    }
+    if (at != n || inside > codes_inside(&c->first) + codes_inside(&c->second))
+        fail(c, "short codes: more bytes than there should be");
+    return taken;
+}
+
+/* With short codes: the same call with four bytes has the same refusal, the same list and the same units. */
+static void check_short(const test_case *c, counts *n) {
+    run r = {.side = AT_THE_END, .four_bytes = true, .scratch_len = header_scratch(c), .out_len = header_out(c)};
+    perform(c, &r);
+    if (r.answer.refusal != whole.answer.refusal)
+        fail(c, "short codes: another refusal than with four bytes");
+    check_scratch(c, &r);
+    if (r.answer.refusal)
+        return;
+    n->short_streams++;
+    n->taken_out += check_taken_out(c, r.out, r.answer.len);
+}
+
 /* A length to lend for a result of n bytes: exactly that, one byte less, more, none or any. */
 static size_t any_length(size_t n, size_t most) {
     switch (below(6)) {
@@ -115,6 +168,8 @@ static void check_written(const test_case *c, counts *n) {
     check_whole(c, fill);
     if (c->call == STRICT_RECORD)
         check_consumed(c);
+    if ((c->call == STILL_STREAM || c->call == ACCESS_UNIT) && c->short_codes)
+        check_short(c, n);
     size_t out_len = any_length(whole.answer.len, header_out(c));
     size_t scratch_len = one_in(2) ? header_scratch(c) : any_length(whole.list_len, header_scratch(c));
     check_lengths(c, AT_THE_END, (uint8_t)(fill + 85), scratch_len, out_len);

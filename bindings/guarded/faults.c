@@ -95,21 +95,29 @@ static size_t check_long_records(const uint8_t *s, size_t most, uint8_t *scratch
     return 2;
 }
 
-/* Inputs of 2^30 + 1 bytes are refused, and so is a still whose item would have more. */
-size_t check_long_inputs(void) {
-    size_t most = (size_t)1 << 30, n = 0;
-    uint8_t *s = long_slice(most + 1), *out = place_slice(OUT, AT_THE_END, 64, 7), *scratch = place_slice(SCRATCH, AT_THE_END, 64, 7);
+/* Streams of inputs of 2^30 + 1 bytes are refused, and so is a still whose item would have more. */
+static size_t check_long_streams(const uint8_t *s, size_t most, uint8_t codes, uint8_t *scratch, uint8_t *out) {
+    size_t n = 0;
     uint8_t small[sizeof worked];
     memcpy(small, worked, sizeof worked);
     small[0] = 0;
+    n += must_refuse(23, vvcc_still_stream(s, most + 1, worked, 2, 0, 0, codes, out, 64), out);
+    n += must_refuse(23, vvcc_still_stream(worked, 2, s, most + 1, 0, 0, codes, out, 64), out);
+    n += must_refuse(23, vvcc_access_unit(s, most + 1, worked, 2, 0, 0, codes, scratch, 64, out, 64), out);
+    n += must_refuse(23, vvcc_access_unit(worked, 2, s, most + 1, 0, 0, codes, scratch, 64, out, 64), out);
+    n += must_refuse(23, vvcc_still_stream(worked, sizeof worked, s + 1, most, 0, 0, codes, out, 64), out);
+    n += must_refuse(20, vvcc_still_stream(worked, sizeof worked, s + 7, most - 6, 0, 0, codes, out, 64), out);
+    n += must_refuse(6, vvcc_still_stream(small, sizeof small, s + 1, most, 0, 0, codes, out, 64), out);
+    return n;
+}
+
+/* Inputs of 2^30 + 1 bytes are refused. */
+size_t check_long_inputs(void) {
+    size_t most = (size_t)1 << 30, n = 0;
+    uint8_t *s = long_slice(most + 1), *out = place_slice(OUT, AT_THE_END, 64, 7), *scratch = place_slice(SCRATCH, AT_THE_END, 64, 7);
     memset(out, 0x55, 64);
     n += must_refuse(23, vvcc_still_record(s, most + 1, 1, 8, 16, 8, out, 64), out);
-    n += must_refuse(23, vvcc_still_stream(s, most + 1, worked, 2, 0, 0, out, 64), out);
-    n += must_refuse(23, vvcc_still_stream(worked, 2, s, most + 1, 0, 0, out, 64), out);
-    n += must_refuse(23, vvcc_access_unit(s, most + 1, worked, 2, 0, 0, scratch, 64, out, 64), out);
-    n += must_refuse(23, vvcc_access_unit(worked, 2, s, most + 1, 0, 0, scratch, 64, out, 64), out);
-    n += must_refuse(23, vvcc_still_stream(worked, sizeof worked, s + 1, most, 0, 0, out, 64), out);
-    n += must_refuse(20, vvcc_still_stream(worked, sizeof worked, s + 7, most - 6, 0, 0, out, 64), out);
-    n += must_refuse(6, vvcc_still_stream(small, sizeof small, s + 1, most, 0, 0, out, 64), out);
+    for (uint8_t codes = VVCC_FOUR_BYTES; codes <= VVCC_SHORT; codes++)
+        n += check_long_streams(s, most, codes, scratch, out);
     return n + check_long_records(s, most, scratch) + check_long_walks(s, most);
 }

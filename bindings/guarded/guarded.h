@@ -34,6 +34,7 @@ typedef struct test_case {
     uint32_t width, height;
     uint8_t has_target;
     uint16_t target;
+    uint8_t short_codes;
     uint8_t length_size;
     size_t from;
 } test_case;
@@ -89,6 +90,7 @@ extern const char *const call_names[CALLS];
 typedef struct run {
     enum side side;
     uint8_t fill;
+    bool four_bytes; /* start codes of four bytes, whatever the case has */
     size_t scratch_len, out_len;
     uint8_t *scratch, *out;
     vvcc_written answer;
@@ -103,6 +105,7 @@ void fail(const test_case *c, const char *what);
 /* checks.c: a case at both placements, and its answers counted */
 typedef struct counts {
     size_t answers[CALLS][REFUSALS]; /* by refusal, 0 for accepted; a walk counts by how it ends */
+    size_t short_streams, taken_out; /* streams with short codes, and the zeros that they do not have */
 } counts;
 
 size_t header_out(const test_case *c);

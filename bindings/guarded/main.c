@@ -101,7 +101,8 @@ int main(int argc, char **argv) {
     print_refusals(&plain);
     printf("guarded, accepted + refused:");
     size_t all = print_counts(&plain);
-    printf(" %zu cases, nothing wrong\non 64 KiB of stack:", all);
+    printf(" %zu cases, nothing wrong\nshort codes: %zu streams, %zu zeros taken out\non 64 KiB of stack:", all, plain.short_streams,
+           plain.taken_out);
     all = print_counts(&small);
     printf(" %zu cases, %zu bytes of stack; %zu long inputs; %zu faults noticed\n", all, deepest, long_inputs, faults);
     return 0;

@@ -1,4 +1,5 @@
-/* Turns one still into its full record and its stream, reads the record strictly, walks the stream's units, and shows refusals. */
+/* Turns one still into its full record and its stream, with start codes of four bytes and with short ones, reads the record strictly, walks the
+ * stream's units, and shows refusals. */
 #include <stdio.h>
 #include <string.h>
 
@@ -17,6 +18,18 @@ static void print_bytes(const char *what, const uint8_t *bytes, size_t len) {
     printf("\n");
 }
 
+/* Calls that are refused. `record` is left with a bit changed. */
+static void show_refusals(uint8_t *record, size_t record_len, size_t stream_len) {
+    uint8_t out[256], scratch[1024];
+    vvcc_written w = vvcc_still_stream(compact, sizeof compact - 1, stored, sizeof stored, 0, 0, VVCC_FOUR_BYTES, out, sizeof out);
+    printf("one byte short: refusal %u\n", (unsigned)w.refusal);
+    w = vvcc_still_stream(compact, sizeof compact, stored, sizeof stored, 0, 0, VVCC_FOUR_BYTES, out, stream_len - 1);
+    printf("output one byte short: refusal %u\n", (unsigned)w.refusal);
+    record[0] ^= 0x80;
+    vvcc_read r = vvcc_strict_record(record, record_len, scratch, 4 * record_len);
+    printf("a reserved bit of the record changed: refusal %u\n", (unsigned)r.refusal);
+}
+
 int main(void) {
     uint8_t record[256], stream[256], scratch[1024], again[256];
 
@@ -32,7 +45,7 @@ int main(void) {
         return 1;
     printf("read strictly: %lu bytes\n", (unsigned long)r.consumed);
 
-    w = vvcc_still_stream(compact, sizeof compact, stored, sizeof stored, 0, 0, stream, sizeof stream);
+    w = vvcc_still_stream(compact, sizeof compact, stored, sizeof stored, 0, 0, VVCC_FOUR_BYTES, stream, sizeof stream);
     if (w.refusal)
         return 1;
     print_bytes("stream", stream, w.len);
@@ -45,16 +58,14 @@ int main(void) {
     static const uint8_t item[] = {0, 0, 0, 4, 0x00, 0x41, 0x9A, 0x80};
     for (vvcc_unit u = vvcc_next_item_unit(item, sizeof item, 4, 0); u.found; u = vvcc_next_item_unit(item, sizeof item, 4, u.next))
         print_bytes("item unit", item + u.start, u.len);
-    w = vvcc_access_unit(record, record_len, item, sizeof item, 0, 0, scratch, 4 * record_len, again, sizeof again);
+    w = vvcc_access_unit(record, record_len, item, sizeof item, 0, 0, VVCC_FOUR_BYTES, scratch, 4 * record_len, again, sizeof again);
     printf("assembled from record and item: %s\n", w.len == stream_len && !memcmp(again, stream, stream_len) ? "the same stream" : "another stream");
 
-    /* refusals */
-    w = vvcc_still_stream(compact, sizeof compact - 1, stored, sizeof stored, 0, 0, stream, sizeof stream);
-    printf("one byte short: refusal %u\n", (unsigned)w.refusal);
-    w = vvcc_still_stream(compact, sizeof compact, stored, sizeof stored, 0, 0, stream, stream_len - 1);
-    printf("output one byte short: refusal %u\n", (unsigned)w.refusal);
-    record[0] ^= 0x80;
-    r = vvcc_strict_record(record, record_len, scratch, 4 * record_len);
-    printf("a reserved bit of the record changed: refusal %u\n", (unsigned)r.refusal);
+    /* the same units with short start codes: the picture follows three bytes */
+    w = vvcc_still_stream(compact, sizeof compact, stored, sizeof stored, 0, 0, VVCC_SHORT, again, sizeof again);
+    print_bytes("stream with short start codes", again, w.len);
+    printf("short start codes: %lu bytes instead of %lu\n", (unsigned long)w.len, (unsigned long)stream_len);
+
+    show_refusals(record, record_len, stream_len);
     return 0;
 }

@@ -42,6 +42,7 @@ extern "C" {
         stored_len: usize,
         has_target: u8,
         target: u16,
+        short_codes: u8,
         out: *mut u8,
         out_len: usize,
     ) -> Written;
@@ -52,6 +53,7 @@ extern "C" {
         item_len: usize,
         has_target: u8,
         target: u16,
+        short_codes: u8,
         scratch: *mut u8,
         scratch_len: usize,
         out: *mut u8,

@@ -3,16 +3,24 @@
 //! This crate passes slices to it and returns its answers as `Result`s.
 //!
 //! ```
+//! use vvcc::{still_stream, stream_units, Refusal, StartCodes};
+//!
 //! // a still: a compact record of an SPS and a PPS, prefix size 4, and the stored bytes of its picture
 //! let compact = b"\x60\x0B\x00\x79\x00\x0D\x02\x33\x80\x00\x02\x22\x4C\x03\x00\x81\x80";
-//! let stream = vvcc::still_stream(compact, &[0x9A], None)?;
-//! let units: Vec<&[u8]> = vvcc::stream_units(&stream).collect::<Result<_, _>>()?;
+//! let stream = still_stream(compact, &[0x9A], None, StartCodes::Four)?;
+//! let units: Vec<&[u8]> = stream_units(&stream).collect::<Result<_, _>>()?;
 //! assert_eq!(units.len(), 3);
 //! assert_eq!(units[2], [0x00, 0x41, 0x9A]);
 //!
+//! // with short start codes the picture follows 00 00 01 instead of 00 00 00 01
+//! let short = still_stream(compact, &[0x9A], None, StartCodes::Short)?;
+//! assert_eq!(short.len(), stream.len() - 1);
+//! assert_eq!(stream_units(&short).collect::<Result<Vec<_>, _>>()?, units);
+//!
 //! // one byte short: the refusal says why
-//! assert_eq!(vvcc::still_stream(&compact[..16], &[0x9A], None), Err(vvcc::Refusal::Truncated));
-//! # Ok::<(), vvcc::Refusal>(())
+//! let refused = still_stream(&compact[..16], &[0x9A], None, StartCodes::Four);
+//! assert_eq!(refused, Err(Refusal::Truncated));
+//! # Ok::<(), Refusal>(())
 //! ```
 
 mod calls;
@@ -37,6 +45,19 @@ pub struct Picture {
     pub bit_depth: u8,
     pub width: u32,
     pub height: u32,
+}
+
+/// The start codes of a stream. Under both choices the stream has the same units in the same order, and the refusals are the same but for
+/// [`Refusal::BufferTooShort`], which goes by the length of the stream to be written.
+#[derive(Clone, Copy, Debug, Default, PartialEq, Eq)]
+pub enum StartCodes {
+    /// Every unit follows 00 00 00 01.
+    #[default]
+    Four = 0,
+    /// H.266 B.2.2: the first unit of the stream, and each unit whose header has a type from 12 to 18, follow 00 00 00 01; all others follow
+    /// 00 00 01, also a unit with fewer than two bytes, which has no type. The stream is one byte shorter for each unit that follows 00 00 01,
+    /// and never longer.
+    Short = 1,
 }
 
 /// A target as the library expects it: whether there is one, and which.
@@ -123,6 +144,7 @@ unsafe fn raw_still_stream(
     compact: &[u8],
     stored: &[u8],
     target: Option<u16>,
+    codes: StartCodes,
     out: *mut u8,
     out_len: usize,
 ) -> Written {
@@ -134,34 +156,40 @@ unsafe fn raw_still_stream(
         stored.len(),
         has,
         t,
+        codes as u8,
         out,
         out_len,
     )
 }
 
-/// Writes the Annex B stream of a still to the front of `out` and returns its length: at most `4 * compact.len() + stored.len() + 6` if the
-/// multi-layer flag of the record is clear, and at most `4 * compact.len() + 5 * stored.len() / 2` if it is set. The bytes after it, and on a
-/// refusal all bytes, are not changed.
+/// Writes the Annex B stream of a still, as [`still_stream`] returns it, to the front of `out` and returns its length: at most
+/// `4 * compact.len() + stored.len() + 6` if the multi-layer flag of the record is clear, and at most
+/// `4 * compact.len() + 5 * stored.len() / 2` if it is set, under either choice of start codes. The bytes after it, and on a refusal all bytes,
+/// are not changed.
 pub fn still_stream_into(
     compact: &[u8],
     stored: &[u8],
     target: Option<u16>,
+    codes: StartCodes,
     out: &mut [u8],
 ) -> Result<usize, Refusal> {
+    let (o, n) = (out.as_mut_ptr(), out.len());
     // SAFETY: `out` is lent mutably.
-    written(unsafe { raw_still_stream(compact, stored, target, out.as_mut_ptr(), out.len()) })
+    written(unsafe { raw_still_stream(compact, stored, target, codes, o, n) })
 }
 
-/// The Annex B stream of a still. `target` is the operating point that the caller asks for, if any.
+/// The Annex B stream of a still: the units of its compact record, grouped by type, then its picture, each after its start code. `target` is the
+/// operating point that the caller asks for, if any, and `codes` the choice of start codes.
 pub fn still_stream(
     compact: &[u8],
     stored: &[u8],
     target: Option<u16>,
+    codes: StartCodes,
 ) -> Result<Vec<u8>, Refusal> {
     let (c, s) = (compact.len().min(LONGEST_COMPACT), lent(stored));
     // SAFETY: the buffer is that of a new `Vec`.
     into_vec(4 * c + s + 6, 4 * c + 5 * s / 2 + 6, |out, n| unsafe {
-        raw_still_stream(compact, stored, target, out, n)
+        raw_still_stream(compact, stored, target, codes, out, n)
     })
 }
 
@@ -175,23 +203,26 @@ unsafe fn raw_access_unit(
     record: &[u8],
     item: &[u8],
     target: Option<u16>,
+    codes: StartCodes,
     scratch: (*mut u8, usize),
     out: (*mut u8, usize),
 ) -> Written {
     let (has, t) = target_numbers(target);
     let (r, i) = ((record.as_ptr(), record.len()), (item.as_ptr(), item.len()));
+    let short = codes as u8;
     calls::vvcc_access_unit(
-        r.0, r.1, i.0, i.1, has, t, scratch.0, scratch.1, out.0, out.1,
+        r.0, r.1, i.0, i.1, has, t, short, scratch.0, scratch.1, out.0, out.1,
     )
 }
 
-/// Writes the Annex B stream of a full record and an item of length-prefixed units to the front of `out` and returns its length: at most
-/// `2 * record.len() + 5 * item.len() / 2`, and with prefix size 4 at most `2 * record.len() + item.len()`. The bytes after it, and on a refusal
-/// all bytes, are not changed. The unit list of the record is written to `scratch`.
+/// Writes the Annex B stream of a full record and an item, as [`access_unit`] returns it, to the front of `out` and returns its length: at most
+/// `2 * record.len() + 5 * item.len() / 2`, and with prefix size 4 at most `2 * record.len() + item.len()`, under either choice of start codes. The
+/// bytes after it, and on a refusal all bytes, are not changed. The unit list of the record is written to `scratch`.
 pub fn access_unit_into(
     record: &[u8],
     item: &[u8],
     target: Option<u16>,
+    codes: StartCodes,
     scratch: &mut [u8],
     out: &mut [u8],
 ) -> Result<usize, Refusal> {
@@ -200,11 +231,18 @@ pub fn access_unit_into(
         (out.as_mut_ptr(), out.len()),
     );
     // SAFETY: `scratch` and `out` are lent mutably.
-    written(unsafe { raw_access_unit(record, item, target, s, o) })
+    written(unsafe { raw_access_unit(record, item, target, codes, s, o) })
 }
 
-/// The Annex B stream of a full record and an item of length-prefixed units.
-pub fn access_unit(record: &[u8], item: &[u8], target: Option<u16>) -> Result<Vec<u8>, Refusal> {
+/// The Annex B stream of a full record and an item of length-prefixed units: leading AUD and OPI units of the item, then the units of the record,
+/// then the rest of the item, each after its start code. An OPI unit of the item with another operating point than the target, `target` or that
+/// of the record, is left out. `codes` is the choice of start codes.
+pub fn access_unit(
+    record: &[u8],
+    item: &[u8],
+    target: Option<u16>,
+    codes: StartCodes,
+) -> Result<Vec<u8>, Refusal> {
     let (r, i) = (lent(record), lent(item));
     into_vec(2 * r + i, 2 * r + 5 * i / 2, |out, n| {
         let mut scratch = Vec::<u8>::with_capacity(4 * r);
@@ -214,6 +252,7 @@ pub fn access_unit(record: &[u8], item: &[u8], target: Option<u16>) -> Result<Ve
                 record,
                 item,
                 target,
+                codes,
                 (scratch.as_mut_ptr(), 4 * r),
                 (out, n),
             )

@@ -1,9 +1,10 @@
 //! Compares the library with the original on the same bytes: made and damaged stills, records, items and streams.
 //! The original's sources are found by the environment variable VVCC_ORIGINAL, the folder with vvcc.rs, hvcc.rs, boxes.rs and error.rs.
 #![cfg_attr(not(original), allow(unused))]
+use ::vvcc::StartCodes::{Four, Short};
 use ::vvcc::{
     access_unit, item_units, still_record, still_stream, stream_units, strict_record, Picture,
-    Refusal,
+    Refusal, StartCodes,
 };
 
 #[cfg(original)]
@@ -194,11 +195,88 @@ fn original_record(c: &[u8], p: Picture) -> error::Result<Vec<u8>> {
     Ok(full.serialize())
 }
 
+/// What assembly takes: a full record and an item.
 #[cfg(original)]
-fn original_stream(c: &[u8], stored: &[u8], target: Option<u16>) -> error::Result<Vec<u8>> {
+type Parts = (crate::vvcc::VvcConfig, Vec<u8>);
+
+/// The full record and the item of a still.
+#[cfg(original)]
+fn original_parts(c: &[u8], stored: &[u8]) -> error::Result<Parts> {
     let compact = crate::vvcc::CompactVvcConfig::parse(c)?;
     let full = crate::vvcc::VvcConfig::parse(&compact.to_full(1, 8, 0, 0)?.serialize())?;
-    crate::vvcc::access_unit_annex_b(&full, &compact.item_data(stored)?, target)
+    Ok((full, compact.item_data(stored)?))
+}
+
+/// The units that assembly writes, in their order. Whether a unit of the item is kept is asked of the original: it assembles that unit alone.
+#[cfg(original)]
+fn original_units((full, item): &Parts, target: Option<u16>) -> Vec<Vec<u8>> {
+    let mut bare = full.clone();
+    bare.arrays.clear();
+    let prefix = 4 - full.length_size as usize;
+    let kept = |u: &&[u8]| {
+        let alone = [&(u.len() as u32).to_be_bytes()[prefix..], *u].concat();
+        crate::vvcc::access_unit_annex_b(&bare, &alone, target).is_ok()
+    };
+    let units = crate::hvcc::split_length_prefixed(item, full.length_size).unwrap();
+    let leads = |u: &&&[u8]| {
+        let kind = crate::vvcc::nal_unit_type(u);
+        matches!(kind, Some(crate::vvcc::NAL_AUD | crate::vvcc::NAL_OPI))
+    };
+    let (front, rest) = units.split_at(units.iter().take_while(leads).count());
+    let front = front.iter().copied().filter(kept);
+    let rest = rest.iter().copied().filter(kept);
+    front
+        .chain(full.nal_units())
+        .chain(rest)
+        .map(<[u8]>::to_vec)
+        .collect()
+}
+
+/// The units, each after its start code.
+fn annex_b(units: &[Vec<u8>], codes: StartCodes) -> Vec<u8> {
+    let mut stream = vec![];
+    for (k, u) in units.iter().enumerate() {
+        let set = u.len() >= 2 && (12..=18).contains(&(u[1] >> 3));
+        if codes == Four || k == 0 || set {
+            stream.push(0);
+        }
+        stream.extend_from_slice(b"\x00\x00\x01");
+        stream.extend_from_slice(u);
+    }
+    stream
+}
+
+/// A stream with short codes beside the original's, of the same units: its bytes, how many it has less, and the units that splitting finds.
+#[cfg(original)]
+fn held_to_units(short: &[u8], four: &[u8], units: &[Vec<u8>], input: &dyn std::fmt::Debug) {
+    assert_eq!(annex_b(units, Four), four, "{input:02X?}");
+    assert_eq!(annex_b(units, Short), short, "{input:02X?}");
+    let three = |u: &&Vec<u8>| !matches!(crate::vvcc::nal_unit_type(u), Some(12..=18));
+    let less = units[1..].iter().filter(three).count();
+    assert_eq!(short.len() + less, four.len(), "{input:02X?}");
+    let found: Vec<_> = stream_units(short).map(Result::unwrap).collect();
+    assert_eq!(found, crate::hvcc::split_annex_b(four), "{input:02X?}");
+}
+
+/// Both choices of start codes beside the original, which knows four bytes alone: whether the call is accepted. A refusal is the same under both.
+#[cfg(original)]
+fn same_streams(
+    ours: impl Fn(StartCodes) -> Result<Vec<u8>, Refusal>,
+    parts: error::Result<Parts>,
+    target: Option<u16>,
+    added: &[u32],
+    input: &dyn std::fmt::Debug,
+) -> bool {
+    let (four, short) = (ours(Four), ours(Short));
+    assert_eq!(four.as_ref().err(), short.as_ref().err(), "{input:02X?}");
+    let theirs = parts.and_then(|p| {
+        let stream = crate::vvcc::access_unit_annex_b(&p.0, &p.1, target)?;
+        if let Ok(short) = short {
+            held_to_units(&short, &stream, &original_units(&p, target), input);
+        }
+        Ok(stream)
+    });
+    same(four, theirs, added, input)
 }
 
 #[cfg(original)]
@@ -303,7 +381,7 @@ beside_original! {
         let k = n.below(40);
         let stored = if n.below(2) == 0 { n.item(1 + (c.first().unwrap_or(&0) >> 5 & 3) as usize) } else { n.bytes(k) };
         let target = [None, Some(0), Some(3)][n.below(3)];
-        same(still_stream(&c, &stored, target), original_stream(&c, &stored, target), &[22], &(c, stored))
+        same_streams(|codes| still_stream(&c, &stored, target, codes), original_parts(&c, &stored), target, &[22], &(&c, &stored))
     }
 
     fn access_units(n, 20000) {
@@ -312,8 +390,8 @@ beside_original! {
         let good = n.item(1 + (r.first().unwrap_or(&0) >> 1 & 3) as usize);
         let item = n.damaged(&good);
         let target = [None, Some(0), Some(3)][n.below(3)];
-        let theirs = crate::vvcc::VvcConfig::parse(&r).and_then(|f| crate::vvcc::access_unit_annex_b(&f, &item, target));
-        same(access_unit(&r, &item, target), theirs, &[], &(r, item))
+        let parts = crate::vvcc::VvcConfig::parse(&r).map(|full| (full, item.clone()));
+        same_streams(|codes| access_unit(&r, &item, target, codes), parts, target, &[], &(&r, &item))
     }
 
     fn strict_records(n, 20000) {

@@ -1,8 +1,10 @@
-//! The library measured together with the original: every row runs both on the same bytes, in turn, and prints the medians of their times.
+//! The library measured together with the original: every row runs both on the same bytes, in turn, and prints the medians of their times. Two
+//! more tables have short start codes beside those of four bytes: their times, and the bytes that they save.
 mod timing;
 
 use original::hvcc::{split_annex_b, split_length_prefixed};
-use original::vvcc::{access_unit_annex_b, CompactVvcConfig, VvcConfig};
+use original::vvcc::{access_unit_annex_b, nal_unit_type, CompactVvcConfig, VvcConfig};
+use std::cell::RefCell;
 use std::hint::black_box;
 use timing::{clock, median};
 
@@ -38,6 +40,7 @@ extern "C" {
         item_len: usize,
         has_target: u8,
         target: u16,
+        short_codes: u8,
         scratch: *mut u8,
         scratch_len: usize,
         out: *mut u8,
@@ -50,6 +53,7 @@ extern "C" {
         stored_len: usize,
         has_target: u8,
         target: u16,
+        short_codes: u8,
         out: *mut u8,
         out_len: usize,
     ) -> Written;
@@ -63,13 +67,17 @@ extern "C" {
     fn vvcc_next_item_unit(item: *const u8, len: usize, length_size: u8, from: usize) -> Unit;
 }
 
+/// The start codes, by their numbers in include/vvcc.h.
+const FOUR: u8 = 0;
+const SHORT: u8 = 1;
+
 /// The stream of a record and an item, in the given memory.
 fn access_unit(
     record: &[u8],
     item: &[u8],
+    codes: u8,
     scratch: &mut [u8],
-    out: *mut u8,
-    out_len: usize,
+    out: (*mut u8, usize),
 ) -> usize {
     let w = unsafe {
         vvcc_access_unit(
@@ -79,10 +87,11 @@ fn access_unit(
             item.len(),
             0,
             0,
+            codes,
             scratch.as_mut_ptr(),
             scratch.len(),
-            out,
-            out_len,
+            out.0,
+            out.1,
         )
     };
     assert_eq!(w.refusal, 0);
@@ -90,7 +99,7 @@ fn access_unit(
 }
 
 /// The stream of a still, in lent memory.
-fn still_stream(compact: &[u8], stored: &[u8], out: &mut [u8]) -> usize {
+fn still_stream(compact: &[u8], stored: &[u8], codes: u8, out: &mut [u8]) -> usize {
     let w = unsafe {
         vvcc_still_stream(
             compact.as_ptr(),
@@ -99,6 +108,7 @@ fn still_stream(compact: &[u8], stored: &[u8], out: &mut [u8]) -> usize {
             stored.len(),
             0,
             0,
+            codes,
             out.as_mut_ptr(),
             out.len(),
         )
@@ -146,6 +156,11 @@ fn item_units(item: &[u8], size: u8) -> Vec<&[u8]> {
     units_of(item, |at| unsafe {
         vvcc_next_item_unit(item.as_ptr(), item.len(), size, at)
     })
+}
+
+/// The original's way from a record and an item to the stream.
+fn original_assembly(record: &[u8], item: &[u8]) -> Vec<u8> {
+    access_unit_annex_b(&VvcConfig::parse(record).unwrap(), item, None).unwrap()
 }
 
 /// The original's shortest way from a still to its stream.
@@ -232,32 +247,46 @@ impl Table {
         name.contains(&self.word)
     }
 
-    /// One row: the library, the original and a plain copy of `bytes` bytes, one after another in every round; the first two take turns in being
-    /// first.
+    /// The medians of two sides, one after another in every round; they take turns in being first. Each round ends with `rest`.
+    fn turns(
+        &self,
+        times: usize,
+        mut one: impl FnMut(),
+        mut other: impl FnMut(),
+        mut rest: impl FnMut(),
+    ) -> (f64, f64) {
+        let (mut a, mut b) = (vec![], vec![]);
+        for round in 0..self.rounds {
+            if round % 2 == 0 {
+                a.push(clock(times, &mut one));
+                b.push(clock(times, &mut other));
+            } else {
+                b.push(clock(times, &mut other));
+                a.push(clock(times, &mut one));
+            }
+            rest();
+        }
+        (median(a), median(b))
+    }
+
+    /// One row: the library and the original in turns, and after both a plain copy of `bytes` bytes.
     fn row(
         &self,
         name: &str,
         bytes: usize,
         times: usize,
-        mut ours: impl FnMut(),
-        mut original: impl FnMut(),
+        ours: impl FnMut(),
+        original: impl FnMut(),
     ) {
         let src = vec![1u8; bytes];
         let mut dst = vec![2u8; bytes];
-        let (mut a, mut b, mut c) = (vec![], vec![], vec![]);
-        for round in 0..self.rounds {
-            if round % 2 == 0 {
-                a.push(clock(times, &mut ours));
-                b.push(clock(times, &mut original));
-            } else {
-                b.push(clock(times, &mut original));
-                a.push(clock(times, &mut ours));
-            }
+        let mut c = vec![];
+        let (a, b) = self.turns(times, ours, original, || {
             c.push(clock(times, || {
                 black_box(&mut dst[..]).copy_from_slice(black_box(&src[..]));
-            }));
-        }
-        let (a, b, c) = (median(a), median(b), median(c));
+            }))
+        });
+        let c = median(c);
         println!(
             "| {name} | {} | {} | {} | {:.2} | {:.2} |",
             micro(a),
@@ -266,6 +295,14 @@ impl Table {
             a / b,
             a / c
         );
+    }
+
+    /// One row: short start codes and those of four bytes in turns, by the same call.
+    fn codes_row(&self, name: &str, times: usize, call: impl FnMut(u8)) {
+        let call = RefCell::new(call);
+        let with = |codes| (call.borrow_mut())(codes);
+        let (a, b) = self.turns(times, || with(SHORT), || with(FOUR), || {});
+        println!("| {name} | {} | {} | {:.2} |", micro(a), micro(b), a / b);
     }
 }
 
@@ -278,13 +315,16 @@ fn assembly(t: &Table, name: &str, size: u8, units: usize, unit_len: usize, new_
     if !t.wants(&name) {
         return;
     }
-    let record = record_of(size);
-    let item = item_of(units, unit_len, size as usize);
-    let mut scratch = vec![0u8; 4 * record.len()];
-    let right = access_unit_annex_b(&VvcConfig::parse(&record).unwrap(), &item, None).unwrap();
+    let (record, item) = (record_of(size), item_of(units, unit_len, size as usize));
+    let right = original_assembly(&record, &item);
     let mut lent = vec![0u8; right.len()];
-    let n = access_unit(&record, &item, &mut scratch, lent.as_mut_ptr(), lent.len());
-    assert!(lent[..n] == right[..]);
+    let mut scratch = vec![0u8; 4 * record.len()];
+    let mut ours = |out| {
+        let (record, item) = (black_box(&record), black_box(&item));
+        access_unit(record, item, FOUR, &mut scratch, (out, right.len()))
+    };
+    assert_eq!(ours(lent.as_mut_ptr()), right.len());
+    assert!(lent == right);
     t.row(
         &name,
         right.len(),
@@ -296,24 +336,11 @@ fn assembly(t: &Table, name: &str, size: u8, units: usize, unit_len: usize, new_
             } else {
                 lent.as_mut_ptr()
             };
-            black_box(access_unit(
-                black_box(&record),
-                black_box(&item),
-                &mut scratch,
-                out,
-                right.len(),
-            ));
+            black_box(ours(out));
             black_box::<Vec<u8>>(new);
         },
         || {
-            black_box(
-                access_unit_annex_b(
-                    &VvcConfig::parse(black_box(&record)).unwrap(),
-                    black_box(&item),
-                    None,
-                )
-                .unwrap(),
-            );
+            black_box(original_assembly(black_box(&record), black_box(&item)));
         },
     );
 }
@@ -343,8 +370,7 @@ fn stream_split(t: &Table, name: &str, size: u8, units: usize, unit_len: usize) 
     if !t.wants(&name) {
         return;
     }
-    let cfg = VvcConfig::parse(&record_of(size)).unwrap();
-    let stream = access_unit_annex_b(&cfg, &item_of(units, unit_len, size as usize), None).unwrap();
+    let stream = original_assembly(&record_of(size), &item_of(units, unit_len, size as usize));
     let found = stream_units(&stream);
     assert!(found == split_annex_b(&stream) && found.len() == units + 3);
     t.row(
@@ -366,17 +392,22 @@ fn still_of(seed: u64, len: usize) -> (Vec<u8>, Vec<u8>) {
     (compact, Bytes(seed).unit([0x80, 0x40], len))
 }
 
-/// The full record of a still whose compact record has an SPS and `units` - 1 PPSs of 64 bytes.
-fn still_record_of(units: usize) -> Vec<u8> {
+/// A compact record of an SPS and `units` - 1 units of 64 bytes, whose types come from `kinds` in turn.
+fn compact_of(units: usize, kinds: &[u8]) -> Vec<u8> {
     let (mut compact, _) = still_of(0, 4);
     compact.truncate(13);
     compact[0] |= units as u8 - 2;
     let mut bytes = Bytes(units as u64);
-    for _ in 1..units {
+    for kind in kinds.iter().cycle().take(units - 1) {
         compact.push(64);
-        compact.extend(bytes.unit([0x00, 0x81], 64));
+        compact.extend(bytes.unit([0x00, kind << 3 | 1], 64));
     }
-    let c = CompactVvcConfig::parse(&compact).unwrap();
+    compact
+}
+
+/// The full record of a still whose compact record has an SPS and `units` - 1 PPSs.
+fn still_record_of(units: usize) -> Vec<u8> {
+    let c = CompactVvcConfig::parse(&compact_of(units, &[16])).unwrap();
     c.to_full(1, 8, 16, 8).unwrap().serialize()
 }
 
@@ -415,7 +446,7 @@ fn stills(t: &Table, name: &str, stills: &[(Vec<u8>, Vec<u8>)]) {
     let mut bytes = 0;
     for (c, s) in stills {
         let right = original_stream(c, s);
-        let n = still_stream(c, s, &mut out);
+        let n = still_stream(c, s, FOUR, &mut out);
         assert!(out[..n] == right[..]);
         bytes += n;
     }
@@ -425,7 +456,7 @@ fn stills(t: &Table, name: &str, stills: &[(Vec<u8>, Vec<u8>)]) {
         1 + (4 << 20) / bytes,
         || {
             for (c, s) in stills {
-                black_box(still_stream(black_box(c), black_box(s), &mut out));
+                black_box(still_stream(black_box(c), black_box(s), FOUR, &mut out));
             }
         },
         || {
@@ -435,6 +466,104 @@ fn stills(t: &Table, name: &str, stills: &[(Vec<u8>, Vec<u8>)]) {
         },
     );
 }
+
+/// The units, each after its start code.
+fn annex_b(units: &[&[u8]], codes: u8) -> Vec<u8> {
+    let mut stream = vec![];
+    for (k, u) in units.iter().enumerate() {
+        let three = codes == SHORT && k > 0 && !matches!(nal_unit_type(u), Some(12..=18));
+        stream.extend_from_slice(if three { &[0, 0, 1] } else { &[0, 0, 0, 1] });
+        stream.extend_from_slice(u);
+    }
+    stream
+}
+
+/// What is written with short start codes and with those of four bytes.
+struct Choices<'a> {
+    table: &'a Table,
+    /// The rows of the bytes saved.
+    saved: Vec<String>,
+}
+
+impl Choices<'_> {
+    /// A call that writes `right` with codes of four bytes: both of its streams are held to the units of `right`, then it is timed.
+    fn row(&mut self, name: &str, right: &[u8], mut write: impl FnMut(u8, &mut [u8]) -> usize) {
+        let units = split_annex_b(right);
+        let mut out = vec![0u8; right.len()];
+        let lens = [SHORT, FOUR].map(|codes| {
+            let n = write(codes, &mut out);
+            assert!(out[..n] == annex_b(&units, codes)[..]);
+            n
+        });
+        assert!(out == right);
+        let times = 1 + (4 << 20) / right.len();
+        self.table.codes_row(name, times, |codes| {
+            black_box(write(codes, &mut out));
+        });
+        let [short, four] = lens;
+        let (work, less) = (name.replace(", short codes", ""), four - short);
+        let per_cent = 100.0 * less as f64 / four as f64;
+        self.saved.push(format!(
+            "| {work} | {short} | {four} | {less} | {per_cent:.3} |"
+        ));
+    }
+
+    fn assembly(&mut self, name: &str, size: u8, units: usize, unit_len: usize) {
+        let name = format!("assembly, short codes, prefix size {size}, {name}");
+        if !self.table.wants(&name) {
+            return;
+        }
+        let (record, item) = (record_of(size), item_of(units, unit_len, size as usize));
+        let right = original_assembly(&record, &item);
+        let mut scratch = vec![0u8; 4 * record.len()];
+        self.row(&name, &right, |codes, out| {
+            let (record, item) = (black_box(&record), black_box(&item));
+            let out = (out.as_mut_ptr(), out.len());
+            access_unit(record, item, codes, &mut scratch, out)
+        });
+    }
+
+    fn still(&mut self, name: &str, compact: &[u8], stored: &[u8]) {
+        let name = format!("still to stream, short codes, {name}");
+        if !self.table.wants(&name) {
+            return;
+        }
+        self.row(&name, &original_stream(compact, stored), |codes, out| {
+            still_stream(black_box(compact), black_box(stored), codes, out)
+        });
+    }
+}
+
+/// The tables of short start codes: the same items as in the rows of assembly, and stills with records of 2 units and of 33.
+fn start_codes(t: &Table) {
+    println!("| Work | short codes, µs | four bytes, µs | short / four |");
+    println!("|---|---|---|---|");
+    let mut c = Choices {
+        table: t,
+        saved: vec![],
+    };
+    c.assembly(WHOLE, 4, 2000, 4190);
+    c.assembly(WHOLE, 2, 2000, 4192);
+    c.assembly(SMALL, 1, 2000, 255);
+    c.assembly(MANY, 1, 32768, 255);
+    // types 15, 16, 17 and 23: an SPS, then PPS, APS and SEI in turn
+    let mixed = compact_of(33, &[16, 17, 23]);
+    for (name, len) in [("4 KB", 4 << 10), ("40 KB", 40 << 10)] {
+        let (compact, stored) = still_of(3, len);
+        c.still(&format!("record of 2 units, {name}"), &compact, &stored);
+        c.still(&format!("record of 33 units, {name}"), &mixed, &stored);
+    }
+    println!("\n| Stream | with short codes | with four bytes | bytes saved | saved, % |");
+    println!("|---|---|---|---|---|");
+    for row in &c.saved {
+        println!("{row}");
+    }
+}
+
+/// The items of assembly and the splits, in words.
+const WHOLE: &str = "8 MiB in 2,000 units";
+const SMALL: &str = "2,000 units of 255 bytes";
+const MANY: &str = "8 MiB in units of 255 bytes";
 
 fn main() {
     let args: Vec<String> = std::env::args().collect();
@@ -447,20 +576,17 @@ fn main() {
     };
     println!("| Work | library, µs | original, µs | plain copy, µs | library / original | library / copy |");
     println!("|---|---|---|---|---|---|");
-    let whole = "8 MiB in 2,000 units";
-    let short = "2,000 units of 255 bytes";
-    let many = "8 MiB in units of 255 bytes";
-    assembly(&t, whole, 4, 2000, 4190, false);
-    assembly(&t, whole, 2, 2000, 4192, false);
-    assembly(&t, short, 1, 2000, 255, false);
-    assembly(&t, many, 1, 32768, 255, false);
-    assembly(&t, whole, 4, 2000, 4190, true);
-    item_split(&t, whole, 4, 2000, 4190);
-    item_split(&t, whole, 2, 2000, 4192);
-    item_split(&t, short, 1, 2000, 255);
-    item_split(&t, many, 1, 32768, 255);
-    stream_split(&t, whole, 4, 2000, 4190);
-    stream_split(&t, many, 1, 32768, 255);
+    assembly(&t, WHOLE, 4, 2000, 4190, false);
+    assembly(&t, WHOLE, 2, 2000, 4192, false);
+    assembly(&t, SMALL, 1, 2000, 255, false);
+    assembly(&t, MANY, 1, 32768, 255, false);
+    assembly(&t, WHOLE, 4, 2000, 4190, true);
+    item_split(&t, WHOLE, 4, 2000, 4190);
+    item_split(&t, WHOLE, 2, 2000, 4192);
+    item_split(&t, SMALL, 1, 2000, 255);
+    item_split(&t, MANY, 1, 32768, 255);
+    stream_split(&t, WHOLE, 4, 2000, 4190);
+    stream_split(&t, MANY, 1, 32768, 255);
     stills(&t, "still to stream, 4 KB", &[still_of(1, 4 << 10)]);
     stills(&t, "still to stream, 40 KB", &[still_of(2, 40 << 10)]);
     let month: Vec<_> = (0..1200)
@@ -469,4 +595,6 @@ fn main() {
     stills(&t, "a month's 1,200 stills, 4 to 41 KB", &month);
     strict_read(&t, "strict read, record of 2 units", &still_record_of(2));
     strict_read(&t, "strict read, record of 33 units", &still_record_of(33));
+    println!();
+    start_codes(&t);
 }

@@ -18,15 +18,16 @@ use Rattle.boxes.proofs.Numbers.{length-toBe}
 use Rattle.unit_list.specs.Answers.{listUnits}
 use Rattle.split.specs.Item.{splitItem}
 use Rattle.split.specs.Stream.{annexB}
+use Rattle.split.specs.RoundTrip.{threes}
 use Rattle.full.specs.declared.VvcConfig.{VvcConfig}
 use Rattle.access_unit.specs.AccessUnit.{targetOf, leading, following, kept, Source, ofList, ofItem}
 use Rattle.access_unit.specs.AccessUnit.{arranged, notEmpty, accessUnit, heldIn, codeOf, assemble}
 use Rattle.access_unit.specs.inner.Gathered.{Gathered, someGathered, gather, inOrder, sources, laterCode, bytesAt, zeroByte}
-use Rattle.access_unit.specs.inner.Gathered.{gatheredUnits, gatheredBytes, savedWith, itemSum, listSum, zeroOf, savedOf, lenOf}
+use Rattle.access_unit.specs.inner.Gathered.{gatheredUnits, gatheredBytes, itemSum, listSum, zeroOf, savedOf, lenOf}
 use Rattle.access_unit.specs.declared.StartCodes.{StartCodes}
 use Rattle.access_unit.specs.declared.StartCodes.the-variants.{Four, Short}
 use Rattle.access_unit.proofs.KeptUnits.{leads-and-follows, kept-leading, kept-following}
-use Rattle.access_unit.proofs.Streams.{later-length, stream-append, zero-first, zero-four}
+use Rattle.access_unit.proofs.Streams.{later-length, four-none, stream-append, zero-first, zero-four}
 
 -- ### the definition
 
@@ -174,7 +175,8 @@ module _ (list item : List ℕ) where
           saved-parts codes,
         )
       where
-        saved-parts : (c : StartCodes) → savedWith c (map (held list) (g .units)) + savedWith c (map (held item) (g .kept))
+        saved-parts : (c : StartCodes)
+            → threes (λ k. laterCode c) (map (held list) (g .units)) + threes (λ k. laterCode c) (map (held item) (g .kept))
             ≡ savedOf c (listSum list (g .units)) (itemSum item (g .kept))
-        saved-parts Four = refl
+        saved-parts Four = omega (arith, four-none (map (held list) (g .units)), four-none (map (held item) (g .kept)))
         saved-parts Short = refl

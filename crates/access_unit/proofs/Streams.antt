@@ -10,7 +10,7 @@ use Rattle.split.specs.Stream.{StartCode, three, four, codeBytes, annexB}
 use Rattle.split.specs.RoundTrip.{oneIfThree, threes}
 use Rattle.split.proofs.RoundTrip.{shorter}
 use Rattle.access_unit.specs.AccessUnit.{codeOfType, codeOf}
-use Rattle.access_unit.specs.inner.Gathered.{laterCode, coded, zeroByte, lengths, saved, savedIn, savedWith}
+use Rattle.access_unit.specs.inner.Gathered.{laterCode, coded, zeroByte, lengths, saved, savedIn}
 use Rattle.access_unit.specs.declared.StartCodes.{StartCodes}
 use Rattle.access_unit.specs.declared.StartCodes.the-variants.{Four, Short}
 
@@ -51,9 +51,14 @@ four-length (u ∷ us) = omega (arith, four-length us, length-append u (annexB (
 -- ### units none of which is the first
 
 pub later-length : (codes : StartCodes) (us : List (List ℕ))
-    → length (annexB (λ k. laterCode codes) us) + savedWith codes us ≡ 4 * length us + lengths us
-later-length Four us = omega (arith, four-length us)
-later-length Short us = shorter (λ k. laterCode Short) us ∙ four-length us
+    → length (annexB (λ k. laterCode codes) us) + threes (λ k. laterCode codes) us ≡ 4 * length us + lengths us
+later-length codes us = shorter (λ k. laterCode codes) us ∙ four-length us
+
+-- with four bytes throughout none has three
+pub four-none : (us : List (List ℕ)) → threes (λ k. laterCode Four) us ≡ 0
+unfolding threes
+four-none [] = refl
+four-none (u ∷ us) = omega (arith, four-none us)
 
 pub saved-append : (us vs : List (List ℕ)) → savedIn (us ++ vs) ≡ savedIn us + savedIn vs
 unfolding threes

@@ -67,9 +67,9 @@ unfolding keeps
 keeps-other target u k e h = rw (← e, h)
 
 -- picture data is kept, does not lead, and has three bytes with short codes
-not-picture : (t : ℕ) → 11 < t → isPictureData (unitKind t) ≡ true → ⊥
+no-picture-above : (t : ℕ) → 11 < t → isPictureData (unitKind t) ≡ true → ⊥
 unfolding unitKind
-not-picture t h e = go (isRecordType t) (eqb t 20) (rw (lt-leb t 11 h) at e)
+no-picture-above t h e = go (isRecordType t) (eqb t 20) (rw (lt-leb t 11 h) at e)
   where
     go : (b c : Bool) → isPictureData (if b then Record t else if c then Aud else Other) ≡ true → ⊥
     go true c e = let z : _≡_ {A = ℕ} 0 1 = cc in omega arith
@@ -78,7 +78,7 @@ not-picture t h e = go (isRecordType t) (eqb t 20) (rw (lt-leb t 11 h) at e)
 
 module _ (u : List ℕ) (t : ℕ) (is : t ≡ typeOr31 u) (picture : isPictureData (unitKind t) ≡ true) where
   below : typeOr31 u < 12
-  below = elim (decLe t 11) [ yes h ↦ omega arith | no h ↦ absurd (not-picture t (omega arith) picture) ]
+  below = elim (decLe t 11) [ yes h ↦ omega arith | no h ↦ absurd (no-picture-above t (omega arith) picture) ]
 
   kind-is : PictureData (typeOr31 u) ≡ kindOf u
   kind-is = sym (kind-picture (typeOr31 u) below)

@@ -110,11 +110,6 @@ saved u = oneIfThree (laterCode Short u)
 abbrev pub savedIn : List (List ℕ) → ℕ
 savedIn us = threes (λ k. laterCode Short) us
 
--- the same with a choice
-abbrev pub savedWith : StartCodes → List (List ℕ) → ℕ
-savedWith Four us = 0
-savedWith Short us = savedIn us
-
 -- the zero byte of the first unit when one is added of which short codes save so many bytes
 abbrev pub zeroWith : ℕ → UnitSum → ℕ
 zeroWith saves v = if eqb (v .count) 0 then saves else v .«zero_byte»

@@ -3,5 +3,4 @@ pub mod Chain
 pub mod Readers
 pub mod ReaderCalls
 pub mod ReadsOfBits
-pub mod Walking
 pub mod Looks

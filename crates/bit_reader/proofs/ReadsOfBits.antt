@@ -49,7 +49,7 @@ use Rattle.bit_reader.proofs.BitPosition.Laws as Position′
 use Rattle.bit_reader.proofs.reader.BitReader as Reader
 use Rattle.bit_reader.proofs.reader.BitReader.Laws as Reader′
 use Rattle.bit_reader.proofs.reader.ReaderStep.Laws as Step′
-use Rattle.bit_reader.proofs.Walking.{gave, leave}
+use Rattle.parse.proofs.Walking.{gave, leave}
 use Rattle.bit_reader.proofs.Readers.{sliceOf, answerVal, stepVal, AnswerIs, PositionIs, answer-val, position-val}
 use Rattle.bit_reader.proofs.Readers.{lifetime, Row, stepTo, LeftAt, stepped, OwnReader, OwnSlice, answer-typed}
 use Rattle.bit_reader.proofs.Readers.{position-typed, lends, steps, step-typed, After, to-after, asks-after, after-says}

@@ -6,3 +6,4 @@ pub mod Output
 pub mod Zeros
 pub mod Gives
 pub mod Stores
+pub mod Walking

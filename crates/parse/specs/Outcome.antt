@@ -19,9 +19,9 @@ andThen (refuse e) f = refuse e
 abbrev pub lentInput : {A : Type 0} → List ℕ → Outcome A → Outcome A
 lentInput s o = if leb (length s) (2 ^ 30) then o else refuse 23
 
--- the output with a result at its front, every other byte as it was
-abbrev pub overlay : List ℕ → List ℕ → List ℕ
-overlay bytes out = bytes ++ drop (length bytes) out
+-- the output with a result at its front, every other byte or entry as it was
+abbrev pub overlay : {A : Type 0} → List A → List A → List A
+overlay result out = result ++ drop (length result) out
 
 -- What a call with a result of bytes returns, and what its output holds afterwards. The call returns a value beside the bytes.
 -- 20 exactly when the result is longer than the output, after every other refusal. On a refusal no byte changes.

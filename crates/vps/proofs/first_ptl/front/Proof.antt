@@ -51,7 +51,7 @@ use Rattle.bit_reader.proofs.reader.BitReader.Laws as Reader′
 use Rattle.bit_reader.proofs.reader.ReaderStep as Step
 use Rattle.bit_reader.proofs.Readers.{answerVal, stepVal, AnswerIs, PositionIs, position-val, answer-val}
 use Rattle.bit_reader.proofs.Readers.{lifetime, parts-are, OwnReader, answer-typed, position-typed, hands-on}
-use Rattle.bit_reader.proofs.Walking.{gave, leave}
+use Rattle.parse.proofs.Walking.{gave, leave}
 use Rattle.bit_reader.proofs.ReaderCalls as calls
 use Rattle.bit_reader.proofs.ReaderCalls.{valOf, few-over, reader-val, step-val, reader-typed, held-typed}
 use Rattle.bit_reader.proofs.reader.BitReader.new.Symbol as new-def

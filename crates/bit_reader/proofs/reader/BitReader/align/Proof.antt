@@ -42,7 +42,7 @@ use Rattle.bit_reader.proofs.BitPosition as Position
 use Rattle.bit_reader.proofs.BitPosition.Laws as Position′
 use Rattle.bit_reader.proofs.reader.BitReader as Reader
 use Rattle.bit_reader.proofs.reader.BitReader.Laws as Reader′
-use Rattle.bit_reader.proofs.Walking.{gave, leave}
+use Rattle.parse.proofs.Walking.{gave, leave}
 use Rattle.bit_reader.proofs.Readers.{position-val, PositionIs, lifetime, Row, movedTo, OwnReader, position-typed, moves}
 use Rattle.bit_reader.proofs.bits.align as next
 use Rattle.bit_reader.proofs.bits.align.Symbol as next-def

@@ -31,3 +31,4 @@ numberOf R.NotOneStill = 24
 numberOf R.ReservedBit = 25
 numberOf R.ArrayType = 26
 numberOf R.ConfigurationVersion = 27
+numberOf R.DirectoryTooShort = 28

@@ -7,7 +7,7 @@ pub const LARGEST_INPUT: usize = 0x4000_0000;
 
 // One variant for each ground, with its number in SCOPE 6.2.
 pub enum Refusal {
-    // a field, a length or the bytes that it announces run past the end
+    // a field, a length or the bytes that it announces run past the end, or more entries are in use than a directory has (SCOPE 4.12)
     Truncated = 1,
     // the constraint length of a full record is 0
     ConstraintLengthZero = 2,
@@ -61,6 +61,8 @@ pub enum Refusal {
     ArrayType = 26,
     // the first byte of an HEVC record is not 1 (SCOPE 4.11)
     ConfigurationVersion = 27,
+    // a directory is shorter than the number of units (SCOPE 4.12)
+    DirectoryTooShort = 28,
 }
 
 // The number of a refusal.

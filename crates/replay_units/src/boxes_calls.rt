@@ -22,7 +22,7 @@ fn low_refusal(n: u8) -> Refusal {
     }
 }
 
-// The refusal with number n above 12; any other n is taken as 27.
+// The refusal with number n above 12; any other n is taken as 28.
 fn high_refusal(n: u8) -> Refusal {
     match n {
         13 => Refusal::Subpictures,
@@ -39,7 +39,8 @@ fn high_refusal(n: u8) -> Refusal {
         24 => Refusal::NotOneStill,
         25 => Refusal::ReservedBit,
         26 => Refusal::ArrayType,
-        _ => Refusal::ConfigurationVersion,
+        27 => Refusal::ConfigurationVersion,
+        _ => Refusal::DirectoryTooShort,
     }
 }
 

@@ -37,6 +37,7 @@ fn words(e: Refusal) {
             b"an array of a full record has a type outside 12 to 17 and 23",
         ),
         Refusal::ConfigurationVersion => say::text(b"the first byte of an HEVC record is not 1"),
+        Refusal::DirectoryTooShort => say::text(b"a directory is shorter than the number of units"),
     }
 }
 

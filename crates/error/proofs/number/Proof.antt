@@ -50,6 +50,7 @@ stands c =
     or (λ w. said refl (lit< tt) (w .2) (w .1 .given .1))  -- ReservedBit
     or (λ w. said refl (lit< tt) (w .2) (w .1 .given .1))  -- ArrayType
     or (λ w. said refl (lit< tt) (w .2) (w .1 .given .1))  -- ConfigurationVersion
+    or (λ w. said refl (lit< tt) (w .2) (w .1 .given .1))  -- DirectoryTooShort
     ) (c .match .came)
 
 cast-result : tie.Need-cast-result
@@ -91,5 +92,6 @@ number-spec =
     (λ c. search needs)  -- ReservedBit
     (λ c. search needs)  -- ArrayType
     (λ c. search needs)  -- ConfigurationVersion
+    (λ c. search needs)  -- DirectoryTooShort
     cast-result
     returns)

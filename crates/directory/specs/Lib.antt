@@ -1,0 +1,3 @@
+pub mod Directory
+pub mod Filled
+pub mod inner

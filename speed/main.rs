@@ -1,9 +1,11 @@
 //! The library measured together with the original: every row runs both on the same bytes, in turn, and prints the medians of their times. Two
 //! more tables have short start codes beside those of four bytes: their times, and the bytes that they save.
+mod records;
 mod timing;
 
 use original::hvcc::{split_annex_b, split_length_prefixed};
 use original::vvcc::{access_unit_annex_b, nal_unit_type, CompactVvcConfig, VvcConfig};
+use records::{compact_of, Bytes, COMPACT};
 use std::cell::RefCell;
 use std::hint::black_box;
 use timing::{clock, median};
@@ -168,31 +170,6 @@ fn original_stream(compact: &[u8], stored: &[u8]) -> Vec<u8> {
     let c = CompactVvcConfig::parse(compact).unwrap();
     let full = c.to_full(1, 8, 0, 0).unwrap();
     access_unit_annex_b(&full, &c.item_data(stored).unwrap(), None).unwrap()
-}
-
-/// Numbers that look like picture data: no start code, no zero at a unit's end, and the same in every run.
-struct Bytes(u64);
-
-impl Bytes {
-    fn unit(&mut self, header: [u8; 2], len: usize) -> Vec<u8> {
-        let mut u = Vec::with_capacity(len);
-        u.extend_from_slice(&header);
-        while u.len() < len {
-            self.0 = self
-                .0
-                .wrapping_mul(6364136223846793005)
-                .wrapping_add(1442695040888963407);
-            let b = (self.0 >> 56) as u8;
-            let n = u.len();
-            let zeros = u[n - 1] == 0 && u[n - 2] == 0;
-            u.push(if (zeros && b < 4) || (n + 1 == len && b == 0) {
-                0x80
-            } else {
-                b
-            });
-        }
-        u
-    }
 }
 
 /// An item of units after prefixes of `size` bytes.
@@ -388,21 +365,7 @@ fn stream_split(t: &Table, name: &str, size: u8, units: usize, unit_len: usize) 
 
 /// A still as the cameras write it: the compact record of an SPS and a PPS, and `len` stored bytes.
 fn still_of(seed: u64, len: usize) -> (Vec<u8>, Vec<u8>) {
-    let compact = b"\x60\x0B\x00\x79\x00\x0D\x02\x33\x80\x00\x02\x22\x4C\x03\x00\x81\x80".to_vec();
-    (compact, Bytes(seed).unit([0x80, 0x40], len))
-}
-
-/// A compact record of an SPS and `units` - 1 units of 64 bytes, whose types come from `kinds` in turn.
-fn compact_of(units: usize, kinds: &[u8]) -> Vec<u8> {
-    let (mut compact, _) = still_of(0, 4);
-    compact.truncate(13);
-    compact[0] |= units as u8 - 2;
-    let mut bytes = Bytes(units as u64);
-    for kind in kinds.iter().cycle().take(units - 1) {
-        compact.push(64);
-        compact.extend(bytes.unit([0x00, kind << 3 | 1], 64));
-    }
-    compact
+    (COMPACT.to_vec(), Bytes(seed).unit([0x80, 0x40], len))
 }
 
 /// The full record of a still whose compact record has an SPS and `units` - 1 PPSs.

@@ -1,4 +1,4 @@
-//! What both measuring programs share: the clock and the median.
+//! What the measuring programs share: the clock and the median.
 use std::time::Instant;
 
 /// Nanoseconds of one call, where `times` calls are made between the two readings of the clock. One call before them is not timed, so that each side

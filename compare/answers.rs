@@ -1,7 +1,7 @@
 //! The expected answer line of a case: that of the original, or of the rules of docs/SCOPE.md (`reading`) where the original has none.
 
 use crate::case::{hex_onto, Case};
-use crate::reading::{self, Place, Refusal};
+use crate::reading::{self, Directory, Place, Question, Refusal, TYPES};
 use original::boxes::Reader;
 use original::error::HeifError;
 use original::hvcc::{split_annex_b, split_length_prefixed, HevcConfig, NalArray};
@@ -184,6 +184,19 @@ fn put_hevc_head(s: &mut String, h: Option<&HevcConfig>) {
     }
 }
 
+/// A directory as text: every entry, then every total that is not 0, each after its type.
+fn put_directory(s: &mut String, d: &Directory) {
+    for (t, offset, len) in d.entries {
+        put(s, t.into());
+        put(s, offset);
+        put(s, len);
+    }
+    for (t, n) in d.totals.into_iter().enumerate().filter(|p| p.1 != 0) {
+        put(s, t as u64);
+        put(s, n);
+    }
+}
+
 /// The head of an HEVC record among the numbers of a case, in the original's form.
 pub fn hevc_head_of(c: &Case) -> HevcConfig {
     HevcConfig::new(
@@ -249,6 +262,49 @@ pub fn head_of(c: &Case, at: usize) -> (VvcConfig, [usize; 3]) {
         Vec::new(),
     );
     (head, counts)
+}
+
+/// The directory of a case: its second input has the entries, its numbers after the question have some totals.
+pub fn directory_of(c: &Case) -> Directory {
+    let second = Case::new(c.op, c.second.clone(), Vec::new());
+    let entry = |i: usize| {
+        let at = 17 * i;
+        (
+            second.byte(at),
+            second.number(at + 1, 8),
+            second.number(at + 9, 8),
+        )
+    };
+    let mut totals = [0; TYPES];
+    for at in (10..c.numbers.len()).step_by(9) {
+        if let Some(n) = totals.get_mut(usize::from(c.byte(at))) {
+            *n = c.number(at + 1, 8);
+        }
+    }
+    Directory {
+        entries: std::array::from_fn(entry),
+        totals,
+    }
+}
+
+/// What a directory is asked for in a case.
+pub fn question_of(c: &Case) -> Question {
+    match c.byte(0) {
+        0 => Question::First(c.byte(1)),
+        _ => Question::Number(c.number(2, 8)),
+    }
+}
+
+/// Where the unit lies that a directory is asked for.
+fn directory_unit(c: &Case) -> Result<Option<Place>, Refusal> {
+    directory_of(c).unit(c.first.len(), question_of(c))
+}
+
+/// A record of the arrays of a list, in the original's form.
+pub fn of_arrays(arrays: Vec<NalArray>) -> VvcConfig {
+    let (mut h, _) = head_of(&Case::default(), 0);
+    h.arrays = reading::without_reserved(arrays);
+    h
 }
 
 fn with_list(c: &Case, at: usize) -> Result<(VvcConfig, [usize; 3]), Refusal> {
@@ -488,11 +544,6 @@ fn plain(c: &Case) -> Result<String, Refusal> {
     let s = &c.first[..];
     let t = c.byte(0);
     let k = c.number(1, 8);
-    let units = |arrays: Vec<NalArray>| {
-        let (mut h, _) = head_of(&Case::default(), 0);
-        h.arrays = reading::without_reserved(arrays);
-        h
-    };
     Ok(match c.op {
         1 => return Err(u32::from(t)),
         2 => {
@@ -511,25 +562,28 @@ fn plain(c: &Case) -> Result<String, Refusal> {
         11 => reading::unit_kind(t),
         12 => flag(vvcc::is_vcl(t)),
         13 => flag(vvcc::is_record_nal_type(t)),
-        14 => format!(" {}", units(reading::list(s)?).nal_count()),
+        14 => format!(" {}", of_arrays(reading::list(s)?).nal_count()),
         15 => {
-            let h = units(reading::list(s).unwrap_or_default());
+            let h = of_arrays(reading::list(s).unwrap_or_default());
             let all: Vec<&[u8]> = h.nal_units().collect();
             part(&all, k)
         }
-        16 => format!(" {}", units(reading::list(s)?).nal_units_of_type(t).len()),
+        16 => format!(
+            " {}",
+            of_arrays(reading::list(s)?).nal_units_of_type(t).len()
+        ),
         17 => {
-            let h = units(reading::list(s).unwrap_or_default());
+            let h = of_arrays(reading::list(s).unwrap_or_default());
             let all = h.nal_units_of_type(t);
             part(&all, k)
         }
-        40 => list_place(&units(reading::list(s)?), s, None, k),
-        41 => list_place(&units(reading::list(s)?), s, Some(t), k),
+        40 => list_place(&of_arrays(reading::list(s)?), s, None, k),
+        41 => list_place(&of_arrays(reading::list(s)?), s, Some(t), k),
         46 => {
-            let h = units(reading::list(s).unwrap_or_default());
+            let h = of_arrays(reading::list(s).unwrap_or_default());
             part(&[h.sps().unwrap_or_default()], 0)
         }
-        47 => list_place(&units(reading::list(s)?), s, Some(15), 0),
+        47 => list_place(&of_arrays(reading::list(s)?), s, Some(15), 0),
         21 => vvcc::read_opi_ols_idx(s).map_or(" 0".into(), |v| format!(" 1 {v}")),
         22 => cropped(c),
         23 => format!(
@@ -563,6 +617,19 @@ fn plain(c: &Case) -> Result<String, Refusal> {
             format!(" {}", h.serialize().len())
         }
         38 => access_unit(c).unwrap_or(" =".into()),
+        55 => {
+            let mut d = directory_of(c);
+            let mut text = format!(" {}", d.fill(s)?);
+            put_directory(&mut text, &d);
+            text
+        }
+        56 => format!(" {}", directory_of(c).count(c.byte(1))?),
+        57 => place(directory_unit(c)?.as_slice(), 0),
+        58 => {
+            let found = directory_unit(c).unwrap_or(None);
+            let units: Vec<&[u8]> = found.iter().map(|p| &s[p.1..p.1 + p.2]).collect();
+            part(&units, 0)
+        }
         _ => unreachable!("{}", c.op),
     })
 }
@@ -626,14 +693,15 @@ fn writing(c: &Case) -> Result<(String, Vec<u8>), Refusal> {
     })
 }
 
-/// The text after a refusal's number: nothing, or a head of zeros.
-fn zeros(op: u8) -> String {
+/// The text after a refusal's number: nothing, a head of zeros, or for filling the directory as it was.
+fn after_refusal(c: &Case) -> String {
     let mut s = String::new();
-    match op {
+    match c.op {
         19 | 45 => put_sps(&mut s, None),
         20 => put_ptl(&mut s, None),
         32 | 35 | 50 => put_head(&mut s, None),
         51 => put_hevc_head(&mut s, None),
+        55 => put_directory(&mut s, &directory_of(c)),
         _ => {}
     }
     s
@@ -645,7 +713,7 @@ pub fn answer(c: &Case) -> Answer {
     let out = vec![c.fill; c.room];
     let refused = |refusal, out| Answer {
         refusal,
-        fields: zeros(c.op),
+        fields: after_refusal(c),
         out,
         result: None,
     };

@@ -17,7 +17,7 @@ pub struct Case {
 const FRONT: usize = 18;
 
 /// The names of the calls by their numbers, from 1 on.
-pub const NAMES: [&str; 54] = [
+pub const NAMES: [&str; 58] = [
     "number",
     "VvcConfig::bit_depth",
     "u8_at",
@@ -72,6 +72,10 @@ pub const NAMES: [&str; 54] = [
     "serialize (HEVC)",
     "record_len",
     "access_unit_annex_b (short)",
+    "fill (directory)",
+    "nal_count_of_type (directory)",
+    "nal_unit_at (directory)",
+    "nal_unit (directory)",
 ];
 
 /// The digits of bytes, in lower case.

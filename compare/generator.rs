@@ -2,6 +2,7 @@
 
 use crate::answers;
 use crate::case::Case;
+use crate::directory_cases;
 use crate::hevc;
 use crate::reading::list_bytes;
 use crate::rng::Rng;
@@ -85,6 +86,8 @@ fn strings(alphabet: &[u8], longest: usize, f: &mut dyn FnMut(&[u8])) {
 /// Every call that reads bytes, on every string up to `longest` bytes; parameter sets also after their headers, HEVC records after a head.
 pub fn short_strings(longest: usize, emit: Emit) {
     let all: Vec<u8> = (0..=255).collect();
+    // a directory whose first entry is in use, by the total of type 0
+    let in_use = [vec![1], vec![0; 17], vec![1]].concat();
     let plain: Vec<(u8, Vec<u8>)> = vec![
         (3, eight(0)),
         (3, eight(1)),
@@ -126,6 +129,10 @@ pub fn short_strings(longest: usize, emit: Emit) {
         (47, vec![]),
         (50, vec![]),
         (51, vec![]),
+        (55, vec![]),
+        (56, in_use.clone()),
+        (57, in_use.clone()),
+        (58, in_use),
     ];
     let mut i = 0;
     for (op, numbers) in plain {
@@ -174,7 +181,7 @@ fn head_with(at: usize, bytes: &[u8]) -> Vec<u8> {
 
 /// Calls on numbers alone: every refusal, every type, every depth, headers and counts at their limits.
 pub fn numbers(emit: Emit) {
-    for n in 1..=27 {
+    for n in 1..=28 {
         emit(Case::new(1, vec![n], vec![]));
     }
     for t in 0..=255 {
@@ -301,6 +308,7 @@ pub fn large(emit: Emit) {
             put(14, vec![], list.clone(), vec![]);
             put(15, size_and_k(0, n as u64 - 1), list.clone(), vec![]);
             put(40, size_and_k(0, n as u64 - 1), list.clone(), vec![]);
+            put(55, vec![], list.clone(), vec![]);
             put(29, vec![0, 4], list.clone(), vec![]);
             put(
                 35,
@@ -377,6 +385,7 @@ pub fn fronts(r: &mut Rng, count: usize, emit: Emit) {
         whole.push((50, vec![], shapes::strict(r)));
         whole.push((51, vec![], hevc::any_record(r)));
         whole.push((52, hevc::any_numbers(r), hevc::any_list(r)));
+        whole.push((55, vec![], shapes::list(r)));
     }
     whole.push((19, vec![], shapes::longest_sps()));
     whole.push((20, vec![], shapes::longest_vps()));
@@ -524,11 +533,11 @@ fn parameter_set(r: &mut Rng, op: u8) -> Vec<u8> {
 
 /// Any call on an input of its shape.
 pub fn any(r: &mut Rng) -> Case {
-    const CALLS: [u8; 74] = [
+    const CALLS: [u8; 81] = [
         2, 6, 7, 8, 9, 14, 15, 16, 17, 18, 19, 19, 19, 20, 20, 21, 22, 23, 24, 25, 26, 27, 28, 28,
         28, 29, 29, 30, 31, 31, 32, 32, 32, 32, 33, 33, 33, 34, 34, 35, 35, 35, 36, 36, 36, 36, 37,
         38, 39, 39, 40, 41, 42, 43, 44, 44, 45, 46, 47, 48, 49, 50, 50, 50, 50, 51, 51, 51, 51, 52,
-        52, 52, 52, 53,
+        52, 52, 52, 53, 55, 55, 56, 57, 57, 58, 58,
     ];
     let op = r.pick(&CALLS);
     let mut second = Vec::new();
@@ -603,6 +612,11 @@ pub fn any(r: &mut Rng) -> Case {
         51 => (vec![], hevc::any_record(r)),
         52 => (hevc::any_numbers(r), hevc::any_list(r)),
         33 | 34 | 53 => (head(r), shapes::list(r)),
+        55..=58 => {
+            let c = directory_cases::any(r, op);
+            second = c.second;
+            (c.numbers, c.first)
+        }
         35 => {
             let list = if r.one_in(6) {
                 shapes::list(r)

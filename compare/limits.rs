@@ -305,7 +305,9 @@ fn ends(calls: &mut Calls) {
         }
     }
     // lists without a version byte and of another version, for every call that takes one
-    for op in [14, 16, 29, 33, 34, 35, 36, 37, 40, 41, 44, 46, 47, 52, 53] {
+    for op in [
+        14, 16, 29, 33, 34, 35, 36, 37, 40, 41, 44, 46, 47, 52, 53, 55,
+    ] {
         for list in [vec![], vec![2]] {
             calls.push((op, vec![0, 4], list, vec![]));
         }
@@ -321,7 +323,7 @@ fn ends(calls: &mut Calls) {
     ];
     for array in arrays {
         let list = [&[1, 0, 0, 0], array].concat();
-        for op in [14, 40, 41, 47] {
+        for op in [14, 40, 41, 47, 55] {
             calls.push((op, vec![], list.clone(), vec![]));
         }
     }
@@ -393,7 +395,7 @@ fn wide_arrays(calls: &mut Calls) {
                 calls.push((op, numbers, list.clone(), vec![2, 0, 0xa1, 2, 0, 0x41]));
             }
         }
-        for op in [14, 46, 47] {
+        for op in [14, 46, 47, 55] {
             calls.push((op, vec![], list.clone(), vec![]));
         }
         for flag in [0, 1] {

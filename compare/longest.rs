@@ -3,9 +3,11 @@
 
 use crate::answers;
 use crate::case::Case;
+use crate::directory::{FILL, PART};
+use crate::directory_cases::{case, directory};
 use crate::generator::payload;
 use crate::limits::{pps, sps};
-use crate::reading::LARGEST;
+use crate::reading::{Question, LARGEST};
 
 extern "C" {
     fn replay_line(
@@ -139,6 +141,28 @@ fn largest(emit: &mut dyn FnMut(Case)) {
     }
 }
 
+/// The calls on a directory, with a list of some length: parts that end with a list of 2^30 bytes and that pass its end, more entries in use than
+/// there are. The list is zeros, or one unit if it has 2^30 bytes.
+fn directories(len: usize, emit: &mut dyn FnMut(Case)) {
+    let end = LARGEST as u64;
+    let chunk = |before: usize| ((LARGEST - before) as u32).to_be_bytes();
+    let unit = [&[1][..], &chunk(5), &[1, 16], &chunk(11)].concat();
+    for d in [
+        directory(&[(0, end - 3, 3)], &[(0, 1)]),
+        directory(&[(0, end - 3, 4)], &[(0, 1)]),
+        directory(&[], &[(0, 9)]),
+    ] {
+        for (op, front) in (FILL..=PART).flat_map(|op| [(op, &[][..]), (op, &unit)]) {
+            emit(Case {
+                fill: 0xa5,
+                room: 3,
+                first: long(front, len),
+                ..case(op, &[], &d, Question::Number(0))
+            });
+        }
+    }
+}
+
 /// Every case of this file with the expected answer and the library's.
 pub fn each(f: &mut dyn FnMut(&Case, u32, &str, &str)) {
     let mut one = |c: Case| {
@@ -147,4 +171,6 @@ pub fn each(f: &mut dyn FnMut(&Case, u32, &str, &str)) {
     };
     too_long(&mut one);
     largest(&mut one);
+    directories(LARGEST + 1, &mut one);
+    directories(LARGEST, &mut one);
 }

@@ -7,6 +7,8 @@ mod case;
 mod codes;
 #[cfg(not(counted))]
 mod differences;
+mod directory;
+mod directory_cases;
 mod generator;
 mod hevc;
 mod limits;
@@ -35,12 +37,13 @@ const TOGETHER: usize = 600_000;
 type Expected = (String, String, u8, u32, HeldTo);
 
 /// What an answer is held to besides the expected one: for strict reading what the original's writer gives for the record, for an HEVC record that is
-/// written again the bytes that must come, for short start codes the original's stream.
+/// written again the bytes that must come, for short start codes the original's stream, for a directory the original's units.
 enum HeldTo {
     Nothing,
     Writer(strict::Asked),
     Record(Vec<u8>),
     Stream(start_codes::Asked),
+    Units(directory::Asked),
 }
 
 /// The answers that are held to more than the expected ones.
@@ -49,6 +52,7 @@ struct AllHeld {
     strict: strict::Held,
     hevc: hevc::Held,
     streams: start_codes::Held,
+    directories: directory::Held,
 }
 
 impl AllHeld {
@@ -68,6 +72,10 @@ impl AllHeld {
                 let agrees = self.streams.agrees(got, &asked);
                 (agrees, self.streams.disagree, "the original's stream")
             }
+            HeldTo::Units(asked) => {
+                let agrees = self.directories.agrees(got, &asked);
+                (agrees, self.directories.disagree, "the original's units")
+            }
         };
         (!agrees && so_far <= 10).then_some(with)
     }
@@ -77,7 +85,9 @@ impl AllHeld {
         self.strict.print();
         self.hevc.print();
         self.streams.print();
-        self.strict.disagree + self.hevc.disagree + self.streams.disagree
+        self.directories.print();
+        let records = self.strict.disagree + self.hevc.disagree;
+        records + self.streams.disagree + self.directories.disagree
     }
 }
 
@@ -101,6 +111,7 @@ fn all_cases(seed: u64, count: usize, emit: generator::Emit) {
     strict::fixed(emit);
     hevc::fixed(emit);
     hevc::large(emit);
+    directory_cases::fixed(emit);
     generator::large(emit);
     generator::short_strings(2, emit);
     generator::zero_strings(8, emit);
@@ -118,6 +129,9 @@ fn held_to(c: &Case) -> HeldTo {
     match (c.op, &c.again) {
         (strict::CALL, _) => HeldTo::Writer(strict::asked(&c.first)),
         (start_codes::SHORT, _) => start_codes::asked(c).map_or(HeldTo::Nothing, HeldTo::Stream),
+        (directory::FILL..=directory::PART, _) => {
+            directory::asked(c).map_or(HeldTo::Nothing, HeldTo::Units)
+        }
         (_, Some(bytes)) => HeldTo::Record(bytes.clone()),
         _ => HeldTo::Nothing,
     }
@@ -186,7 +200,7 @@ fn print(table: &Table) {
     println!("\n| call | accepted | refused, by number |\n|---|---:|---|");
     for (i, name) in NAMES.iter().enumerate() {
         let of = |e| table.get(&(i as u8 + 1, e)).copied().unwrap_or(0);
-        let refused: Vec<String> = (1..=27)
+        let refused: Vec<String> = (1..=28)
             .filter(|&e| of(e) > 0)
             .map(|e| format!("{e}: {}", of(e)))
             .collect();

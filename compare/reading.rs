@@ -1,6 +1,6 @@
 //! What the original does not have, from the rules of docs/SCOPE.md: the unit list (2), the unit check (4.6), the kinds of units (3.3), the limits of
 //! full write (3.9) and of HEVC write (4.11), where units lie, the units of an access unit one by one and their stream with short start codes (3.12),
-//! and the two rules of strict reading (4.10).
+//! the two rules of strict reading (4.10), and a directory of units (4.12).
 
 use original::hvcc::{split_length_prefixed, HevcConfig, NalArray};
 use original::vvcc::{self, VvcConfig, VvcNalArray};
@@ -14,7 +14,7 @@ pub const LARGEST: usize = 1 << 30;
 /// What a call returns if an input is too long, before anything else: 23, or the empty part if a part is all that it returns.
 pub fn too_long(op: u8) -> Result<String, Refusal> {
     match op {
-        15 | 17 | 24 | 26 | 38 | 46 => Ok(" =".into()),
+        15 | 17 | 24 | 26 | 38 | 46 | 58 => Ok(" =".into()),
         _ => Err(23),
     }
 }
@@ -305,4 +305,73 @@ pub fn put_back(stream: &[u8], lengths: impl Iterator<Item = usize>) -> Option<(
         rest = &rest[len..];
     }
     rest.is_empty().then_some((out, three))
+}
+
+/// How many entries a directory has here, and how many totals there are.
+pub const ENTRIES: usize = 8;
+pub const TYPES: usize = 64;
+
+/// An entry of a directory: the unit's type, where it begins in the list, its length.
+pub type Entry = (u8, u64, u64);
+
+/// A directory, and the number of units of each type.
+#[derive(Clone, PartialEq)]
+pub struct Directory {
+    pub entries: [Entry; ENTRIES],
+    pub totals: [u64; TYPES],
+}
+
+/// What a directory is asked for: the first unit of a type, or unit k.
+#[derive(Clone, Copy)]
+pub enum Question {
+    First(u8),
+    Number(u64),
+}
+
+impl Directory {
+    /// Fills it from a list, and returns the number of units: 21, 28. Nothing changes on a refusal.
+    pub fn fill(&mut self, s: &[u8]) -> Result<usize, Refusal> {
+        list(s)?;
+        let units = list_places(s);
+        if units.len() > ENTRIES {
+            return Err(28);
+        }
+        self.totals = [0; TYPES];
+        for (entry, &(t, (_, start, len))) in self.entries.iter_mut().zip(&units) {
+            *entry = (t, start as u64, len as u64);
+            self.totals[usize::from(t)] += 1;
+        }
+        Ok(units.len())
+    }
+
+    /// The entries in use, as many as the totals add up to; 1 if there are not so many.
+    fn in_use(&self) -> Result<&[Entry], Refusal> {
+        let sum: u128 = self.totals.iter().map(|&n| u128::from(n)).sum();
+        match usize::try_from(sum) {
+            Ok(n) if n <= ENTRIES => Ok(&self.entries[..n]),
+            _ => Err(1),
+        }
+    }
+
+    /// How many units of a type there are, by the totals.
+    pub fn count(&self, t: u8) -> Result<u64, Refusal> {
+        self.in_use()?;
+        Ok(self.totals.get(usize::from(t)).copied().unwrap_or(0))
+    }
+
+    /// Where the unit that is asked for lies in a list of some length, by the entries in use; 1 if it passes the end.
+    pub fn unit(&self, list_len: usize, asked: Question) -> Result<Option<Place>, Refusal> {
+        let used = self.in_use()?;
+        let found = match asked {
+            Question::First(t) => used.iter().find(|e| e.0 == t),
+            Question::Number(k) => usize::try_from(k).ok().and_then(|k| used.get(k)),
+        };
+        let Some(&(_, offset, len)) = found else {
+            return Ok(None);
+        };
+        if u128::from(offset) + u128::from(len) > list_len as u128 {
+            return Err(1);
+        }
+        Ok(Some((1, offset as usize, len as usize)))
+    }
 }

@@ -4,6 +4,7 @@
 use crate::answers;
 use crate::case::Case;
 use crate::codes;
+use crate::directory_cases;
 use crate::generator;
 use crate::hevc;
 use crate::limits;
@@ -113,6 +114,7 @@ pub fn write(folder: &str, seed: u64) -> bool {
     start_codes::fixed(&mut |c| list.take_both(c));
     strict::short(&mut |c| list.take(&c, &answers::answer(&c)));
     hevc::short(&mut |c| list.take(&c, &answers::answer(&c)));
+    directory_cases::fixed(&mut |c| list.take(&c, &answers::answer(&c)));
     codes::short(&mut |c| list.take(&c, &answers::answer(&c)));
     for (op, unit) in [
         (19, shapes::longest_sps()),
@@ -183,7 +185,7 @@ impl List {
             (&long.line(), "case too long\n"),
             (&together.line(), "case too long\n"),
             (&beyond, "case too long\n"),
-            (&none(55).line(), "55 no such call =abab\n"),
+            (&none(59).line(), "59 no such call =abab\n"),
             (&none(0).line(), "0 no such call =abab\n"),
             (&odd, "6 0 1 0 =\n"),
         ] {

@@ -42,6 +42,7 @@ fn answer<'a>(
         28..=31 | 35 => compact_calls::answer(op, numbers, first, lent, out, at),
         2 | 32..=34 | 46..=50 | 53 => full_calls::answer(op, fill, numbers, first, lent, out, at),
         51 | 52 => replay_hevc::answer(op, numbers, first, lent, out, at),
+        55..=58 => replay_directory::answer(op, numbers, first, second, out, at),
         36..=38 | 44 | 54 => access_calls::answer(op, fill, numbers, first, second, lent, out, at),
         _ => text::put_all(out, at, b" no such call"),
     }

@@ -53,6 +53,7 @@ refusals! {
     ReservedBit = 25, "a reserved bit of a full record is not the standard's";
     ArrayType = 26, "an array of a full record has a type outside 12 to 17 and 23";
     ConfigurationVersion = 27, "the first byte of an HEVC record is not 1";
+    DirectoryTooShort = 28, "a directory is shorter than the number of units";
 }
 
 impl Refusal {
@@ -61,7 +62,7 @@ impl Refusal {
         self as u32
     }
 
-    /// The refusal with a number that the library returned: 1 to 27.
+    /// The refusal with a number that the library returned: 1 to 28.
     pub(crate) fn of_number(n: u32) -> Refusal {
         Refusal::ALL[n as usize - 1]
     }

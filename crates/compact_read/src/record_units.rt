@@ -111,6 +111,6 @@ pub fn put_list(record: &[u8], count: usize, room: usize, out: &mut [u8])
         ≡ sets (now (out .entry)) 0 (foundList (now («record» .entry)) (outcome (recordUnits (now («record» .entry)) count))) ⌝ }
 {
     place::put(out, 0, 1);
-    write::put_array_head(out, 1, 2 + room, 0, 0);
+    write::put_array_head(out, 1, 4, 2 + room, 0, 0);
     put_units(record, count, out, 7);
 }

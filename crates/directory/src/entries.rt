@@ -32,6 +32,7 @@ pub fn first(list: &[u8]) -> ListCursor
             at: 0,
             end: 0,
             unit_type: 0,
+            width: 0,
         },
     }
 }

@@ -11,8 +11,9 @@ use Rattle.parse.specs.Logic.{if_then_else_}
 use Rattle.nal.specs.Header.{largestUnitType, typeOr31}
 use Rattle.grouping.specs.Grouping.{havingType, firsts, group, grouped}
 use Rattle.grouping.proofs.GroupedFits.{Every, EachOf, every-having, having-le, Has-units, types-have}
+use Rattle.unit_list.specs.UnitList.{unitsFit}
 use Rattle.record_arrays.specs.Read.{holdsOne}
-use Rattle.record_arrays.specs.Write.{unitsFit, arrayFits, arraysFit}
+use Rattle.record_arrays.specs.Write.{arrayFits, arraysFit}
 use Rattle.record_arrays.specs.declared.Codec.the-variants.{Vvc}
 
 -- few and short units, with at most one unit of each type without a count: their arrays can be written

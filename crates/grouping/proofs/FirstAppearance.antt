@@ -2,20 +2,19 @@
 use Prim.Native.Nat.{ℕ, _+_, _<_}
 use mathlib.Core.Path.{_≡_, refl, sym, ap, _∙_}
 use mathlib.Core.Bool.{Bool, true, false, _||_}
-use mathlib.Core.List.{List, [], _∷_, _++_, map, append-assoc}
+use mathlib.Core.List.{List, [], _∷_, _++_, map}
 use native.Mathlib.Omega.{arith}
 use lib.Dec.{eqb}
-use lib.ListN.{length, getD, set, replicate, length-append, length-replicate, getD-replicate, length-set}
+use lib.ListN.{length, getD, set, replicate, length-replicate, getD-replicate, length-set}
 use lib.Seq.{sets, getD-set-same, getD-set-other}
 use borrow.Author.Tests.{eq-eqb, eqb-true}
 use Rattle.parse.specs.Logic.{if_then_else_}
-use Rattle.parse.proofs.General.{sets-append, sets-before}
-use Rattle.boxes.specs.Bytes.{toBe, toChunk}
-use Rattle.boxes.proofs.Numbers.{length-toBe}
+use Rattle.boxes.specs.Bytes.{toBe}
 use Rattle.nal.specs.Header.{typeOr31}
 use Rattle.nal.specs.inner.Kinds.{unitTypes}
 use Rattle.unit_list.specs.UnitList.{encodeUnits, encodeArray, encodeArrays}
 use Rattle.unit_list.proofs.Encode.{length-toChunk}
+use Rattle.unit_list.proofs.Written as written
 use Rattle.grouping.specs.Grouping.{havingType, without, firsts, group, grouped}
 
 -- ### the array of a type
@@ -33,15 +32,8 @@ module _ (us : List (List ℕ)) (t : ℕ) where
   pub array-stored : (d e f : List ℕ) (at n : ℕ) → e ≡ sets d (at + 6) groupBytes → f ≡ sets e at (toBe 4 n ++ (1 ∷ t ∷ []))
       → n ≡ 2 + length groupBytes
       → f ≡ sets d at (encodeArray 4 (group us t))
-  unfolding encodeArray toChunk
-  array-stored d e f at n x y z =
-      let head = toBe 4 n ++ (1 ∷ t ∷ []) in
-      let l : length head ≡ 6 = length-append (toBe 4 n) (1 ∷ t ∷ []) ∙ rw (length-toBe 4 n) in
-      let k : at + 6 ≡ at + length head = omega arith in
-      let m : n ≡ length (1 ∷ t ∷ groupBytes) = omega arith in
-      y ∙ ap (λ (v : List ℕ). sets v at head) x ∙ sets-before d at (at + 6) head groupBytes (omega arith)
-      ∙ ap (λ (v : ℕ). sets (sets d at head) v groupBytes) k ∙ sets-append d at head groupBytes
-      ∙ ap (sets d at) (append-assoc (toBe 4 n) (1 ∷ t ∷ []) groupBytes ∙ ap (λ (v : ℕ). toBe 4 v ++ (1 ∷ t ∷ groupBytes)) m)
+  unfolding encodeArray
+  array-stored d e f at n x y z = written.array-stored d e f at 4 n 1 t (at + 6) groupBytes (omega arith) z x y
 
 -- ### types in the order of first occurrence
 

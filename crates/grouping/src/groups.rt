@@ -80,7 +80,7 @@ fn put_group(list: &[u8], c: ListCursor, t: u8, out: &mut [u8], at: usize) -> us
 {
     let from = at + 4;
     let to = put_group_units(list, c, t, out, at + 6);
-    write::put_array_head(out, at, to - from, 1, t);
+    write::put_array_head(out, at, 4, to - from, 1, t);
     to
 }
 

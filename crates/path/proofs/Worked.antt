@@ -8,6 +8,7 @@ use Rattle.parse.specs.Outcome.{Outcome, accept, refuse, andThen}
 use Rattle.parse.specs.Parse.{value, refused, times, many, manyUpTo}
 use Rattle.boxes.specs.Bytes.{be, toBe, uint, bytes, chunk, toChunk, inside}
 use Rattle.unit_list.specs.UnitList.{arrayRest, array, unitList, decode, unitsOf, unitsOfType, encodeUnits, encodeArray, encodeArrays, encode}
+use Rattle.unit_list.specs.UnitList.{unitsFit}
 use Rattle.rbsp.specs.Rbsp.{drops, nextZeros, unescape, rbsp}
 use Rattle.bit_reader.specs.Bits.{bitsAt, u, skip, align, zerosBeforeOne, ue}
 use Rattle.ptl.specs.Ptl.{presentFlags, levels, withoutFlags, constraintBits, generalConstraintsInfo, constraintBytes, profileTierLevel}
@@ -21,7 +22,7 @@ use Rattle.compact.specs.Compact.{CompactParsed, atEnd, compactRecord, oneArray
 use Rattle.compact.specs.ItemData.{restore}
 use Rattle.compact.specs.declared.CompactVvcConfig.{CompactVvcConfig}
 use Rattle.record_arrays.specs.Read.{recordArray}
-use Rattle.record_arrays.specs.Write.{arrayBytes, arraysBytes, unitsFit, arrayFits, arraysFit}
+use Rattle.record_arrays.specs.Write.{arrayBytes, arraysBytes, arrayFits, arraysFit}
 use Rattle.full.specs.Read.{FullParsed, headWithPtl, vvcHead, vvcRecord, parseFull}
 use Rattle.full.specs.Write.{ptlPart, headBytes, fullBytes, ptlPartFits, headFits, recordFits, writeFull, serializeFull}
 use Rattle.expand.specs.Expand.{multiLayerVps, ptlOfSets, expandUnits, toFull}

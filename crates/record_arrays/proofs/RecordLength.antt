@@ -2,7 +2,7 @@
 use Prim.Native.Nat.{ℕ, suc, _+_, _*_, _^_, _≤_}
 use native.Mathlib.Omega.{arith}
 use native.Mathlib.Decide.{decLe}
-use mathlib.Core.Path.{_≡_, refl, _∙_}
+use mathlib.Core.Path.{_≡_, refl}
 use mathlib.Core.Bool.{Bool, true, false}
 use mathlib.Core.List.{List, [], _∷_, _++_}
 use lib.Dec.{leb}
@@ -12,10 +12,10 @@ use Rattle.parse.specs.Logic.{if_then_else_}
 use Rattle.parse.proofs.General.{both-true}
 use Rattle.boxes.specs.Bytes.{toBe, toChunk}
 use Rattle.boxes.proofs.Numbers.{length-toBe}
-use Rattle.unit_list.specs.UnitList.{Array, completeByte, unitsOf, encodeUnits, encodeArray, encodeArrays, encode}
-use Rattle.unit_list.proofs.Encode.{length-toChunk}
+use Rattle.unit_list.specs.UnitList.{Array, unitsOf, encodeUnits, encodeArray, encodeArrays, encode, unitsFit}
+use Rattle.unit_list.proofs.Encode.{length-toChunk, length-array}
 use Rattle.record_arrays.specs.Read.{holdsOne}
-use Rattle.record_arrays.specs.Write.{arrayBytes, arraysBytes, unitsFit, arrayFits, arraysFit}
+use Rattle.record_arrays.specs.Write.{arrayBytes, arraysBytes, arrayFits, arraysFit}
 use Rattle.record_arrays.specs.declared.Codec.{Codec}
 
 -- units after lengths of 2 bytes compared with the same after lengths of 4
@@ -32,10 +32,6 @@ units-room (u ∷ us) e =
     let v = length-toChunk 2 u in
     let w = length-toChunk 4 u in
     (omega arith, omega arith)
-
-list-long : (a : Array (List ℕ)) → length (encodeArray 4 a) ≡ 6 + length (encodeUnits 4 (a .units))
-unfolding encodeArray
-list-long a = length-toChunk 4 (completeByte a ∷ a .unitType ∷ encodeUnits 4 (a .units)) ∙ omega arith
 
 module _ (k : Codec) where
   units-fit : (a : Array (List ℕ)) → arrayFits k a ≡ true → unitsFit (a .units) ≡ true
@@ -64,7 +60,7 @@ module _ (k : Codec) where
       let f = both-true (arrayFits k a) _ e in
       let r = arrays-room xs (f .1) in
       let l = array-long a in
-      let m = list-long a in
+      let m = length-array 4 a in
       let u = units-room (a .units) (units-fit a (f .0)) in
       let x = length-append (arrayBytes k a) (arraysBytes k xs) in
       let y = length-append (encodeArray 4 a) (encodeArrays 4 xs) in

@@ -7,7 +7,7 @@ use lib.Dec.{leb, eqb}
 use lib.ListN.{length}
 use Rattle.parse.specs.Logic.{if_then_else_}
 use Rattle.boxes.specs.Bytes.{toBe}
-use Rattle.unit_list.specs.UnitList.{Array, encodeUnits}
+use Rattle.unit_list.specs.UnitList.{Array, encodeUnits, unitsFit}
 use Rattle.record_arrays.specs.Read.{holdsOne}
 use Rattle.record_arrays.specs.declared.Codec.{Codec}
 use Rattle.record_arrays.specs.declared.Codec.the-variants.{Vvc, Hevc}
@@ -28,11 +28,6 @@ arrayBytes c a =
 unfoldable pub arraysBytes : Codec → List (Array (List ℕ)) → List ℕ
 arraysBytes c [] = []
 arraysBytes c (a ∷ xs) = arrayBytes c a ++ arraysBytes c xs
-
--- every unit has at most 65,535 bytes
-unfoldable pub unitsFit : List (List ℕ) → Bool
-unitsFit [] = true
-unitsFit (u ∷ us) = leb (length u) 65535 && unitsFit us
 
 -- a reserved bit r and a type t fit the first byte: VVC's has no place for the bit and 5 bits for the type; HEVC's has the places of a unit list
 abbrev pub firstFits : Codec → ℕ → ℕ → Bool

@@ -2,27 +2,27 @@
 use Prim.Native.Nat.{ℕ, _+_, _-_, _*_, _/_, _≤_, _<_}
 use mathlib.Core.Path.{_≡_, refl, sym, ap, _∙_, subst}
 use mathlib.Core.Bool.{Bool, true, false}
-use mathlib.Core.List.{List, [], _∷_, _++_, append-assoc}
+use mathlib.Core.List.{List, [], _∷_, _++_}
 use native.Mathlib.Omega.{arith}
-use lib.ListN.{length, getD, take, length-append}
+use lib.ListN.{length, getD, take}
 use lib.Seq.{sets, length-sets, take-length}
 use Rattle.parse.specs.Logic.{if_then_else_}
 use Rattle.parse.specs.Parse.{Parsed, value, refused, bind, give, times, outcome}
 use Rattle.parse.specs.Outcome.{accept}
 use Rattle.parse.specs.inner.Stores.{Puts}
-use Rattle.parse.proofs.General.{sets-append, sets-before}
 use Rattle.boxes.specs.Bytes.{be, uint, chunk, toBe, toChunk}
 use Rattle.boxes.specs.Parts.{held}
 use Rattle.boxes.specs.declared.Span.{Span}
-use Rattle.boxes.proofs.Numbers.{length-toBe, be-one}
+use Rattle.boxes.proofs.Numbers.{be-one}
 use Rattle.boxes.proofs.Fields.{uint-there, uint-short, chunk-read}
 use Rattle.boxes.proofs.Spans.{held-long}
-use Rattle.unit_list.specs.UnitList.{Array, encodeUnits, encodeArray, encodeArrays}
+use Rattle.unit_list.specs.UnitList.{Array, heldArray, encodeUnits, encodeArray, encodeArrays}
 use Rattle.unit_list.specs.inner.Walk.{chunkStepped}
 use Rattle.unit_list.specs.declared.ChunkRead.{ChunkRead}
 use Rattle.unit_list.specs.declared.ChunkRead.the-variants as C
-use Rattle.unit_list.proofs.Encode.{length-toChunk}
+use Rattle.unit_list.proofs.Encode.{length-toChunk, length-array}
 use Rattle.unit_list.proofs.Steps.{chunk-bytes, chunk-refused}
+use Rattle.unit_list.proofs.Written.{array-stored}
 use Rattle.record_arrays.specs.Read.{reservedIn, typeIn, holdsOne, recordArray}
 use Rattle.record_arrays.specs.inner.Counts.{countLen}
 use Rattle.record_arrays.specs.declared.Codec.{Codec}
@@ -161,20 +161,8 @@ completeOf h = h .«reserved_bit» * 2 + h .complete
 abbrev headBytes : ArrayHead → ℕ → List ℕ
 headBytes h rest = toBe 4 rest ++ (completeOf h ∷ h .«unit_type» ∷ [])
 
-head-long : (h : ArrayHead) (rest : ℕ) → length (headBytes h rest) ≡ 6
-head-long h rest = length-append (toBe 4 rest) (completeOf h ∷ h .«unit_type» ∷ []) ∙ rw (length-toBe 4 rest)
-
-array-bytes : (s : List ℕ) (h : ArrayHead) (us : List Span)
-    → arrayInList s (withUnits h us) ≡ headBytes h (2 + length (unitsInList s us)) ++ unitsInList s us
-unfolding encodeArray toChunk
-array-bytes s h us =
-    let e : length (completeOf h ∷ h .«unit_type» ∷ unitsInList s us) ≡ 2 + length (unitsInList s us) = omega arith in
-    rw e (sym (append-assoc (toBe 4 (2 + length (unitsInList s us))) (completeOf h ∷ h .«unit_type» ∷ []) (unitsInList s us)))
-
 array-long : (s : List ℕ) (h : ArrayHead) (us : List Span) → length (arrayInList s (withUnits h us)) ≡ 6 + length (unitsInList s us)
-array-long s h us =
-    let l = head-long h (2 + length (unitsInList s us)) in
-    ap length (array-bytes s h us) ∙ length-append (headBytes h (2 + length (unitsInList s us))) (unitsInList s us) ∙ omega arith
+array-long s h us = length-array 4 (heldArray s (withUnits h us)) ∙ omega arith
 
 module _ (k : Codec) (s : List ℕ) (p : ℕ) where
   pub array-refused : (e : ℕ) → arrayHead k s p ≡ refused e → recordArray k s p ≡ refused e
@@ -209,27 +197,25 @@ module _ (k : Codec) (s : List ℕ) (p : ℕ) where
       pub stores-units : Puts (unitsInList s) (outcome (times (h .count) (chunk 2) s q)) out (to + 6)
       stores-units = units-of (times (h .count) (chunk 2) s q) (sym (ap outcome array-units) ∙ stores .found)
 
-      pub head-room : (d : List ℕ) (r : Stored) → StoredAt unitsInList s (times (h .count) (chunk 2) s q) out (to + 6) d r → to + 6 ≤ length d
+      pub head-room : (d : List ℕ) (r : Stored) → StoredAt unitsInList s (times (h .count) (chunk 2) s q) out (to + 6) d r
+          → (4 ≤ 4) × (to + 4 + 2 ≤ length d)
       head-room d r i =
           let k = ap length (i .written) ∙ length-sets out (to + 6) (storedBytes unitsInList s (times (h .count) (chunk 2) s q)) in
           let f = stores-units .room in
-          omega arith
+          (omega arith, omega arith)
 
       stored-of : (x : Parsed (List Span)) → Puts (unitsInList s) (outcome x) out (to + 6) → (d : List ℕ) (r : Stored)
           → StoredAt unitsInList s x out (to + 6) d r
           → (e : List ℕ) → e ≡ sets d to (headBytes h (r .to - to - 4))
           → StoredAt arrayInList s (bind x (λ us r. value (withUnits h us) r)) out to e r
+      unfolding encodeArray
       stored-of (refused j) g d r i e v = absurd (let w = g .found in let z : _≡_ {A = ℕ} 0 1 = cc in omega arith)
       stored-of (value us j) g d r i e v =
           let t = i .to in
           let n : r .to - to - 4 ≡ 2 + length (unitsInList s us) = omega arith in
-          let l = head-long h (2 + length (unitsInList s us)) in
-          let k : to + length (headBytes h (2 + length (unitsInList s us))) ≡ to + 6 = omega arith in
           record {
             written =
-                v ∙ rw (n, i .written, array-bytes s h us)
-                (sets-before out to (to + 6) (headBytes h (2 + length (unitsInList s us))) (unitsInList s us) (omega arith)
-                ∙ rw k at (sets-append out to (headBytes h (2 + length (unitsInList s us))) (unitsInList s us)));
+                array-stored out d e to 4 (r .to - to - 4) (completeOf h) (h .«unit_type») (to + 6) (unitsInList s us) (omega arith) n (i .written) v;
             from = i .from;
             to = t ∙ (let m = array-long s h us in omega arith);
           }

@@ -54,7 +54,7 @@ fn put_array(codec: Codec, record: &[u8], at: usize, out: &mut [u8], to: usize) 
     let stored = put_units(record, units, head.count, out, to + 6);
     let rest = stored.to - to - 4;
     let complete = head.reserved_bit * 2 + head.complete;
-    write::put_array_head(out, to, rest, complete, head.unit_type);
+    write::put_array_head(out, to, 4, rest, complete, head.unit_type);
     stored
 }
 

@@ -1,3 +1,1 @@
-pub mod Measures
-pub mod Stores
 pub mod Records

@@ -25,12 +25,13 @@ use Rattle.unit_list.specs.inner.Walk.{arraysFrom, Fits}
 use Rattle.unit_list.specs.declared.ListCursor.{ListCursor}
 use Rattle.record_arrays.specs.Write.{arraysBytes, arraysFit}
 use Rattle.record_arrays.specs.declared.Codec.{Codec}
-use Rattle.record_arrays_write.specs.inner.Measures.{arraysMeasure, measuredBy, measureOf, ArraysWithin, arraysInRecord}
+use Rattle.list_arrays.specs.inner.Measures.{arraysMeasure, measuredBy, measureOf, ArraysWithin, arraysLaid}
+use Rattle.list_arrays.specs.declared.Layout.the-variants.{Record}
 use Rattle.record_arrays_write.specs.inner.Record.{recordOf, recordIn, HeadLen, HeadIs, Laid, Writable, sized, SizeOf, Sizes}
 use Rattle.record_arrays_write.specs.inner.Record.{Stored, PutAfter, PutsRecord}
-use Rattle.record_arrays_write.specs.declared.measure.Measure.{Measure}
-use Rattle.record_arrays_write.specs.declared.measure.RecordMeasure.{RecordMeasure}
-use Rattle.record_arrays_write.specs.declared.measure.RecordMeasure.the-variants as M
+use Rattle.list_arrays.specs.declared.measure.Measure.{Measure}
+use Rattle.list_arrays.specs.declared.measure.Measured.{Measured}
+use Rattle.list_arrays.specs.declared.measure.Measured.the-variants as M
 use Rattle.record_arrays_write.specs.declared.record.HeadSize.{HeadSize}
 use Rattle.record_arrays_write.specs.declared.record.HeadSize.the-variants as H
 use Rattle.record_arrays_write.specs.declared.record.RecordLayout.{RecordLayout}
@@ -42,9 +43,9 @@ module _ (k : Codec) (s : List ℕ) where
   record Known (o : Outcome (List (Array Span))) (m : Measure) : Type 0 where
     arrays : List (Array Span)
     found : o ≡ accept arrays
-    is : m ≡ arraysMeasure k s arrays
+    is : m ≡ arraysMeasure (Record k) s arrays
 
-  known : (o : Outcome (List (Array Span))) (m : Measure) → accept m ≡ measuredBy (arraysMeasure k s) o → Known o m
+  known : (o : Outcome (List (Array Span))) (m : Measure) → accept m ≡ measuredBy (arraysMeasure (Record k) s) o → Known o m
   known (accept xs) m e = record { arrays = xs; found = refl; is = cc }
   known (refuse n) m e = absurd (let z : _≡_ {A = ℕ} 0 1 = cc in omega arith)
 
@@ -52,15 +53,15 @@ module _ (k : Codec) (s : List ℕ) where
       → leb (m .count) 255 && m .fits ≡ leb (length (heldArrays s (a .arrays))) 255 && arraysFit k (heldArrays s (a .arrays))
   fits-by o m a = rw (a .is)
 
-  refused-of : (h : Outcome (List ℕ)) (o : Outcome (List (Array Span))) (n : ℕ) → refuse n ≡ measuredBy (arraysMeasure k s) o
+  refused-of : (h : Outcome (List ℕ)) (o : Outcome (List (Array Span))) (n : ℕ) → refuse n ≡ measuredBy (arraysMeasure (Record k) s) o
       → recordIn k h s o ≡ refuse n
   refused-of h (accept xs) n e = absurd (let z : _≡_ {A = ℕ} 0 1 = cc in omega arith)
   refused-of h (refuse i) n e = let z : i ≡ n = cc in ap refuse z
 
   -- ### the tests when the arrays after a cursor's end are measured
 
-  module _ (c : ListCursor) (fits : Fits s c) (r : RecordMeasure)
-      (f : (measureOf r ≡ measuredBy (arraysMeasure k s) (arraysFrom s c)) × ArraysWithin s r) where
+  module _ (c : ListCursor) (fits : Fits s c) (r : Measured)
+      (f : (measureOf r ≡ measuredBy (arraysMeasure (Record k) s) (arraysFrom s c)) × ArraysWithin s r) where
     pub record-malformed : (h : Outcome (List ℕ)) → r ≡ M.Malformed → recordIn k h s (arraysFrom s c) ≡ refuse 21
     record-malformed h e = refused-of h (arraysFrom s c) 21 (sym (ap measureOf e) ∙ f .0)
 
@@ -72,7 +73,7 @@ module _ (k : Codec) (s : List ℕ) where
       xs = heldArrays s (a .arrays)
 
       -- the measured length is at most that of a list
-      pub arrays-short : m .len ≤ 2 ^ 30
+      pub arrays-short : m .len ≤ 2 ^ 31
       arrays-short = let w = subst (ArraysWithin s) e (f .1) in omega (arith, w .0, fits .lent)
 
       pub record-headless : (h : Outcome (List ℕ)) (n : ℕ) → h ≡ refuse n → recordIn k h s (arraysFrom s c) ≡ refuse n
@@ -128,12 +129,13 @@ module _ (k : Codec) (s : List ℕ) (l : RecordLayout) (out : List ℕ) where
   record-short less h o w = written-short o out (whole h o w) (w .bytes) (omega (arith, length-record h o w))
 
   module _ (room : l .len ≤ length out) (d₁ : List ℕ) (e₁ : d₁ ≡ set out (l .«head_len») (l .count)) where
-    pub arrays-put : Laid k s l → Puts (arraysInRecord k s) (arraysFrom s (l .arrays)) d₁ (l .«head_len» + 1)
+    pub arrays-put : Laid k s l → Puts (arraysLaid (Record k) s) (arraysFrom s (l .arrays)) d₁ (l .«head_len» + 1)
     arrays-put w =
         let n : length d₁ ≡ length out = ap length e₁ ∙ length-set out (l .«head_len») (l .count) in
         record { it = w .found; found = w .is; room = omega (arith, w .long) }
 
-    module _ (d₂ : List ℕ) (e₂ : d₂ ≡ sets d₁ (l .«head_len» + 1) (bytesOf (arraysInRecord k s) (arraysFrom s (l .arrays)))) (h o : Outcome (List ℕ))
+    module _ (d₂ : List ℕ) (e₂ : d₂ ≡ sets d₁ (l .«head_len» + 1) (bytesOf (arraysLaid (Record k) s) (arraysFrom s (l .arrays))))
+        (h o : Outcome (List ℕ))
         (w : Writable k s h o l) where
       abbrev b : List ℕ
       b = w .head .bytes
@@ -147,7 +149,8 @@ module _ (k : Codec) (s : List ℕ) (l : RecordLayout) (out : List ℕ) where
       -- the number of arrays and the arrays
       after-stored : d₂ ≡ sets out (l .«head_len») after
       after-stored =
-          let g : bytesOf (arraysInRecord k s) (arraysFrom s (l .arrays)) ≡ arraysBytes k ys = ap (bytesOf (arraysInRecord k s)) (w .laid .is) in
+          let g : bytesOf (arraysLaid (Record k) s) (arraysFrom s (l .arrays)) ≡ arraysBytes k ys =
+          ap (bytesOf (arraysLaid (Record k) s)) (w .laid .is) in
           e₂ ∙ rw (g, e₁, w .laid .number) (sets-then out (l .«head_len») (l .«head_len» + 1) (length ys ∷ []) (arraysBytes k ys) (omega arith))
 
       -- the head stored before them

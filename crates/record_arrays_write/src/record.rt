@@ -1,11 +1,12 @@
 // Internal: a record of a head and of the arrays of a list, whichever head it has: its length, and what follows the head stored.
-use super::measure;
-use super::measure::Measure;
-use super::measure::RecordMeasure;
-use super::put;
 use boxes::place;
 use error::Refusal;
 use error::Written;
+use list_arrays::Layout;
+use list_arrays::measure;
+use list_arrays::measure::Measure;
+use list_arrays::measure::Measured;
+use list_arrays::put;
 use record_arrays::Codec;
 use unit_list::ListCursor;
 use unit_list::ListStart;
@@ -50,7 +51,7 @@ fn arrays_fit(arrays: Measure) -> bool
 
 // The layout of a record with a head of `head_len` bytes and the arrays after a cursor's end, as measured. Refusal: 22.
 fn layout(head_len: usize, c: ListCursor, arrays: Measure) -> RecordSize
-    requires { ⌜ («head_len» ≤ 1104) × (arrays .len ≤ 2 ^ 30) ⌝ }
+    requires { ⌜ («head_len» ≤ 1104) × (arrays .len ≤ 2 ^ 31) ⌝ }
     ensures { λ r. ⌜ r ≡ sized «head_len» c arrays ⌝ }
 {
     if !arrays_fit(arrays) {
@@ -70,7 +71,7 @@ fn size_from(codec: Codec, list: &[u8], c: ListCursor, head: HeadSize) -> Record
     requires { ⌜ Fits (now list) c × HeadShort head ⌝ }
     ensures { λ r. ⌜ Sizes codec (now (list .entry)) head (arraysFrom (now (list .entry)) c) r ⌝ }
 {
-    let RecordMeasure::Is(arrays) = measure::measure_arrays(codec, list, c) else {
+    let Measured::Is(arrays) = measure::measure_arrays(Layout::Record(codec), list, c) else {
         return RecordSize::Refused(Refusal::UnitList);
     };
     match head {
@@ -100,7 +101,7 @@ fn put_laid(codec: Codec, list: &[u8], l: RecordLayout, out: &mut [u8]) -> Writt
     }
     let count_at = l.head_len;
     place::put(out, count_at, l.count as u8);
-    put::put_arrays(codec, list, l.arrays, out, count_at + 1);
+    put::put_arrays(Layout::Record(codec), list, l.arrays, out, count_at + 1);
     Written::Bytes(l.len)
 }
 

@@ -2,6 +2,7 @@
 use Prim.Native.Nat.{ℕ, zero, suc, _+_, _≤_, _<_}
 use mathlib.Core.Path.{_≡_, refl, sym, ap, _∙_}
 use mathlib.Core.List.{List, [], _∷_, _++_}
+use mathlib.Core.Logic.{⊎-elim}
 use native.Mathlib.Omega.{arith}
 use native.Mathlib.Decide.{decLe}
 use lib.ListN.{length, getD, take}
@@ -17,11 +18,16 @@ use Rattle.boxes.specs.declared.Span.{Span}
 use Rattle.boxes.proofs.Fields.{uint-there, uint-short, chunk-read, chunk-advances}
 use Rattle.boxes.proofs.Numbers.{be-one}
 use Rattle.unit_list.specs.UnitList.{Array, array, arrayRest, arrayWith, largestType, unitsOf}
+use Rattle.unit_list.specs.inner.Walk.{TwoOrFour}
 
 -- each array's complete, reserved bit and type are small
 pub data Sound {U : Type 0} : List (Array U) → Type 0 where
   sound-none : Sound []
   sound-more : {a : Array U} {xs : List (Array U)} → a .complete ≤ 1 → a .reservedBit ≤ 1 → a .unitType ≤ largestType → Sound xs → Sound (a ∷ xs)
+
+-- a length of two or four bytes has from two to four
+pub two-to-four : (w : ℕ) → TwoOrFour w → (2 ≤ w) × (w ≤ 4)
+two-to-four w h = ⊎-elim (λ e. (omega arith, omega arith)) (λ e. (omega arith, omega arith)) h
 
 -- a refusal to read, whatever its number
 abbrev pub IsRefused : {A : Type 0} → Parsed A → Type 0

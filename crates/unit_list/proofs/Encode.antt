@@ -14,7 +14,7 @@ use Rattle.boxes.specs.declared.Span.{Span}
 use Rattle.boxes.proofs.Numbers.{length-toBe}
 use Rattle.boxes.proofs.Fields.{chunk-toChunk, held-toChunk, chunk-advances}
 use Rattle.unit_list.specs.UnitList.{Array, array, largestType, completeByte, decode, unitsOf, heldArray}
-use Rattle.unit_list.specs.UnitList.{heldArrays, encodeUnits, encodeArray, encodeArrays, encode}
+use Rattle.unit_list.specs.UnitList.{heldArrays, encodeUnits, encodeRest, encodeArray, encodeArrays, encode}
 use Rattle.unit_list.specs.Answers.{listUnits}
 use Rattle.unit_list.proofs.Arrays.{Sound, sound-none, sound-more, array-reads, array-advances}
 use Rattle.unit_list.proofs.Left.{decode-arrays}
@@ -75,28 +75,41 @@ module _ (w : ℕ) (s : List ℕ) where
             (g ∙ sym (append-assoc pre (toChunk w u) (encodeUnits w us ++ post))) m (omega arith),
       )
 
--- what follows an array's length, and what comes before its units
-abbrev restOf : ℕ → Array (List ℕ) → List ℕ
-restOf w a = completeByte a ∷ a .unitType ∷ encodeUnits w (a .units)
-
+-- what comes before an array's units
 abbrev headOf : ℕ → Array (List ℕ) → List ℕ
-headOf w a = toBe w (length (restOf w a)) ++ (completeByte a ∷ a .unitType ∷ [])
+headOf w a = toBe w (length (encodeRest w a)) ++ (completeByte a ∷ a .unitType ∷ [])
+
+pub length-array : (w : ℕ) (a : Array (List ℕ)) → length (encodeArray w a) ≡ w + length (encodeRest w a)
+unfolding encodeArray
+length-array w a = length-toChunk w (encodeRest w a)
+
+-- the length of each array has room in w bytes
+pub data Short (w : ℕ) : List (Array (List ℕ)) → Type 0 where
+  short-none : Short w []
+  short-more : {a : Array (List ℕ)} {xs : List (Array (List ℕ))} → length (encodeRest w a) < 256 ^ w → Short w xs → Short w (a ∷ xs)
+
+-- as it has where all arrays together are short enough
+pub short-all : (w : ℕ) (xs : List (Array (List ℕ))) → length (encodeArrays w xs) < 256 ^ w → Short w xs
+unfolding encodeArrays
+short-all w [] h = short-none
+short-all w (a ∷ xs) h =
+    let k = length-append (encodeArray w a) (encodeArrays w xs) in
+    let l = length-array w a in
+    short-more {a = a} {xs = xs} (omega arith) (short-all w xs (omega arith))
 
 -- one array between others
 module _ (w : ℕ) (s : List ℕ) (a : Array (List ℕ)) (pre post : List ℕ) (p : ℕ) (e : s ≡ pre ++ (encodeArray w a ++ post)) (l : length pre ≡ p)
-    (f : length (encodeArray w a) < 256 ^ w) where
-  length-array : length (encodeArray w a) ≡ w + length (restOf w a)
-  unfolding encodeArray
-  length-array = length-toChunk w (restOf w a)
-
+    (f : length (encodeRest w a) < 256 ^ w) where
   length-head : length (pre ++ headOf w a) ≡ p + w + 2
   length-head = length-append pre (headOf w a)
-      ∙ rw (length-append (toBe w (length (restOf w a))) (completeByte a ∷ a .unitType ∷ []), length-toBe w (length (restOf w a)), l) (omega arith)
+      ∙ rw (length-append (toBe w (length (encodeRest w a))) (completeByte a ∷ a .unitType ∷ []), length-toBe w (length (encodeRest w a)), l)
+      (omega arith)
 
   units-after : pre ++ encodeArray w a ≡ (pre ++ headOf w a) ++ encodeUnits w (a .units)
   unfolding encodeArray toChunk
   units-after =
-      ap (λ (x : List ℕ). pre ++ x) (sym (append-assoc (toBe w (length (restOf w a))) (completeByte a ∷ a .unitType ∷ []) (encodeUnits w (a .units))))
+      ap (λ (x : List ℕ). pre ++ x)
+      (sym (append-assoc (toBe w (length (encodeRest w a))) (completeByte a ∷ a .unitType ∷ []) (encodeUnits w (a .units))))
       ∙ sym (append-assoc pre (headOf w a) (encodeUnits w (a .units)))
 
   split : s ≡ (pre ++ headOf w a) ++ (encodeUnits w (a .units) ++ post)
@@ -106,83 +119,81 @@ module _ (w : ℕ) (s : List ℕ) (a : Array (List ℕ)) (pre post : List ℕ) (
 
   pub array-held : heldArray s (placedArray w p a) ≡ a
   array-held =
-      let k = length-array in
       ap (λ (us : List (List ℕ)). record { complete = a .complete; reservedBit = a .reservedBit; unitType = a .unitType; units = us })
       (units-hold w s (a .units) (pre ++ headOf w a) post (p + w + 2) split length-head (omega arith))
 
   -- its bytes from complete on
-  bytes-at : s ≡ (pre ++ toBe w (length (restOf w a))) ++ (restOf w a ++ post)
+  bytes-at : s ≡ (pre ++ toBe w (length (encodeRest w a))) ++ (encodeRest w a ++ post)
   unfolding encodeArray toChunk
   bytes-at =
-      e ∙ ap (λ (x : List ℕ). pre ++ x) (append-assoc (toBe w (length (restOf w a))) (restOf w a) post)
-      ∙ sym (append-assoc pre (toBe w (length (restOf w a))) (restOf w a ++ post))
+      e ∙ ap (λ (x : List ℕ). pre ++ x) (append-assoc (toBe w (length (encodeRest w a))) (encodeRest w a) post)
+      ∙ sym (append-assoc pre (toBe w (length (encodeRest w a))) (encodeRest w a ++ post))
 
-  before : length (pre ++ toBe w (length (restOf w a))) ≡ p + w
-  before = length-append pre (toBe w (length (restOf w a))) ∙ rw (length-toBe w (length (restOf w a)), l)
+  before : length (pre ++ toBe w (length (encodeRest w a))) ≡ p + w
+  before = length-append pre (toBe w (length (encodeRest w a))) ∙ rw (length-toBe w (length (encodeRest w a)), l)
 
   complete-at : getD s (p + w) 0 ≡ completeByte a
   complete-at =
-      rw bytes-at (getD-at (pre ++ toBe w (length (restOf w a))) (completeByte a) (a .unitType ∷ (encodeUnits w (a .units) ++ post)) 0 (p + w) before)
+      rw bytes-at
+      (getD-at (pre ++ toBe w (length (encodeRest w a))) (completeByte a) (a .unitType ∷ (encodeUnits w (a .units) ++ post)) 0 (p + w) before)
 
   type-at : getD s (p + w + 1) 0 ≡ a .unitType
   type-at =
-      let m : length ((pre ++ toBe w (length (restOf w a))) ++ (completeByte a ∷ [])) ≡ p + w + 1 =
-      length-append (pre ++ toBe w (length (restOf w a))) (completeByte a ∷ []) ∙ rw before (omega arith) in
+      let m : length ((pre ++ toBe w (length (encodeRest w a))) ++ (completeByte a ∷ [])) ≡ p + w + 1 =
+      length-append (pre ++ toBe w (length (encodeRest w a))) (completeByte a ∷ []) ∙ rw before (omega arith) in
       rw bytes-at
       (ap (λ (x : List ℕ). getD x (p + w + 1) 0)
-      (sym (append-assoc (pre ++ toBe w (length (restOf w a))) (completeByte a ∷ []) (a .unitType ∷ (encodeUnits w (a .units) ++ post))))
-      ∙ getD-at ((pre ++ toBe w (length (restOf w a))) ++ (completeByte a ∷ [])) (a .unitType) (encodeUnits w (a .units) ++ post) 0 (p + w + 1) m)
+      (sym (append-assoc (pre ++ toBe w (length (encodeRest w a))) (completeByte a ∷ []) (a .unitType ∷ (encodeUnits w (a .units) ++ post))))
+      ∙ getD-at ((pre ++ toBe w (length (encodeRest w a))) ++ (completeByte a ∷ [])) (a .unitType) (encodeUnits w (a .units) ++ post) 0 (p + w + 1) m)
 
-  rest-at : take (p + w + length (restOf w a)) s ≡ (pre ++ headOf w a) ++ encodeUnits w (a .units)
+  rest-at : take (p + w + length (encodeRest w a)) s ≡ (pre ++ headOf w a) ++ encodeUnits w (a .units)
   rest-at =
-      let k = length-array in
-      let m : length (pre ++ encodeArray w a) ≡ p + w + length (restOf w a) = length-append pre (encodeArray w a) ∙ rw l (omega arith) in
-      rw (e, ← append-assoc pre (encodeArray w a) post) (take-at (pre ++ encodeArray w a) post (p + w + length (restOf w a)) m) ∙ units-after
+      let k = length-array w a in
+      let m : length (pre ++ encodeArray w a) ≡ p + w + length (encodeRest w a) = length-append pre (encodeArray w a) ∙ rw l (omega arith) in
+      rw (e, ← append-assoc pre (encodeArray w a) post) (take-at (pre ++ encodeArray w a) post (p + w + length (encodeRest w a)) m) ∙ units-after
 
   module _ (some : 1 ≤ w) (one : a .complete ≤ 1) (bit : a .reservedBit ≤ 1) (small : a .unitType ≤ largestType) where
     pub array-written : array w s p ≡ value (placedArray w p a) (p + length (encodeArray w a))
     array-written =
-        let k = length-array in
+        let k = length-array w a in
         let low : completeByte a % 2 ≡ a .complete = omega arith in
         let high : completeByte a / 2 ≡ a .reservedBit = omega arith in
-        let c : chunk w s p ≡ value (record { start = p + w; len = length (restOf w a) }) (p + w + length (restOf w a)) =
-        unfold encodeArray in rw (e, ← l) (chunk-toChunk w pre (restOf w a) post (omega arith)) in
-        let u = units-written w some (take (p + w + length (restOf w a)) s) (a .units) (pre ++ headOf w a)
+        let c : chunk w s p ≡ value (record { start = p + w; len = length (encodeRest w a) }) (p + w + length (encodeRest w a)) =
+        unfold encodeArray in rw (e, ← l) (chunk-toChunk w pre (encodeRest w a) post (omega arith)) in
+        let u = units-written w some (take (p + w + length (encodeRest w a)) s) (a .units) (pre ++ headOf w a)
         (p + w + 2) rest-at length-head (omega arith) in
-        let m : length (take (p + w + length (restOf w a)) s) ≡ p + length (encodeArray w a) =
+        let m : length (take (p + w + length (encodeRest w a)) s) ≡ p + length (encodeArray w a) =
         ap length rest-at ∙ length-append (pre ++ headOf w a) (encodeUnits w (a .units)) ∙ rw length-head (omega arith) in
-        array-reads w s p (record { start = p + w; len = length (restOf w a) }) c (omega arith) (rw complete-at (omega arith)) (rw type-at small)
+        array-reads w s p (record { start = p + w; len = length (encodeRest w a) }) c (omega arith) (rw complete-at (omega arith)) (rw type-at small)
         ∙ rw (u, m, complete-at, type-at, low, high)
 
 -- arrays one after the other
 module _ (w : ℕ) (s : List ℕ) where
-  arrays-written : 1 ≤ w → {xs : List (Array (List ℕ))} → Sound xs → (pre : List ℕ) (p : ℕ) → s ≡ pre ++ encodeArrays w xs → length pre ≡ p
-      → length (encodeArrays w xs) < 256 ^ w → many (array w) s p ≡ value (placedArrays w p xs) (length s)
+  arrays-written : 1 ≤ w → {xs : List (Array (List ℕ))} → Sound xs → Short w xs → (pre : List ℕ) (p : ℕ) → s ≡ pre ++ encodeArrays w xs
+      → length pre ≡ p → many (array w) s p ≡ value (placedArrays w p xs) (length s)
   unfolding encodeArrays placedArrays
-  arrays-written some sound-none pre p e l f =
+  arrays-written some sound-none short-none pre p e l =
       let n : length s ≡ p = ap length (e ∙ append-nil pre) ∙ l in
       many-nil (array w) s p (omega arith) ∙ rw (sym n)
-  arrays-written some (sound-more {a = a} {xs = xs} one bit small h) pre p e l f =
+  arrays-written some (sound-more {a = a} {xs = xs} one bit small h) (short-more f g) pre p e l =
       let k = length-append (encodeArray w a) (encodeArrays w xs) in
       let n = ap length e ∙ length-append pre (encodeArray w a ++ encodeArrays w xs) in
-      let g : length (encodeArray w a) < 256 ^ w = omega arith in
-      let j = length-array w s a pre (encodeArrays w xs) p e l g in
-      let c = array-written w s a pre (encodeArrays w xs) p e l g some one bit small in
+      let j = length-array w a in
+      let c = array-written w s a pre (encodeArrays w xs) p e l f some one bit small in
       let m : length (pre ++ encodeArray w a) ≡ p + length (encodeArray w a) = length-append pre (encodeArray w a) ∙ rw l in
       many-step (array w) s (array-advances w s some) p (placedArray w p a) (p + length (encodeArray w a)) (omega arith) c
-      ∙ rw (arrays-written some h (pre ++ encodeArray w a) (p + length (encodeArray w a))
-      (e ∙ sym (append-assoc pre (encodeArray w a) (encodeArrays w xs))) m (omega arith))
+      ∙ rw (arrays-written some h g (pre ++ encodeArray w a) (p + length (encodeArray w a))
+      (e ∙ sym (append-assoc pre (encodeArray w a) (encodeArrays w xs))) m)
 
-  arrays-held : (xs : List (Array (List ℕ))) (pre : List ℕ) (p : ℕ) → s ≡ pre ++ encodeArrays w xs → length pre ≡ p
-      → length (encodeArrays w xs) < 256 ^ w → heldArrays s (placedArrays w p xs) ≡ xs
+  arrays-held : {xs : List (Array (List ℕ))} → Short w xs → (pre : List ℕ) (p : ℕ) → s ≡ pre ++ encodeArrays w xs → length pre ≡ p
+      → heldArrays s (placedArrays w p xs) ≡ xs
   unfolding encodeArrays placedArrays
-  arrays-held [] pre p e l f = refl
-  arrays-held (a ∷ xs) pre p e l f =
-      let k = length-append (encodeArray w a) (encodeArrays w xs) in
+  arrays-held short-none pre p e l = refl
+  arrays-held (short-more {a = a} {xs = xs} f g) pre p e l =
       let m : length (pre ++ encodeArray w a) ≡ p + length (encodeArray w a) = length-append pre (encodeArray w a) ∙ rw l in
-      let h = array-held w s a pre (encodeArrays w xs) p e l (omega arith) in
-      let t = arrays-held xs (pre ++ encodeArray w a) (p + length (encodeArray w a))
-      (e ∙ sym (append-assoc pre (encodeArray w a) (encodeArrays w xs))) m (omega arith) in
+      let h = array-held w s a pre (encodeArrays w xs) p e l f in
+      let t = arrays-held g (pre ++ encodeArray w a) (p + length (encodeArray w a))
+      (e ∙ sym (append-assoc pre (encodeArray w a) (encodeArrays w xs))) m in
       rw (h, t)
 
 -- what is read of s: where it lies, and the bytes that it holds
@@ -193,20 +204,20 @@ pub record UnitsRead (s : List ℕ) (o : Outcome (List Span)) (us : List (List �
 
 -- a list decoded after encoding: arrays that hold the same bytes
 module _ (xs : List (Array (List ℕ))) (fits : length (encode xs) ≤ 2 ^ 30) where
-  fits-width : length (encodeArrays 4 xs) < 256 ^ 4
+  short : Short 4 xs
   unfolding encode
-  fits-width = omega arith
+  short = short-all 4 xs (omega arith)
 
   pub held-encode : heldArrays (encode xs) (placedArrays 4 1 xs) ≡ xs
   unfolding encode
-  held-encode = arrays-held 4 (1 ∷ encodeArrays 4 xs) xs (1 ∷ []) 1 refl refl fits-width
+  held-encode = arrays-held 4 (1 ∷ encodeArrays 4 xs) short (1 ∷ []) 1 refl refl
 
   module _ (sound : Sound xs) where
     pub decode-encode : decode (encode xs) ≡ accept (placedArrays 4 1 xs)
     unfolding encode
     decode-encode =
         decode-arrays (1 ∷ encodeArrays 4 xs) fits refl
-        ∙ ap (outcomeOr 21) (arrays-written 4 (1 ∷ encodeArrays 4 xs) (omega arith) sound (1 ∷ []) 1 refl refl fits-width)
+        ∙ ap (outcomeOr 21) (arrays-written 4 (1 ∷ encodeArrays 4 xs) (omega arith) sound short (1 ∷ []) 1 refl refl)
 
     -- and so its units do
     pub units-encode : UnitsRead (encode xs) (listUnits (encode xs)) (unitsOf xs)

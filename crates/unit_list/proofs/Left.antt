@@ -39,7 +39,7 @@ pub list-versionless : (s : List ℕ) → length s ≤ 2 ^ 30 → (getD s 0 0 �
 list-versionless s l h = rw (decode-versionless s l h)
 
 -- a list of version 1 is its arrays
-pub decode-arrays : (s : List ℕ) → length s ≤ 2 ^ 30 → getD s 0 0 ≡ 1 → decode s ≡ arraysFrom s front
+pub decode-arrays : (s : List ℕ) → length s ≤ 2 ^ 30 → getD s 0 0 ≡ 1 → decode s ≡ arraysFrom s (front 4)
 unfolding decode unitList
 decode-arrays [] l h = absurd (omega arith)
 decode-arrays (b ∷ s) l h =
@@ -50,10 +50,10 @@ pub left-arrays : (s : List ℕ) (c : ListCursor) → c .at ≡ c .end → typed
 unfolding typedUnitsFrom typed
 left-arrays s c e =
     let l = length-take (c .end) s in
-    rw (run-nil (chunk 4) (take (c .end) s) (c .at) 21 (omega arith))
+    rw (run-nil (chunk (c .width)) (take (c .end) s) (c .at) 21 (omega arith))
 
-pub left-start : (s : List ℕ) → length s ≤ 2 ^ 30 → getD s 0 0 ≡ 1 → typedUnitsFrom s front ≡ typedList s
-left-start s l h = left-arrays s front refl ∙ rw (decode-arrays s l h)
+pub left-start : (s : List ℕ) → length s ≤ 2 ^ 30 → getD s 0 0 ≡ 1 → typedUnitsFrom s (front 4) ≡ typedList s
+left-start s l h = left-arrays s (front 4) refl ∙ rw (decode-arrays s l h)
 
 -- one array passed
 module _ (s : List ℕ) (c : ListCursor) (e : c .at ≡ c .end) where
@@ -78,10 +78,10 @@ module _ (s : List ℕ) (c : ListCursor) (e : c .at ≡ c .end) where
 
 -- one unit passed, in an array that has units left
 module _ (s : List ℕ) (c : ListCursor) where
-  left-unit : (a : Span) (d : ListCursor) → d .end ≡ c .end → d .«unit_type» ≡ c .«unit_type» → unitsStepped s (L.Unit a d) ≡ arrayUnitsFrom s c
-      → stepped s (L.Unit a d) ≡ typedUnitsFrom s c
+  left-unit : (a : Span) (d : ListCursor) → (d .end ≡ c .end) × (d .«unit_type» ≡ c .«unit_type») × (d .width ≡ c .width)
+      → unitsStepped s (L.Unit a d) ≡ arrayUnitsFrom s c → stepped s (L.Unit a d) ≡ typedUnitsFrom s c
   unfolding typedUnitsFrom typed
-  left-unit a d e t f = rw (← f, ← e, ← t) (go (arrayUnitsFrom s d) (arraysFrom s d))
+  left-unit a d same f = rw (← f, ← same .0, ← same .1, ← same .2) (go (arrayUnitsFrom s d) (arraysFrom s d))
     where
       go : (u : Outcome (List Span)) (o : Outcome (List (Array Span)))
           → more (record { unit = a; unitType = d .«unit_type» })
@@ -118,7 +118,7 @@ module _ (s : List ℕ) (c here : ListCursor) (inv : Fits s here × (typedUnitsF
   pub turn-unit : ((here .at ≡ here .end) → ⊥) → (r : ListStep) → (unitsStepped s r ≡ arrayUnitsFrom s here) × UnitStepFits s here r
       → (stepped s r ≡ typedUnitsFrom s c) × StepFits s c r
   turn-unit h (L.Unit a d) f = (
-    left-unit s here a d (f .1 .1) (f .1 .2) (f .0) ∙ inv .1,
+    left-unit s here a d (f .1 .1, f .1 .2, f .1 .3) (f .0) ∙ inv .1,
     record { start = omega (arith, f .1 .0 .start, inv .2); next = f .1 .0 .next; fits = f .1 .0 .fits },
   )
   turn-unit h L.End f = absurd (h (f .1))

@@ -1,4 +1,5 @@
 pub mod Arrays
+pub mod Lengths
 pub mod Left
 pub mod Steps
 pub mod Units

@@ -42,7 +42,7 @@ module _ (w : Wanted) (x : TypedUnit) where
 -- a turn of the walk: the unit found after a cursor, before those after it
 pub record ListTurn (list : List ℕ) (here : ListCursor) (a : Span) (next : ListCursor) : Type 0 where
   pub passed : Passed list here a next
-  pub ahead : here .at + 4 + a .len ≤ next .at
+  pub ahead : here .at + 2 + a .len ≤ next .at
   pub within : next .at ≤ length list
   pub inside : a .start + a .len ≤ length list
   pub typed : more (record { unit = a; unitType = next .«unit_type» }) (typedUnitsFrom list next) ≡ typedUnitsFrom list here

@@ -1,9 +1,10 @@
 -- The unit list (SCOPE 2; the original's `arrays`): the byte 01, then arrays. An array: a length of 4 bytes for all that follows in it,
 -- the complete byte (bit 0 complete, bit 1 the array's reserved bit, no other bits), type (0 to 63), then units, each after its length of 4 bytes.
 use Prim.Native.Nat.{ℕ, _+_, _*_, _/_, _%_}
-use mathlib.Core.Bool.{not}
+use mathlib.Core.Bool.{Bool, true, not, _&&_}
 use mathlib.Core.List.{List, [], _∷_, _++_, map}
-use lib.Dec.{eqb, ltb}
+use lib.Dec.{eqb, leb, ltb}
+use lib.ListN.{length}
 use Rattle.parse.specs.Logic.{if_then_else_}
 use Rattle.parse.specs.Outcome.{Outcome, lentInput}
 use Rattle.parse.specs.Parse.{Parser, _>>=_, _>>_, give, refuseIf, many, outcomeOr}
@@ -84,9 +85,13 @@ unfoldable pub encodeUnits : ℕ → List (List ℕ) → List ℕ
 encodeUnits w [] = []
 encodeUnits w (u ∷ us) = toChunk w u ++ encodeUnits w us
 
+-- what follows an array's length
+abbrev pub encodeRest : ℕ → Array (List ℕ) → List ℕ
+encodeRest w a = completeByte a ∷ a .unitType ∷ encodeUnits w (a .units)
+
 -- an array after its length
 unfoldable pub encodeArray : ℕ → Array (List ℕ) → List ℕ
-encodeArray w a = toChunk w (completeByte a ∷ a .unitType ∷ encodeUnits w (a .units))
+encodeArray w a = toChunk w (encodeRest w a)
 
 unfoldable pub encodeArrays : ℕ → List (Array (List ℕ)) → List ℕ
 encodeArrays w [] = []
@@ -95,3 +100,13 @@ encodeArrays w (a ∷ xs) = encodeArray w a ++ encodeArrays w xs
 -- a list: the version, then the arrays
 unfoldable pub encode : List (Array (List ℕ)) → List ℕ
 encode xs = 1 ∷ encodeArrays listWidth xs
+
+-- every unit has at most 65,535 bytes, so that two bytes hold its length
+unfoldable pub unitsFit : List (List ℕ) → Bool
+unitsFit [] = true
+unitsFit (u ∷ us) = leb (length u) 65535 && unitsFit us
+
+-- no length, an array's or a unit's, is above 65,535 where lengths have w bytes
+unfoldable pub lengthsFit : ℕ → List (Array (List ℕ)) → Bool
+lengthsFit w [] = true
+lengthsFit w (a ∷ xs) = (leb (length (encodeRest w a)) 65535 && unitsFit (a .units)) && lengthsFit w xs

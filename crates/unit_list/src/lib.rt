@@ -1,5 +1,6 @@
 // The unit list (SCOPE 2): counts and finds its units, all of them or those of a type; the walk over a list, and the writing of one.
 pub mod find;
+pub mod length;
 pub mod walk;
 pub mod write;
 
@@ -20,11 +21,12 @@ ghost use Rattle.unit_list.specs.Answers.{listUnits, listUnitsOfType};
 pub const LARGEST_TYPE: u8 = 63;
 
 // Where a walk over a list is: from place `at` on come the units that are left of the array that ends at `end` and has type `unit_type`; from
-// `end` on come the next arrays.
+// `end` on come the next arrays. Lengths have `width` bytes.
 pub struct ListCursor {
     pub at: usize,
     pub end: usize,
     pub unit_type: u8,
+    pub width: usize,
 }
 
 // Where a walk over a list starts, or the refusal.

@@ -5,6 +5,7 @@ use super::LARGEST_TYPE;
 use super::ListCursor;
 use super::ListStart;
 use super::ListStep;
+use super::length;
 use boxes::Span;
 use boxes::place;
 use error::LARGEST_INPUT;
@@ -52,6 +53,7 @@ pub fn start(list: &[u8]) -> ListStart
         at: 1,
         end: 1,
         unit_type: 0,
+        width: 4,
     })
 }
 
@@ -60,16 +62,20 @@ pub fn array_step(list: &[u8], c: ListCursor) -> ArrayStep
     requires { ⌜ Fits (now list) c ⌝ }
     ensures { λ r. ⌜ (arraysStepped (now (list .entry)) r ≡ arraysFrom (now (list .entry)) c) × ArrayStepFits (now (list .entry)) c r ⌝ }
 {
-    if c.end == list.len() {
-        return ArrayStep::End;
-    }
-    let ChunkRead::Bytes(rest) = chunk(list, c.end, list.len(), 4) else {
-        return ArrayStep::Malformed;
-    };
-    if rest.len < 2 {
+    let from = c.end + c.width;
+    if list.len() < from + 2 {
+        if c.end == list.len() {
+            return ArrayStep::End;
+        }
         return ArrayStep::Malformed;
     }
-    let from = rest.start;
+    let end = from + length::of_array(list, c.end, from, c.width);
+    if end < from + 2 {
+        return ArrayStep::Malformed;
+    }
+    if list.len() < end {
+        return ArrayStep::Malformed;
+    }
     let complete = list[from];
     let unit_type = list[from + 1];
     if 3 < complete {
@@ -78,11 +84,15 @@ pub fn array_step(list: &[u8], c: ListCursor) -> ArrayStep
     if LARGEST_TYPE < unit_type {
         return ArrayStep::Malformed;
     }
-    let mut first = c;
-    first.at = from + 2;
-    first.end = from + rest.len;
-    first.unit_type = unit_type;
-    ArrayStep::Array(complete, first)
+    ArrayStep::Array(
+        complete,
+        ListCursor {
+            at: from + 2,
+            end: end,
+            unit_type: unit_type,
+            width: c.width,
+        },
+    )
 }
 
 // The unit at a cursor, before its array's end.
@@ -93,12 +103,28 @@ pub fn unit_step(list: &[u8], c: ListCursor) -> ListStep
     if c.at == c.end {
         return ListStep::End;
     }
-    let ChunkRead::Bytes(a) = chunk(list, c.at, c.end, 4) else {
+    let from = c.at + c.width;
+    if c.end < from {
         return ListStep::Malformed;
+    }
+    let len = length::of_unit(list, c.at, from, c.width);
+    let end = from + len;
+    if c.end < end {
+        return ListStep::Malformed;
+    }
+    let next = ListCursor {
+        at: end,
+        end: c.end,
+        unit_type: c.unit_type,
+        width: c.width,
     };
-    let mut next = c;
-    next.at = a.start + a.len;
-    ListStep::Unit(a, next)
+    ListStep::Unit(
+        Span {
+            start: from,
+            len: len,
+        },
+        next,
+    )
 }
 
 // The next unit after a cursor; arrays without units left are passed over.

@@ -9,14 +9,21 @@ ghost use lib.Seq.{sets};
 ghost use Rattle.boxes.specs.Bytes.{toBe, toChunk};
 ghost use Rattle.boxes.specs.Parts.{held};
 
-// Stores what comes before an array's units: the number of bytes after the length, the complete byte, the type.
-pub fn put_array_head(out: &mut [u8], at: usize, rest: usize, complete: u8, unit_type: u8)
-    requires { ⌜ at + 6 ≤ length (now out) ⌝ }
-    ensures { λ _. ⌜ now (out .exit) ≡ sets (now (out .entry)) at (toBe 4 rest ++ (complete ∷ «unit_type» ∷ [])) ⌝ }
+// Stores what comes before an array's units: the number of bytes after the length, which has `width` bytes, the complete byte, the type.
+pub fn put_array_head(
+    out: &mut [u8],
+    at: usize,
+    width: usize,
+    rest: usize,
+    complete: u8,
+    unit_type: u8,
+)
+    requires { ⌜ (width ≤ 4) × (at + width + 2 ≤ length (now out)) ⌝ }
+    ensures { λ _. ⌜ now (out .exit) ≡ sets (now (out .entry)) at (toBe width rest ++ (complete ∷ «unit_type» ∷ [])) ⌝ }
 {
-    place::put_number(out, at, 4, rest);
-    place::put(out, at + 4, complete);
-    place::put(out, at + 5, unit_type);
+    place::put_number(out, at, width, rest);
+    place::put(out, at + width, complete);
+    place::put(out, at + width + 1, unit_type);
 }
 
 // Stores a unit after its length of `width` bytes.

@@ -34,10 +34,10 @@ pub record Readable (s : List ℕ) (c : ListCursor) : Type 0 where
   pub spans : List Span
   pub left : unitsLeft s c ≡ accept spans
 
--- a walk at place p with the units `left` to come finds u and continues at place q with `rest`; at least three bytes lie between p and u
+-- a walk at place p with the units `left` to come finds u and continues at place q with `rest`; at least two bytes lie between p and u
 pub record Turn (left : List (List ℕ)) (p : ℕ) (u : List ℕ) (rest : List (List ℕ)) (q : ℕ) : Type 0 where
   pub units : left ≡ u ∷ rest
-  pub ahead : p + 3 + length u ≤ q
+  pub ahead : p + 2 + length u ≤ q
 
 -- a step from c to d over the unit at span a, whose type is t
 pub record UnitStepped (s : List ℕ) (c : ListCursor) (a : Span) (t : ℕ) (d : ListCursor) : Type 0 where

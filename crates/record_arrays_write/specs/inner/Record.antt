@@ -18,7 +18,7 @@ use Rattle.unit_list.specs.inner.Walk.{arraysFrom, Fits}
 use Rattle.unit_list.specs.declared.ListCursor.{ListCursor}
 use Rattle.record_arrays.specs.Write.{arraysBytes, arraysFit}
 use Rattle.record_arrays.specs.declared.Codec.{Codec}
-use Rattle.record_arrays_write.specs.declared.measure.Measure.{Measure}
+use Rattle.list_arrays.specs.declared.measure.Measure.{Measure}
 use Rattle.record_arrays_write.specs.declared.record.HeadSize.{HeadSize}
 use Rattle.record_arrays_write.specs.declared.record.HeadSize.the-variants as H
 use Rattle.record_arrays_write.specs.declared.record.RecordLayout.{RecordLayout}

@@ -35,7 +35,7 @@ add-put-array-head c = let h = room-at (c .before .before .before .before .befor
 put-array-head-requires : tie.Need-put-array-head-requires
 put-array-head-requires c κs =
     let p = c .before .before .before in
-    let h = room-at (start p) in let k = p .put .kept .0 in omega arith
+    let h = room-at (start p) in let k = p .put .kept .0 in (omega arith, omega arith)
 
 put-units-requires : tie.Need-put-units-requires
 put-units-requires c κs =

@@ -31,7 +31,7 @@ put-array-head-requires c κs =
     let a = c .before .before .before .before .before .before .before .args in
     let us = unitsAt (a .list .now) (a .c) in
     let l = ap length (c .before .before .before .put-group-units .ensures .1) ∙ length-sets (a .out .now) (a .at + 6) (groupBytes us (a .t)) in
-    omega (arith, array-long us (a .t), c .before .before .before .before .before .before .before .pre .1)
+    (omega arith, omega (arith, array-long us (a .t), c .before .before .before .before .before .before .before .pre .1))
 
 same-length : tie.Need-same-length
 same-length c = search needs

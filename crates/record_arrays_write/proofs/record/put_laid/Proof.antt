@@ -34,6 +34,7 @@ put-arrays-requires c κs =
     let e = long-enough p in
     let b = start e in
     let a = b .args in (
+      omega arith,
       b .pre .fits,
       arrays-put (a .codec) (a .list .now) (a .l) (a .out .now) (e .if1 .left) _ (p .put .ensures) (b .pre),
     )

@@ -1,7 +1,8 @@
 -- `walk::start` returns the cursor after the version of a list, before all its units.
 use Prim.Native.Nat.{ℕ, _≤_}
-use mathlib.Core.Path.{_≡_, sym, _∙_}
+use mathlib.Core.Path.{_≡_, refl, sym, _∙_}
 use mathlib.Core.List.{List, [], _∷_}
+use mathlib.Core.Logic.{inr}
 use native.Mathlib.Omega.{arith}
 use lib.ListN.{length, getD}
 use borrow.Author.Needs.{needs}
@@ -32,7 +33,7 @@ returns-3 : tie.Need-returns-3
 returns-3 c =
     let s : List ℕ = c .before .before .before .before .args .list .now in
     let e : getD s 0 0 ≡ 1 = sym (c .before .byte .ensures) ∙ c .if2 .left in
-    (left-start s (omega arith) e, sym (decode-arrays s (omega arith) e), record { before = omega arith; within = has-byte s e; lent = omega arith })
+    (left-start s (omega arith) e, sym (decode-arrays s (omega arith) e), record { before = omega arith; within = has-byte s e; lent = omega arith; width = inr refl })
 
 pub start-spec : {M : Type 1} → statement M
 start-spec = tie.close (tie.spec returns byte-requires returns-2 returns-3)

@@ -16,6 +16,9 @@ put-requires c κs = search needs
 add-put-2 : tie.Need-add-put-2
 add-put-2 c = search needs
 
+add-put-3 : tie.Need-add-put-3
+add-put-3 c = search needs
+
 put-requires-2 : tie.Need-put-requires-2
 put-requires-2 c κs = search needs
 
@@ -28,7 +31,7 @@ returns c =
     let x = y .before .before .before .before in
     let n = x .before .before .before .before in
     let a = n .before .before .before .args in
-    head-written (a .out .now) (n .put-number .last .0) (x .put .last .0) (y .put2 .last .0) (a .at) (a .rest) (a .complete) (a .unit-type)
+    head-written (a .out .now) (n .put-number .last .0) (x .put .last .0) (y .put2 .last .0) (a .at) (a .width) (a .rest) (a .complete) (a .unit-type)
     (n .put-number .ensures) (x .put .ensures) (y .put2 .ensures)
 
 pub put-array-head-spec : {M : Type 1} → statement M
@@ -39,6 +42,7 @@ put-array-head-spec =
     add-put
     put-requires
     add-put-2
+    add-put-3
     put-requires-2
     same-length
     returns)

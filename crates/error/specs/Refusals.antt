@@ -32,3 +32,4 @@ numberOf R.ReservedBit = 25
 numberOf R.ArrayType = 26
 numberOf R.ConfigurationVersion = 27
 numberOf R.DirectoryTooShort = 28
+numberOf R.TooLongToNarrow = 29

@@ -63,6 +63,8 @@ pub enum Refusal {
     ConfigurationVersion = 27,
     // a directory is shorter than the number of units (SCOPE 4.12)
     DirectoryTooShort = 28,
+    // a length of a unit list, an array's or a unit's, is above 65,535 as narrowed (SCOPE 4.13)
+    TooLongToNarrow = 29,
 }
 
 // The number of a refusal.

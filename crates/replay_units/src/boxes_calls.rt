@@ -22,7 +22,7 @@ fn low_refusal(n: u8) -> Refusal {
     }
 }
 
-// The refusal with number n above 12; any other n is taken as 28.
+// The refusal with number n above 12; any other n is taken as 29.
 fn high_refusal(n: u8) -> Refusal {
     match n {
         13 => Refusal::Subpictures,
@@ -40,7 +40,8 @@ fn high_refusal(n: u8) -> Refusal {
         25 => Refusal::ReservedBit,
         26 => Refusal::ArrayType,
         27 => Refusal::ConfigurationVersion,
-        _ => Refusal::DirectoryTooShort,
+        28 => Refusal::DirectoryTooShort,
+        _ => Refusal::TooLongToNarrow,
     }
 }
 

@@ -38,6 +38,9 @@ fn words(e: Refusal) {
         ),
         Refusal::ConfigurationVersion => say::text(b"the first byte of an HEVC record is not 1"),
         Refusal::DirectoryTooShort => say::text(b"a directory is shorter than the number of units"),
+        Refusal::TooLongToNarrow => say::text(
+            b"a length of the unit list is above 65,535 as narrowed",
+        ),
     }
 }
 

@@ -51,6 +51,7 @@ stands c =
     or (λ w. said refl (lit< tt) (w .2) (w .1 .given .1))  -- ArrayType
     or (λ w. said refl (lit< tt) (w .2) (w .1 .given .1))  -- ConfigurationVersion
     or (λ w. said refl (lit< tt) (w .2) (w .1 .given .1))  -- DirectoryTooShort
+    or (λ w. said refl (lit< tt) (w .2) (w .1 .given .1))  -- TooLongToNarrow
     ) (c .match .came)
 
 cast-result : tie.Need-cast-result
@@ -93,5 +94,6 @@ number-spec =
     (λ c. search needs)  -- ArrayType
     (λ c. search needs)  -- ConfigurationVersion
     (λ c. search needs)  -- DirectoryTooShort
+    (λ c. search needs)  -- TooLongToNarrow
     cast-result
     returns)

@@ -10,9 +10,10 @@ use borrow.Author.Tests.{leb-true}
 use Rattle.parse.specs.Logic.{if_then_else_}
 use Rattle.parse.proofs.General.{both-true}
 use Rattle.boxes.specs.Bytes.{outside}
-use Rattle.unit_list.specs.UnitList.{Array, encode}
+use Rattle.unit_list.specs.UnitList.{Array}
 use Rattle.ptl_record.proofs.Writing.{info-long, part-few, fitting, length-front, length-ptl}
 use Rattle.record_arrays.specs.declared.Codec.the-variants.{Vvc}
+use Rattle.record_arrays.proofs.RecordLength.{Listed}
 use Rattle.record_arrays.proofs.RecordRead.{headed-lent}
 use Rattle.full.specs.Write.{ptlPart, headBytes, ptlPartFits, headFits, fullBytes, recordFits}
 use Rattle.full.specs.RoundTrip.{Typed}
@@ -35,7 +36,7 @@ head-short h t e =
         omega (arith, length-part h, length-front p, info-long p (t .info) (g .info), part-few p (h .«num_sublayers») (s .sublayers))
 
 -- a record written from a list of at most 2^30 bytes has at most 2^30 bytes
-pub record-lent : (h : VvcConfig) → Typed h → (xs : List (Array (List ℕ))) → recordFits h xs ≡ true → length (encode xs) ≤ 2 ^ 30
+pub record-lent : (h : VvcConfig) → Typed h → (xs : List (Array (List ℕ))) → recordFits h xs ≡ true → Listed xs
     → length (fullBytes h xs) ≤ 2 ^ 30
 unfolding recordFits fullBytes
 record-lent h t xs e l =

@@ -9,9 +9,9 @@ use lib.ListN.{length}
 use Rattle.parse.specs.Logic.{if_then_else_}
 use Rattle.parse.specs.Outcome.{Outcome, accept, refuse, andThen}
 use Rattle.boxes.specs.declared.Span.{Span}
-use Rattle.unit_list.specs.UnitList.{Array, decode, heldArrays, encode}
-use Rattle.unit_list.proofs.Accepted.{accepted}
-use Rattle.unit_list.proofs.Decoded.{encode-decode, sound-decode}
+use Rattle.unit_list.specs.UnitList.{Array, decode, heldArrays}
+use Rattle.unit_list.proofs.Decoded.{sound-decode}
+use Rattle.record_arrays.proofs.RecordLength.{Listed, listed, wide-is}
 use Rattle.full.specs.Read.{parseFull}
 use Rattle.full.specs.Write.{fullBytes, recordFits, writeFull, serializeFull}
 use Rattle.full.specs.RoundTrip.{Typed, headRead, ReadAfterSerialize}
@@ -21,7 +21,7 @@ use Rattle.full.proofs.RecordRoundTrip.{read-after-write}
 
 -- a record written from a list of at most 2^30 bytes has at most 2^30 bytes
 written-lent : (h : VvcConfig) → Typed h → (xs : List (Array (List ℕ))) (b : List ℕ) → writeFull h xs ≡ accept b
-    → length (encode xs) ≤ 2 ^ 30 → length b ≤ 2 ^ 30
+    → Listed xs → length b ≤ 2 ^ 30
 unfolding writeFull
 written-lent h t xs b e l = go (eqb (h .«length_size») 3) (recordFits h xs) refl e
   where
@@ -33,12 +33,12 @@ written-lent h t xs b e l = go (eqb (h .«length_size») 3) (recordFits h xs) re
 
 pub read-after-serialize : ReadAfterSerialize
 unfolding serializeFull
-read-after-serialize h t list all b e = go (decode list) refl e
+read-after-serialize h t list all b e wide v = go (decode list) refl e
   where
     go : (o : Outcome (List (Array Span))) → decode list ≡ o → andThen o (λ xs. writeFull h (heldArrays list xs)) ≡ accept b
-        → parseFull b ≡ accept (record { head = headRead h; consumed = length b; listLength = length list }, list)
+        → parseFull b ≡ accept (record { head = headRead h; consumed = length b; listLength = length wide }, wide)
     go (refuse n) d f = let z : _≡_ {A = ℕ} 0 1 = cc in absurd (omega arith)
     go (accept xs) d f =
-        let same = encode-decode list all xs d in
-        let lent = written-lent h t (heldArrays list xs) b f (rw same (accepted list xs d .lent)) in
+        let same = wide-is list xs d wide v in
+        let lent = written-lent h t (heldArrays list xs) b f (listed list all xs d) in
         rw same at (read-after-write h t (heldArrays list xs) (sound-decode list xs d) b f lent)

@@ -6,6 +6,7 @@ use mathlib.Core.List.{List}
 use lib.ListN.{length, getD}
 use Rattle.parse.specs.Outcome.{accept}
 use Rattle.boxes.specs.Bytes.{AllBytes}
+use Rattle.unit_list.specs.UnitList.{inVersion}
 use Rattle.ptl.specs.declared.VvcPtlRecord.{VvcPtlRecord}
 use Rattle.ptl_record.specs.AsWritten.{asWritten}
 use Rattle.full.specs.Read.{plainHead, parseFull}
@@ -58,9 +59,11 @@ readBack false h q = plainHead (h .«length_size»)
 abbrev pub headRead : VvcConfig → VvcConfig
 headRead h = readBack (h .«ptl_present_flag») h (asWritten (h .«native_ptl») (h .«num_sublayers»))
 
--- The claim, proved in proofs/Serialized.antt: when `serialize` accepts a head and a list of bytes, `parse` of the result returns the same list and
--- the head `headRead h`, and consumes all bytes. No record that is written is longer than 2^30 bytes, so 23 cannot occur.
+-- The claim, proved in proofs/Serialized.antt: when `serialize` accepts a head and a list of bytes, `parse` of the result returns the list in version
+-- 01, which for a list of version 01 is the list itself (unit_list's `version-kept`), and the head `headRead h`, and consumes all bytes. No record
+-- that is written is longer than 2^30 bytes, so 23 cannot occur.
 abbrev pub ReadAfterSerialize : Type 0
 ReadAfterSerialize =
     (h : VvcConfig) → Typed h → (list : List ℕ) → AllBytes list → (b : List ℕ) → serializeFull h list ≡ accept b
-    → parseFull b ≡ accept (record { head = headRead h; consumed = length b; listLength = length list }, list)
+    → (wide : List ℕ) → inVersion 1 list ≡ accept wide
+    → parseFull b ≡ accept (record { head = headRead h; consumed = length b; listLength = length wide }, wide)

@@ -13,11 +13,11 @@ use Rattle.parse.specs.Parse.{value}
 use Rattle.parse.proofs.General.{both-true}
 use Rattle.boxes.specs.declared.Span.{Span}
 use Rattle.unit_list.specs.UnitList.{Array, decode, heldArrays, encode}
-use Rattle.unit_list.proofs.Accepted.{accepted}
 use Rattle.unit_list.proofs.Arrays.{Sound}
-use Rattle.unit_list.proofs.Decoded.{encode-decode, sound-decode}
+use Rattle.unit_list.proofs.Decoded.{sound-decode}
 use Rattle.record_arrays.specs.Write.{arraysBytes, arraysFit}
 use Rattle.record_arrays.specs.declared.Codec.the-variants.{Hevc}
+use Rattle.record_arrays.proofs.RecordLength.{Listed, listed, wide-is}
 use Rattle.record_arrays.proofs.RecordRead.{headedBytes, from-head, headed-lent, headed-read, headed-held}
 use Rattle.hvcc.specs.Read.{hevcHead, hevcRecord, parseHevc}
 use Rattle.hvcc.specs.Write.{hevcHeadBytes, hevcHeadFits, hevcBytes, hevcFits, writeHevc, serializeHevc}
@@ -27,7 +27,7 @@ use Rattle.hvcc.proofs.HeadRoundTrip.{small, length-head, head-read}
 
 -- a head and arrays that fit, written and read
 module _ (h : HevcConfig) (t : Typed h) (xs : List (Array (List ℕ))) (sound : Sound xs) (fits : hevcFits h xs ≡ true)
-    (lent : length (encode xs) ≤ 2 ^ 30) where
+    (lent : Listed xs) where
   -- the head fits, there are at most 255 arrays, and they fit
   parts-fit : (hevcHeadFits h ≡ true) × (length xs ≤ 255) × (arraysFit Hevc xs ≡ true)
   unfolding hevcFits
@@ -54,7 +54,7 @@ module _ (h : HevcConfig) (t : Typed h) (xs : List (Array (List ℕ))) (sound : 
   )
 
 -- every head and arrays that are accepted
-read-after-write : (h : HevcConfig) → Typed h → (xs : List (Array (List ℕ))) → Sound xs → length (encode xs) ≤ 2 ^ 30
+read-after-write : (h : HevcConfig) → Typed h → (xs : List (Array (List ℕ))) → Sound xs → Listed xs
     → (b : List ℕ) → writeHevc h xs ≡ accept b
     → parseHevc b ≡ accept (record { head = h; consumed = length b; listLength = length (encode xs) }, encode xs)
 unfolding writeHevc
@@ -68,11 +68,11 @@ read-after-write h t xs sound lent b e = go (hevcFits h xs) refl e
 -- every head and list that `serialize` accepts
 pub hevc-read-after-serialize : HevcReadAfterSerialize
 unfolding serializeHevc
-hevc-read-after-serialize h t list all b e = go (decode list) refl e
+hevc-read-after-serialize h t list all b e wide v = go (decode list) refl e
   where
     go : (o : Outcome (List (Array Span))) → decode list ≡ o → andThen o (λ xs. writeHevc h (heldArrays list xs)) ≡ accept b
-        → parseHevc b ≡ accept (record { head = h; consumed = length b; listLength = length list }, list)
+        → parseHevc b ≡ accept (record { head = h; consumed = length b; listLength = length wide }, wide)
     go (refuse n) d f = let z : _≡_ {A = ℕ} 0 1 = cc in absurd (omega arith)
     go (accept xs) d f =
-        let same = encode-decode list all xs d in
-        rw same at (read-after-write h t (heldArrays list xs) (sound-decode list xs d) (rw same (accepted list xs d .lent)) b f)
+        let same = wide-is list xs d wide v in
+        rw same at (read-after-write h t (heldArrays list xs) (sound-decode list xs d) (listed list all xs d) b f)

@@ -2,21 +2,47 @@
 use Prim.Native.Nat.{ℕ, suc, _+_, _*_, _^_, _≤_}
 use native.Mathlib.Omega.{arith}
 use native.Mathlib.Decide.{decLe}
-use mathlib.Core.Path.{_≡_, refl}
+use mathlib.Core.Path.{_≡_, refl, ap}
 use mathlib.Core.Bool.{Bool, true, false}
 use mathlib.Core.List.{List, [], _∷_, _++_}
+use mathlib.Core.Logic.{_⊎_, ⊎-elim, inl, inr}
 use lib.Dec.{leb}
 use lib.ListN.{length, length-append}
 use borrow.Author.Tests.{leb-true}
 use Rattle.parse.specs.Logic.{if_then_else_}
+use Rattle.parse.specs.Outcome.{accept}
 use Rattle.parse.proofs.General.{both-true}
-use Rattle.boxes.specs.Bytes.{toBe, toChunk}
+use Rattle.boxes.specs.Bytes.{toBe, toChunk, AllBytes}
+use Rattle.boxes.specs.declared.Span.{Span}
 use Rattle.boxes.proofs.Numbers.{length-toBe}
-use Rattle.unit_list.specs.UnitList.{Array, unitsOf, encodeUnits, encodeArray, encodeArrays, encode, unitsFit}
-use Rattle.unit_list.proofs.Encode.{length-toChunk, length-array}
+use Rattle.unit_list.specs.UnitList.{Array, decode, unitsOf, heldArrays, encodeUnits, encodeArray, encodeArrays, encodeAs, encode}
+use Rattle.unit_list.specs.UnitList.{inVersion, unitsFit}
+use Rattle.unit_list.proofs.Encode.{length-toChunk, length-array, Short, short-none, short-more}
+use Rattle.unit_list.proofs.Accepted.{accepted}
+use Rattle.unit_list.proofs.Decoded.{encode-decode, short-decode}
 use Rattle.record_arrays.specs.Read.{holdsOne}
 use Rattle.record_arrays.specs.Write.{arrayBytes, arraysBytes, arrayFits, arraysFit}
 use Rattle.record_arrays.specs.declared.Codec.{Codec}
+
+-- arrays that a list of at most 2^30 bytes has: in version 01 the list says how long they are, in version 02 each is short
+abbrev pub Listed : List (Array (List ℕ)) → Type 0
+Listed xs = (length (encode xs) ≤ 2 ^ 30) ⊎ Short 2 xs
+
+pub listed : (s : List ℕ) → AllBytes s → (xs : List (Array Span)) → decode s ≡ accept xs → Listed (heldArrays s xs)
+unfolding encode
+listed s all xs e =
+    ⊎-elim
+    (λ v.
+    let same : encodeAs 1 (heldArrays s xs) ≡ s = rw v at (encode-decode s all xs e) in
+    inl (omega (arith, ap length same, accepted s xs e .lent)))
+    (λ v. inr (rw v at (short-decode s all xs e)))
+    (accepted s xs e .version)
+
+-- the list of version 01 with the arrays of a list
+pub wide-is : (s : List ℕ) (xs : List (Array Span)) → decode s ≡ accept xs → (wide : List ℕ) → inVersion 1 s ≡ accept wide
+    → encode (heldArrays s xs) ≡ wide
+unfolding encode
+wide-is s xs d wide v = let w : accept (encodeAs 1 (heldArrays s xs)) ≡ accept wide = rw d at v in cc
 
 -- units after lengths of 2 bytes compared with the same after lengths of 4
 units-room : (us : List (List ℕ)) → unitsFit us ≡ true
@@ -67,12 +93,23 @@ module _ (k : Codec) where
       let z = length-append (a .units) (unitsOf xs) in
       record { most = omega (arith, r .most); less = omega (arith, r .less) }
 
-  -- A record of a head of n bytes and at most 255 arrays, written from a list of at most 2^30 bytes, has at most 2^30 bytes: from 552 units on it is
-  -- no longer than the list, and with fewer it is far shorter.
-  pub arrays-lent : (n : ℕ) (xs : List (Array (List ℕ))) → n ≤ 1104 → length xs ≤ 255 → arraysFit k xs ≡ true → length (encode xs) ≤ 2 ^ 30
+  -- arrays whose lengths have room in two bytes are short in the record, too
+  short-room : {xs : List (Array (List ℕ))} → Short 2 xs → length (arraysBytes k xs) ≤ 65536 * length xs
+  unfolding arraysBytes
+  short-room short-none = omega arith
+  short-room (short-more {a = a} {xs = xs} f g) =
+      let r = short-room g in
+      let l = array-long a in
+      let x = length-append (arrayBytes k a) (arraysBytes k xs) in
+      omega arith
+
+  -- A record of a head of n bytes and at most 255 arrays, written from a list of at most 2^30 bytes, has at most 2^30 bytes. Written from version 01:
+  -- from 552 units on it is no longer than the list, and with fewer it is far shorter. Written from version 02 it is far shorter.
+  pub arrays-lent : (n : ℕ) (xs : List (Array (List ℕ))) → n ≤ 1104 → length xs ≤ 255 → arraysFit k xs ≡ true → Listed xs
       → n + 1 + length (arraysBytes k xs) ≤ 2 ^ 30
   unfolding encode
-  arrays-lent n xs h f e l =
+  arrays-lent n xs h f e (inr short) = omega (arith, short-room short)
+  arrays-lent n xs h f e (inl l) =
       let r = arrays-room xs e in
       elim (decLe 552 (length (unitsOf xs))) [
         | yes m ↦ omega (arith, r .less)

@@ -6,13 +6,13 @@ use mathlib.Core.Bool.{true}
 use mathlib.Core.List.{List, [], _∷_, _++_, append-nil, append-assoc}
 use lib.ListN.{length, length-append}
 use Rattle.parse.specs.Parse.{value, Parser}
-use Rattle.unit_list.specs.UnitList.{Array, heldArrays, encode}
+use Rattle.unit_list.specs.UnitList.{Array, heldArrays}
 use Rattle.unit_list.proofs.Arrays.{Sound}
 use Rattle.record_arrays.specs.Write.{arraysBytes, arraysFit}
 use Rattle.record_arrays.specs.inner.Records.{recordWith}
 use Rattle.record_arrays.specs.declared.Codec.{Codec}
 use Rattle.record_arrays.proofs.ArraysRoundTrip.{allPlacedInRecord, arrays-read, arrays-held, byte-there}
-use Rattle.record_arrays.proofs.RecordLength.{arrays-lent}
+use Rattle.record_arrays.proofs.RecordLength.{Listed, arrays-lent}
 
 -- the bytes of a head, of the number of arrays and of the arrays
 abbrev pub headedBytes : Codec → List ℕ → List (Array (List ℕ)) → List ℕ
@@ -33,7 +33,7 @@ module _ (k : Codec) (b : List ℕ) (xs : List (Array (List ℕ))) where
   from-arrays = ap (λ (x : List ℕ). (b ++ (length xs ∷ [])) ++ x) (sym (append-nil (arraysBytes k xs)))
 
   -- a record of at most 255 arrays, written from a list of at most 2^30 bytes, has at most 2^30 bytes
-  pub headed-lent : length b ≤ 1104 → length xs ≤ 255 → arraysFit k xs ≡ true → length (encode xs) ≤ 2 ^ 30 → length (headedBytes k b xs) ≤ 2 ^ 30
+  pub headed-lent : length b ≤ 1104 → length xs ≤ 255 → arraysFit k xs ≡ true → Listed xs → length (headedBytes k b xs) ≤ 2 ^ 30
   headed-lent h f e l = omega (arith, length-headed, arrays-lent k (length b) xs h f e l)
 
   module _ (sound : Sound xs) (fits : arraysFit k xs ≡ true) where

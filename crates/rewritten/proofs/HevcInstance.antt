@@ -7,10 +7,10 @@ use mathlib.Core.List.{List, [], _∷_, _++_}
 use native.Mathlib.Omega.{arith}
 use lib.ListN.{length, set, take}
 use Rattle.parse.specs.Outcome.{Outcome, accept, refuse}
-use Rattle.parse.specs.Parse.{times}
-use Rattle.boxes.specs.Bytes.{be, toBe, uint, bytes, chunk, toChunk, AllBytes}
+use Rattle.parse.specs.Parse.{times, many, manyUpTo}
+use Rattle.boxes.specs.Bytes.{be, toBe, uint, bytes, chunk, toChunk, inside, AllBytes}
 use Rattle.boxes.proofs.AllBytes.{allBytes, bytes-of}
-use Rattle.unit_list.specs.UnitList.{encodeUnits, encodeArray, encodeArrays, encode}
+use Rattle.unit_list.specs.UnitList.{arrayRest, array, unitList, decode, encodeUnits, encodeArray, encodeArrays, encode, inVersion}
 use Rattle.record_arrays.specs.Read.{recordArray}
 use Rattle.hvcc.specs.Read.{HevcParsed, hevcHead, hevcRecord, parseHevc}
 use Rattle.hvcc.specs.Write.{serializeHevc}
@@ -115,7 +115,11 @@ list-bytes : AllBytes instanceList
 unfolding allBytes
 list-bytes = bytes-of instanceList refl
 
+list-wide : inVersion 1 instanceList ≡ accept instanceList
+unfolding many manyUpTo be toBe uint bytes chunk toChunk inside arrayRest array unitList decode encodeUnits encodeArray encodeArrays
+list-wide = refl
+
 pub hevc-instance-read : parseHevc instanceRecord ≡ accept (instanceRead, instanceList)
 hevc-instance-read =
     hevc-read-after-serialize instanceHead (record { compatibility = omega arith; level = omega arith; rate = omega arith }) instanceList list-bytes
-    instanceRecord hevc-instance-rewritten
+    instanceRecord hevc-instance-rewritten instanceList list-wide

@@ -1,26 +1,26 @@
 -- A list encoded after decoding: where a list of bytes decodes, its arrays written again are the list itself.
-use Prim.Native.Nat.{ℕ, zero, suc, _+_, _*_, _/_, _%_, _≤_, _<_}
+use Prim.Native.Nat.{ℕ, zero, suc, _+_, _*_, _/_, _%_, _^_, _≤_, _<_}
 use mathlib.Core.Path.{_≡_, refl, sym, ap, _∙_}
 use mathlib.Core.Bool.{Bool, true, false}
-use mathlib.Core.List.{List, [], _∷_, _++_, map, append-assoc}
+use mathlib.Core.List.{List, _∷_, _++_, map, append-assoc}
 use native.Mathlib.Omega.{arith}
-use native.Mathlib.Decide.{decLe, ℕ-discrete}
+use native.Mathlib.Decide.{decLe}
 use native.Mathlib.Numerals.{add-one}
 use lib.Dec.{ltb}
 use lib.ListN.{length, getD, take, drop, length-append, length-drop, take-append-drop, drop-of-length-le}
 use lib.Seq.{take-suc, drop-cons, drop-drop, getD-drop, getD-take, length-take-le}
 use Rattle.parse.specs.Logic.{if_then_else_}
 use Rattle.parse.specs.Outcome.{accept}
-use Rattle.parse.specs.Parse.{Parsed, value, refused, bind, give, refusing, many, outcomeOr}
+use Rattle.parse.specs.Parse.{Parsed, value, refused, bind, give, refusing, many}
 use Rattle.boxes.specs.Bytes.{be, toBe, uint, chunk, toChunk, inside, AllBytes}
 use Rattle.boxes.specs.Parts.{held}
 use Rattle.boxes.specs.declared.Span.{Span}
-use Rattle.boxes.proofs.Numbers.{be-take, be-one}
+use Rattle.boxes.proofs.Numbers.{be-take, be-one, be-below}
 use Rattle.boxes.proofs.Fields.{uint-there, uint-short, chunk-read, chunk-advances}
-use Rattle.unit_list.specs.UnitList.{Array, array, arrayRest, arrayWith, completeByte, largestType, decode, heldArray}
-use Rattle.unit_list.specs.UnitList.{heldArrays, encodeUnits, encodeArray, encodeArrays, encode}
+use Rattle.unit_list.specs.UnitList.{Array, array, arrayRest, arrayWith, completeByte, largestType, lengthWidth, decode, heldArray}
+use Rattle.unit_list.specs.UnitList.{heldArrays, encodeUnits, encodeRest, encodeArray, encodeArrays, encodeAs, inVersion}
 use Rattle.unit_list.proofs.Arrays.{Sound, run-value, chunks-run, array-read, array-advances}
-use Rattle.unit_list.proofs.Left.{decode-versionless, decode-arrays}
+use Rattle.unit_list.proofs.Encode.{Short, short-none, short-more}
 use Rattle.unit_list.proofs.Accepted.{sound-held, accepted}
 
 -- ### what was read, taken apart
@@ -124,11 +124,15 @@ module _ (s : List ℕ) (all : (i : ℕ) → getD s i 0 < 256) where
       let r : (be s p w * 256 + getD s (p + w) 0) % 256 ≡ getD s (p + w) 0 = omega (arith, all (p + w)) in
       rw (q, r, number-again p w (omega arith), ← getD-drop p s w 0) (sym (take-suc (drop p s) w 0 (omega arith)))
 
+  -- bytes that lie in s after a length of w bytes, up to place e, are as many as the length says
+  rest-long : (w p e : ℕ) (u : List ℕ) → e ≡ p + w + be s p w → e ≤ length s → u ++ drop e s ≡ drop (p + w) s → length u ≡ be s p w
+  rest-long w p e u n h k = omega (arith, ap length k, length-append u (drop e s), length-drop e s, length-drop (p + w) s)
+
   -- a length and the bytes after it, which lie in s up to place e
   chunk-again : (w p e : ℕ) (u : List ℕ) → e ≡ p + w + be s p w → e ≤ length s → u ++ drop e s ≡ drop (p + w) s → toChunk w u ++ drop e s ≡ drop p s
   unfolding toChunk
   chunk-again w p e u n h k =
-      let l : length u ≡ be s p w = omega (arith, ap length k, length-append u (drop e s), length-drop e s, length-drop (p + w) s) in
+      let l = rest-long w p e u n h k in
       append-assoc (toBe w (length u)) u (drop e s)
       ∙ rw (k, l, number-again p w (omega arith), ← drop-drop w p s) (take-append-drop w (drop p s))
 
@@ -168,8 +172,9 @@ module _ (s : List ℕ) (all : (i : ℕ) → getD s i 0 < 256) where
           (λ p a q us r c n h. unit-again p a q us c (n (let k = chunk-read w (take e s) p a q c in omega arith)))
           p us r m h
 
-    -- an array: its length, complete byte, type and units
-    array-again : (p : ℕ) (x : Array Span) (q : ℕ) → array w s p ≡ value x q → encodeArray w (heldArray s x) ++ drop q s ≡ drop p s
+    -- an array: its length, complete byte, type and units; its length has room in w bytes
+    array-again : (p : ℕ) (x : Array Span) (q : ℕ) → array w s p ≡ value x q
+        → (encodeArray w (heldArray s x) ++ drop q s ≡ drop p s) × (length (encodeRest w (heldArray s x)) < 256 ^ w)
     unfolding encodeArray
     array-again p x q e =
         let t = array-taken w s p x q e in
@@ -182,40 +187,45 @@ module _ (s : List ℕ) (all : (i : ℕ) → getD s i 0 < 256) where
         let us : encodeUnits w (map (held s) (x .units)) ++ drop e s ≡ drop (i + 2) s =
         units-again e (omega arith) (i + 2) (x .units) q (omega arith) (t .units) in
         let start : i ≡ p + w = k .start in
-        let rest : (completeByte x ∷ x .unitType ∷ encodeUnits w (map (held s) (x .units))) ++ drop e s ≡ drop (p + w) s =
+        let rest : encodeRest w (heldArray s x) ++ drop e s ≡ drop (p + w) s =
         headed (completeByte x) (x .unitType) (encodeUnits w (map (held s) (x .units)) ++ drop e s) i (t .complete) (t .unitType) (omega arith) us
-        ∙ ap (λ (n : ℕ). drop n s) start in
-        rw end (chunk-again w p e (completeByte x ∷ x .unitType ∷ encodeUnits w (map (held s) (x .units))) (omega arith) (omega arith) rest)
+        ∙ ap (λ (n : ℕ). drop n s) start in (
+          rw end (chunk-again w p e (encodeRest w (heldArray s x)) (omega arith) (omega arith) rest),
+          omega (arith, rest-long w p e (encodeRest w (heldArray s x)) (omega arith) (omega arith) rest, be-below s p w all),
+        )
 
     -- arrays up to the end
     arrays-again : (p : ℕ) (xs : List (Array Span)) (r : ℕ) → p ≤ length s → many (array w) s p ≡ value xs r
-        → encodeArrays w (heldArrays s xs) ≡ drop p s
+        → (encodeArrays w (heldArrays s xs) ≡ drop p s) × Short w (heldArrays s xs)
     unfolding encodeArrays
     arrays-again p xs r h m =
-        run-value (array w) s (array-advances w s some) (λ p xs r. p ≤ length s → encodeArrays w (heldArrays s xs) ≡ drop p s)
-        (λ p g h. sym (drop-of-length-le s {i = p} g))
-        (λ p x q xs r c n h. rw (n (array-read w s some p x q c .fits)) (array-again p x q c))
+        run-value (array w) s (array-advances w s some)
+        (λ p xs r. p ≤ length s → (encodeArrays w (heldArrays s xs) ≡ drop p s) × Short w (heldArrays s xs))
+        (λ p g h. (sym (drop-of-length-le s {i = p} g), short-none))
+        (λ p x q xs r c n h.
+        let a = array-again p x q c in
+        let b = n (array-read w s some p x q c .fits) in
+        (rw (b .0) (a .0), short-more (a .1) (b .1)))
         p xs r m h
 
 -- ### the list
 
--- what an accepted list is: its arrays, with the bytes of their units, written
-pub encode-decode : (s : List ℕ) → AllBytes s → (xs : List (Array Span)) → decode s ≡ accept xs → encode (heldArrays s xs) ≡ s
-unfolding encode
-encode-decode s all xs e =
-    elim (ℕ-discrete (getD s 0 0) 1) [
-      | no h ↦ absurd (let x = decode-versionless s (accepted s xs e .lent) h in let z : _≡_ {A = ℕ} 0 1 = cc in omega arith)
-      | yes h ↦ go s all h (many (array 4) s 1) refl (sym (decode-arrays s (accepted s xs e .lent) h) ∙ e)
-    ]
-  where
-    go : (s : List ℕ) → AllBytes s → getD s 0 0 ≡ 1 → (o : Parsed (List (Array Span))) → many (array 4) s 1 ≡ o
-        → outcomeOr 21 o ≡ accept xs
-        → 1 ∷ encodeArrays 4 (heldArrays s xs) ≡ s
-    go [] all h o m f = absurd (omega arith)
-    go (b ∷ s) all h (refused n) m f = absurd (let z : _≡_ {A = ℕ} 0 1 = cc in omega arith)
-    go (b ∷ s) all h (value ys r) m f =
-        let y : ys ≡ xs = cc in
-        rw (← y, arrays-again (b ∷ s) all 4 (omega arith) 1 ys r (omega arith) m, h)
+-- What an accepted list is: its arrays, with the bytes of their units, written in its version, with lengths that have room in it.
+module _ (s : List ℕ) (all : AllBytes s) (xs : List (Array Span)) (e : decode s ≡ accept xs) where
+  arrays-are : (encodeArrays (lengthWidth (getD s 0 0)) (heldArrays s xs) ≡ drop 1 s) × Short (lengthWidth (getD s 0 0)) (heldArrays s xs)
+  arrays-are =
+      let a = accepted s xs e in
+      arrays-again s all (lengthWidth (getD s 0 0)) (omega (arith, a .width .0)) 1 xs (a .last) (a .some) (a .read)
+
+  pub encode-decode : encodeAs (getD s 0 0) (heldArrays s xs) ≡ s
+  encode-decode = rw (arrays-are .0) (sym (drop-cons s 0 0 (omega (arith, accepted s xs e .some))))
+
+  -- so it is given back in its own version
+  pub version-kept : inVersion (getD s 0 0) s ≡ accept s
+  version-kept = rw e (ap accept encode-decode)
+
+  pub short-decode : Short (lengthWidth (getD s 0 0)) (heldArrays s xs)
+  short-decode = arrays-are .1
 
 -- and they can be encoded: what holds of sound arrays holds of them
 pub sound-decode : (s : List ℕ) (xs : List (Array Span)) → decode s ≡ accept xs → Sound (heldArrays s xs)

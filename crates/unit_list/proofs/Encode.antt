@@ -13,11 +13,11 @@ use Rattle.boxes.specs.Parts.{held}
 use Rattle.boxes.specs.declared.Span.{Span}
 use Rattle.boxes.proofs.Numbers.{length-toBe}
 use Rattle.boxes.proofs.Fields.{chunk-toChunk, held-toChunk, chunk-advances}
-use Rattle.unit_list.specs.UnitList.{Array, array, largestType, completeByte, decode, unitsOf, heldArray}
-use Rattle.unit_list.specs.UnitList.{heldArrays, encodeUnits, encodeRest, encodeArray, encodeArrays, encode}
+use Rattle.unit_list.specs.UnitList.{Array, array, largestType, completeByte, lengthWidth, decode, unitsOf, heldArray}
+use Rattle.unit_list.specs.UnitList.{heldArrays, encodeUnits, encodeRest, encodeArray, encodeArrays, encodeAs, encode}
 use Rattle.unit_list.specs.Answers.{listUnits}
 use Rattle.unit_list.proofs.Arrays.{Sound, sound-none, sound-more, array-reads, array-advances}
-use Rattle.unit_list.proofs.Left.{decode-arrays}
+use Rattle.unit_list.proofs.Left.{width-small, decode-arrays}
 use Rattle.unit_list.proofs.Units.{units-held}
 
 -- where the units of an array that is written from p on lie, and where its array's do
@@ -202,7 +202,19 @@ pub record UnitsRead (s : List ℕ) (o : Outcome (List Span)) (us : List (List �
   pub read : o ≡ accept spans
   pub bytes : map (held s) spans ≡ us
 
--- a list decoded after encoding: arrays that hold the same bytes
+-- a list of version v decoded after encoding: arrays that hold the same bytes
+module _ (v : ℕ) (xs : List (Array (List ℕ))) (short : Short (lengthWidth v) xs) where
+  pub held-encoded : heldArrays (encodeAs v xs) (placedArrays (lengthWidth v) 1 xs) ≡ xs
+  held-encoded = arrays-held (lengthWidth v) (encodeAs v xs) short (v ∷ []) 1 refl refl
+
+  pub decode-encoded : (lengthWidth v ≡ 0 → ⊥) → length (encodeAs v xs) ≤ 2 ^ 30 → Sound xs
+      → decode (encodeAs v xs) ≡ accept (placedArrays (lengthWidth v) 1 xs)
+  decode-encoded known fits sound =
+      decode-arrays (encodeAs v xs) fits (lengthWidth v) refl known
+      ∙ ap (outcomeOr 21)
+      (arrays-written (lengthWidth v) (encodeAs v xs) (let w = width-small v known in omega arith) sound short (v ∷ []) 1 refl refl)
+
+-- the same of a list that a call writes
 module _ (xs : List (Array (List ℕ))) (fits : length (encode xs) ≤ 2 ^ 30) where
   short : Short 4 xs
   unfolding encode
@@ -210,14 +222,12 @@ module _ (xs : List (Array (List ℕ))) (fits : length (encode xs) ≤ 2 ^ 30) w
 
   pub held-encode : heldArrays (encode xs) (placedArrays 4 1 xs) ≡ xs
   unfolding encode
-  held-encode = arrays-held 4 (1 ∷ encodeArrays 4 xs) short (1 ∷ []) 1 refl refl
+  held-encode = held-encoded 1 xs short
 
   module _ (sound : Sound xs) where
     pub decode-encode : decode (encode xs) ≡ accept (placedArrays 4 1 xs)
     unfolding encode
-    decode-encode =
-        decode-arrays (1 ∷ encodeArrays 4 xs) fits refl
-        ∙ ap (outcomeOr 21) (arrays-written 4 (1 ∷ encodeArrays 4 xs) (omega arith) sound short (1 ∷ []) 1 refl refl)
+    decode-encode = decode-encoded 1 xs short (λ e. omega arith) fits sound
 
     -- and so its units do
     pub units-encode : UnitsRead (encode xs) (listUnits (encode xs)) (unitsOf xs)

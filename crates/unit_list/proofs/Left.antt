@@ -2,24 +2,44 @@
 use Prim.Native.Nat.{ℕ, _-_, _^_, _≤_, _<_}
 use mathlib.Core.Path.{_≡_, refl, sym, ap, _∙_, subst}
 use mathlib.Core.List.{List, [], _∷_, _++_}
+use mathlib.Core.Logic.{_⊎_, ⊎-elim, inl, inr}
 use native.Mathlib.Omega.{arith}
+use native.Mathlib.Decide.{ℕ-discrete}
 use lib.ListN.{length, getD, take, length-take}
-use borrow.Author.Tests.{le-leb, lt-leb, eq-eqb, ne-eqb}
+use borrow.Author.Tests.{le-leb, lt-leb, ne-eqb}
 use Rattle.parse.specs.Outcome.{Outcome, accept, refuse, andThen}
 use Rattle.parse.specs.inner.Walk.{more}
 use Rattle.boxes.specs.Bytes.{chunk}
 use Rattle.boxes.specs.declared.Span.{Span}
 use Rattle.boxes.proofs.Fields.{uint-there, uint-short}
 use Rattle.boxes.proofs.Numbers.{be-one}
-use Rattle.unit_list.specs.UnitList.{Array, unitList, arrayWith, decode}
+use Rattle.unit_list.specs.UnitList.{Array, lengthWidth, unitList, arrayWith, decode}
 use Rattle.unit_list.specs.inner.Walk.{typed, typedUnits, typedList, typedUnitsFrom, arrayUnitsFrom, arraysFrom, front}
-use Rattle.unit_list.specs.inner.Walk.{arraysStepped, unitsStepped, stepped, Fits, Entered, ArrayStepFits, UnitStepFits, StepFits}
+use Rattle.unit_list.specs.inner.Walk.{arraysStepped, unitsStepped, stepped, TwoOrFour, Fits, Entered, ArrayStepFits, UnitStepFits, StepFits}
 use Rattle.unit_list.specs.declared.ListCursor.{ListCursor}
 use Rattle.unit_list.specs.declared.ListStep.{ListStep}
 use Rattle.unit_list.specs.declared.ListStep.the-variants as L
 use Rattle.unit_list.specs.declared.ArrayStep.{ArrayStep}
 use Rattle.unit_list.specs.declared.ArrayStep.the-variants as A
-use Rattle.unit_list.proofs.Arrays.{run-nil}
+use Rattle.unit_list.proofs.Arrays.{two-to-four, run-nil}
+
+-- a version with lengths is 01 or 02, and they have two or four bytes
+pub version-known : (v : ℕ) → (lengthWidth v ≡ 0 → ⊥) → (v ≡ 1) ⊎ (v ≡ 2)
+version-known v h =
+    elim (ℕ-discrete v 1) [
+      | yes e ↦ inl e
+      | no f ↦
+          elim (ℕ-discrete v 2) [
+            | yes e ↦ inr e
+            | no g ↦ absurd (h (rw (ne-eqb v 1 f, ne-eqb v 2 g)))
+          ]
+    ]
+
+pub width-known : (v : ℕ) → (lengthWidth v ≡ 0 → ⊥) → TwoOrFour (lengthWidth v)
+width-known v h = ⊎-elim (λ e. inr (rw e refl)) (λ e. inl (rw e refl)) (version-known v h)
+
+pub width-small : (v : ℕ) → (lengthWidth v ≡ 0 → ⊥) → (2 ≤ lengthWidth v) × (lengthWidth v ≤ 4)
+width-small v h = two-to-four (lengthWidth v) (width-known v h)
 
 -- the start: too long, another version or none, and after the version
 pub decode-too-long : (s : List ℕ) → 2 ^ 30 < length s → decode s ≡ refuse 23
@@ -29,21 +49,21 @@ decode-too-long s h = rw (lt-leb (length s) (2 ^ 30) h)
 pub list-too-long : (s : List ℕ) → 2 ^ 30 < length s → typedList s ≡ refuse 23
 list-too-long s h = rw (decode-too-long s h)
 
-pub decode-versionless : (s : List ℕ) → length s ≤ 2 ^ 30 → (getD s 0 0 ≡ 1 → ⊥) → decode s ≡ refuse 21
+pub decode-versionless : (s : List ℕ) → length s ≤ 2 ^ 30 → lengthWidth (getD s 0 0) ≡ 0 → decode s ≡ refuse 21
 unfolding decode unitList
 decode-versionless [] l h = rw (uint-short 1 [] 0 (omega arith))
 decode-versionless (b ∷ s) l h =
-    rw (le-leb (length (b ∷ s)) (2 ^ 30) l, uint-there 1 (b ∷ s) 0 (omega arith), be-one (b ∷ s) 0, ne-eqb b 1 h)
+    rw (le-leb (length (b ∷ s)) (2 ^ 30) l, uint-there 1 (b ∷ s) 0 (omega arith), be-one (b ∷ s) 0, h)
 
-pub list-versionless : (s : List ℕ) → length s ≤ 2 ^ 30 → (getD s 0 0 ≡ 1 → ⊥) → typedList s ≡ refuse 21
+pub list-versionless : (s : List ℕ) → length s ≤ 2 ^ 30 → lengthWidth (getD s 0 0) ≡ 0 → typedList s ≡ refuse 21
 list-versionless s l h = rw (decode-versionless s l h)
 
--- a list of version 1 is its arrays
-pub decode-arrays : (s : List ℕ) → length s ≤ 2 ^ 30 → getD s 0 0 ≡ 1 → decode s ≡ arraysFrom s (front 4)
+-- a list is its arrays, with lengths of its version
+pub decode-arrays : (s : List ℕ) → length s ≤ 2 ^ 30 → (w : ℕ) → lengthWidth (getD s 0 0) ≡ w → (w ≡ 0 → ⊥) → decode s ≡ arraysFrom s (front w)
 unfolding decode unitList
-decode-arrays [] l h = absurd (omega arith)
-decode-arrays (b ∷ s) l h =
-    rw (le-leb (length (b ∷ s)) (2 ^ 30) l, uint-there 1 (b ∷ s) 0 (omega arith), be-one (b ∷ s) 0, eq-eqb b 1 h)
+decode-arrays [] l w e h = absurd (h (sym e))
+decode-arrays (b ∷ s) l w e h =
+    rw (le-leb (length (b ∷ s)) (2 ^ 30) l, uint-there 1 (b ∷ s) 0 (omega arith), be-one (b ∷ s) 0, e, ne-eqb w 0 h)
 
 -- what is left at the end of an array: the arrays after it
 pub left-arrays : (s : List ℕ) (c : ListCursor) → c .at ≡ c .end → typedUnitsFrom s c ≡ andThen (arraysFrom s c) (λ xs. accept (typedUnits xs))
@@ -52,8 +72,8 @@ left-arrays s c e =
     let l = length-take (c .end) s in
     rw (run-nil (chunk (c .width)) (take (c .end) s) (c .at) 21 (omega arith))
 
-pub left-start : (s : List ℕ) → length s ≤ 2 ^ 30 → getD s 0 0 ≡ 1 → typedUnitsFrom s (front 4) ≡ typedList s
-left-start s l h = left-arrays s (front 4) refl ∙ rw (decode-arrays s l h)
+pub left-start : (s : List ℕ) → length s ≤ 2 ^ 30 → (w : ℕ) → lengthWidth (getD s 0 0) ≡ w → (w ≡ 0 → ⊥) → typedUnitsFrom s (front w) ≡ typedList s
+left-start s l w e h = left-arrays s (front w) refl ∙ rw (decode-arrays s l w e h)
 
 -- one array passed
 module _ (s : List ℕ) (c : ListCursor) (e : c .at ≡ c .end) where

@@ -1,12 +1,13 @@
--- The unit list (SCOPE 2; the original's `arrays`): the byte 01, then arrays. An array: a length of 4 bytes for all that follows in it,
--- the complete byte (bit 0 complete, bit 1 the array's reserved bit, no other bits), type (0 to 63), then units, each after its length of 4 bytes.
+-- The unit list (SCOPE 2; the original's `arrays`): the version, then arrays. An array: a length for all that follows in it, the complete byte (bit 0
+-- complete, bit 1 the array's reserved bit, no other bits), type (0 to 63), then units, each after its length. Lengths have 4 bytes in version 01 and
+-- 2 bytes in version 02; all else is equal.
 use Prim.Native.Nat.{ℕ, _+_, _*_, _/_, _%_}
-use mathlib.Core.Bool.{Bool, true, not, _&&_}
+use mathlib.Core.Bool.{Bool, true, _&&_}
 use mathlib.Core.List.{List, [], _∷_, _++_, map}
 use lib.Dec.{eqb, leb, ltb}
 use lib.ListN.{length}
 use Rattle.parse.specs.Logic.{if_then_else_}
-use Rattle.parse.specs.Outcome.{Outcome, lentInput}
+use Rattle.parse.specs.Outcome.{Outcome, accept, andThen, lentInput}
 use Rattle.parse.specs.Parse.{Parser, _>>=_, _>>_, give, refuseIf, many, outcomeOr}
 use Rattle.boxes.specs.Bytes.{uint, chunk, toChunk, inside}
 use Rattle.boxes.specs.Parts.{held}
@@ -47,18 +48,18 @@ array w = do
   rest ← chunk w
   inside rest (arrayRest w)
 
--- how many bytes a length has in a list of version 01
-abbrev pub listWidth : ℕ
-listWidth = 4
+-- how many bytes a length has in a list of version v; 0 for another version than 01 and 02
+abbrev pub lengthWidth : ℕ → ℕ
+lengthWidth v = if eqb v 1 then 4 else (if eqb v 2 then 2 else 0)
 
 -- the version, then arrays up to the end
 unfoldable pub unitList : Parser (List (Array Span))
 unitList = do
   version ← uint 1
-  refuseIf (not (eqb version 1)) 21
-  many (array listWidth)
+  refuseIf (eqb (lengthWidth version) 0) 21
+  many (array (lengthWidth version))
 
--- The arrays of a list. Refusals: 23; then 21 for a list without a byte, a version other than 01, a complete byte above 3, a type above 63,
+-- The arrays of a list. Refusals: 23; then 21 for a list without a byte, a version other than 01 and 02, a complete byte above 3, a type above 63,
 -- or a field or a length that goes past the end of its list or array.
 unfoldable pub decode : List ℕ → Outcome (List (Array Span))
 decode s = lentInput s (outcomeOr 21 (unitList s 0))
@@ -97,9 +98,25 @@ unfoldable pub encodeArrays : ℕ → List (Array (List ℕ)) → List ℕ
 encodeArrays w [] = []
 encodeArrays w (a ∷ xs) = encodeArray w a ++ encodeArrays w xs
 
--- a list: the version, then the arrays
+-- a list of version v: the version, then the arrays
+abbrev pub encodeAs : ℕ → List (Array (List ℕ)) → List ℕ
+encodeAs v xs = v ∷ encodeArrays (lengthWidth v) xs
+
+-- how many bytes a length has in the lists that calls write
+abbrev pub listWidth : ℕ
+listWidth = 4
+
+-- the list that calls write: version 01
 unfoldable pub encode : List (Array (List ℕ)) → List ℕ
-encode xs = 1 ∷ encodeArrays listWidth xs
+encode xs = encodeAs 1 xs
+
+-- the arrays of a list with the bytes of their units: 23, 21
+abbrev pub contents : List ℕ → Outcome (List (Array (List ℕ)))
+contents s = andThen (decode s) (λ xs. accept (heldArrays s xs))
+
+-- the list of version v that has these arrays: 23, 21
+abbrev pub inVersion : ℕ → List ℕ → Outcome (List ℕ)
+inVersion v s = andThen (contents s) (λ xs. accept (encodeAs v xs))
 
 -- every unit has at most 65,535 bytes, so that two bytes hold its length
 unfoldable pub unitsFit : List (List ℕ) → Bool

@@ -14,7 +14,7 @@ ghost use mathlib.Core.Path.{_≡_};
 ghost use Prim.Native.Nat.{_≤_, _^_};
 ghost use lib.ListN.{length, take};
 ghost use Rattle.boxes.specs.Bytes.{chunk as chunkOf};
-ghost use Rattle.unit_list.specs.UnitList.{decode};
+ghost use Rattle.unit_list.specs.UnitList.{lengthWidth, decode};
 ghost use Rattle.unit_list.specs.inner.Walk.{Fits, StartFits, chunkStepped, arrayUnitsFrom, unitsStepped};
 ghost use Rattle.unit_list.specs.inner.Walk.{UnitStepFits, arraysFrom, arraysStepped, ArrayStepFits, typedList};
 ghost use Rattle.unit_list.specs.inner.Walk.{started, arraysStarted, typedUnitsFrom, stepped, StepFits};
@@ -38,6 +38,17 @@ pub fn chunk(s: &[u8], at: usize, end: usize, width: usize) -> ChunkRead
     })
 }
 
+// How many bytes a length has in a list of a version; 0 for another version than 01 and 02.
+pub fn length_width(version: u8) -> usize
+    ensures { λ r. ⌜ r ≡ lengthWidth version ⌝ }
+{
+    match version {
+        1 => 4,
+        2 => 2,
+        _ => 0,
+    }
+}
+
 // The cursor after the version, before the first array. Refusals: 23, 21 for no byte or another version.
 pub fn start(list: &[u8]) -> ListStart
     ensures { λ r. ⌜ (started (now (list .entry)) r ≡ typedList (now (list .entry)))
@@ -46,14 +57,15 @@ pub fn start(list: &[u8]) -> ListStart
     if LARGEST_INPUT < list.len() {
         return ListStart::Refused(Refusal::InputTooLong);
     }
-    if place::byte(list, 0) != 1 {
+    let width = length_width(place::byte(list, 0));
+    if width == 0 {
         return ListStart::Refused(Refusal::UnitList);
     }
     ListStart::At(ListCursor {
         at: 1,
         end: 1,
         unit_type: 0,
-        width: 4,
+        width: width,
     })
 }
 

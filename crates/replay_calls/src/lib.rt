@@ -3,6 +3,7 @@ use boxes::place;
 use replay_records::access_calls;
 use replay_records::compact_calls;
 use replay_records::full_calls;
+use replay_records::version_calls;
 use replay_text::fields;
 use replay_text::text;
 use replay_units::boxes_calls;
@@ -43,6 +44,7 @@ fn answer<'a>(
         2 | 32..=34 | 46..=50 | 53 => full_calls::answer(op, fill, numbers, first, lent, out, at),
         51 | 52 => replay_hevc::answer(op, numbers, first, lent, out, at),
         55..=58 => replay_directory::answer(op, numbers, first, second, out, at),
+        59 | 60 => version_calls::answer(op, first, lent, out, at),
         36..=38 | 44 | 54 => access_calls::answer(op, fill, numbers, first, second, lent, out, at),
         _ => text::put_all(out, at, b" no such call"),
     }

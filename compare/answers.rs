@@ -634,6 +634,16 @@ fn plain(c: &Case) -> Result<String, Refusal> {
     })
 }
 
+/// A list that was made of another one, which has the same arrays.
+fn same_arrays(s: &[u8], made: Vec<u8>) -> Vec<u8> {
+    assert_eq!(
+        reading::list(s),
+        reading::list(&made),
+        "the list that was made has other arrays"
+    );
+    made
+}
+
 /// The calls that write to lent memory: the text after the refusal's number, and the bytes.
 fn writing(c: &Case) -> Result<(String, Vec<u8>), Refusal> {
     let s = &c.first[..];
@@ -689,6 +699,8 @@ fn writing(c: &Case) -> Result<(String, Vec<u8>), Refusal> {
             reading::hevc_writer(&h)?;
             plain(h.serialize())
         }
+        59 => plain(same_arrays(s, reading::narrow(s)?)),
+        60 => plain(same_arrays(s, reading::widen(s)?)),
         _ => unreachable!("{}", c.op),
     })
 }
@@ -740,7 +752,7 @@ pub fn answer(c: &Case) -> Answer {
                 Err(e) => refused(number(&e), out),
             }
         }
-        18 | 28..=33 | 35 | 36 | 50..=52 | 54 => match writing(c) {
+        18 | 28..=33 | 35 | 36 | 50..=52 | 54 | 59 | 60 => match writing(c) {
             Err(e) => refused(e, out),
             Ok((_, result)) if result.len() > c.room => Answer {
                 result: Some(result.len()),

@@ -17,7 +17,7 @@ pub struct Case {
 const FRONT: usize = 18;
 
 /// The names of the calls by their numbers, from 1 on.
-pub const NAMES: [&str; 58] = [
+pub const NAMES: [&str; 60] = [
     "number",
     "VvcConfig::bit_depth",
     "u8_at",
@@ -76,6 +76,8 @@ pub const NAMES: [&str; 58] = [
     "nal_count_of_type (directory)",
     "nal_unit_at (directory)",
     "nal_unit (directory)",
+    "narrow",
+    "widen",
 ];
 
 /// The digits of bytes, in lower case.

@@ -8,6 +8,7 @@ use crate::reading::{list_places, list_with_reserved};
 use crate::reading::{Directory, Entry, Question, ENTRIES, TYPES};
 use crate::rng::Rng;
 use crate::shapes;
+use crate::versions;
 use original::hvcc::NalArray;
 
 /// A case: a list, a directory and a question. Entries of zeros at the end and totals of 0 are left out.
@@ -81,6 +82,11 @@ fn several() -> Vec<u8> {
     ])
 }
 
+/// The same five units in a list of version 02.
+fn narrow() -> Vec<u8> {
+    versions::other(&several()).expect("it can be narrowed")
+}
+
 /// Three units, and a shorter list.
 fn other() -> Vec<u8> {
     list_of(&[(16, &[b"ghijkl"]), (15, &[b"mnop", b"q"])])
@@ -96,7 +102,7 @@ fn of_units(n: usize) -> Vec<u8> {
 fn malformed() -> Vec<Vec<u8>> {
     let cut = |s: Vec<u8>| s[..s.len() - 1].to_vec();
     let longer = [several(), vec![0]].concat();
-    let mut out = vec![vec![], vec![2], vec![1, 0], cut(several()), longer];
+    let mut out = vec![vec![], vec![3], vec![1, 0], cut(several()), longer];
     out.extend([
         cut(of_units(8)),
         cut(of_units(10)),
@@ -129,7 +135,8 @@ fn same_list() -> Vec<Asking> {
     lists.map(asking).to_vec()
 }
 
-/// Directories that were filled from another list, of which some parts pass the end, or refused; bytes that are no list.
+/// Directories that were filled from another list, of which some parts pass the end, from the list in the other version, or refused; bytes that are
+/// no list.
 fn other_list() -> Vec<Asking> {
     let mut pairs = vec![
         (several(), other()),
@@ -138,6 +145,8 @@ fn other_list() -> Vec<Asking> {
         (of_units(9), several()),
         (several(), of_units(8)),
         (several(), of_units(9)),
+        (several(), narrow()),
+        (narrow(), several()),
         (several(), vec![1]),
         (vec![1], several()),
         (vec![], several()),
@@ -184,19 +193,24 @@ fn totals() -> Vec<Asking> {
     out.into_iter().map(asking).collect()
 }
 
-/// An entry that begins in the list, at its end or after it, with a part that ends there, passes it, or has its end at 2^64 and above.
-fn ends() -> Vec<Asking> {
+/// An entry that begins in a list, at its end or after it, with a part that ends there, passes it, or has its end at 2^64 and above.
+fn ends_of(list: &[u8]) -> Vec<Asking> {
     const MAX: u64 = u64::MAX;
-    let n = several().len() as u64;
+    let n = list.len() as u64;
     let lens = [0, 1, 2, n, n + 1, 1 << 32, MAX];
     let asking = |offset| {
         lens.map(|len| {
             let d = directory(&[(15, 1, 4), (16, offset, len)], &[(15, 1), (16, 1)]);
-            (several(), d, questions(&[16], &[]))
+            (list.to_vec(), d, questions(&[16], &[]))
         })
     };
     let offsets = [0, 1, n - 1, n, n + 1, 1 << 32, MAX];
     offsets.into_iter().flat_map(asking).collect()
+}
+
+/// Such entries for a list in both versions.
+fn ends() -> Vec<Asking> {
+    [ends_of(&several()), ends_of(&narrow())].concat()
 }
 
 /// Entries of the wanted type after those in use, and ones that pass the end there; types above 63; totals of other types than the entries; a type
@@ -250,7 +264,7 @@ fn odd_totals() -> Vec<Case> {
     let twice = [total(15), [15, 0, 0, 0, 0, 0, 0, 1, 0], total(63)].concat();
     let cut = [15, 1, 2, 3, 4].to_vec();
     let with = |more: Vec<u8>| {
-        let mut c = case(FILL, &[2], &directory(&[], &[]), Question::First(0));
+        let mut c = case(FILL, &[3], &directory(&[], &[]), Question::First(0));
         c.numbers.extend(more);
         c
     };

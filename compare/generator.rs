@@ -130,6 +130,8 @@ pub fn short_strings(longest: usize, emit: Emit) {
         (50, vec![]),
         (51, vec![]),
         (55, vec![]),
+        (59, vec![]),
+        (60, vec![]),
         (56, in_use.clone()),
         (57, in_use.clone()),
         (58, in_use),
@@ -181,7 +183,7 @@ fn head_with(at: usize, bytes: &[u8]) -> Vec<u8> {
 
 /// Calls on numbers alone: every refusal, every type, every depth, headers and counts at their limits.
 pub fn numbers(emit: Emit) {
-    for n in 1..=28 {
+    for n in 1..=29 {
         emit(Case::new(1, vec![n], vec![]));
     }
     for t in 0..=255 {
@@ -386,6 +388,8 @@ pub fn fronts(r: &mut Rng, count: usize, emit: Emit) {
         whole.push((51, vec![], hevc::any_record(r)));
         whole.push((52, hevc::any_numbers(r), hevc::any_list(r)));
         whole.push((55, vec![], shapes::list(r)));
+        whole.push((59, vec![], shapes::list(r)));
+        whole.push((60, vec![], shapes::list(r)));
     }
     whole.push((19, vec![], shapes::longest_sps()));
     whole.push((20, vec![], shapes::longest_vps()));
@@ -533,11 +537,11 @@ fn parameter_set(r: &mut Rng, op: u8) -> Vec<u8> {
 
 /// Any call on an input of its shape.
 pub fn any(r: &mut Rng) -> Case {
-    const CALLS: [u8; 81] = [
+    const CALLS: [u8; 85] = [
         2, 6, 7, 8, 9, 14, 15, 16, 17, 18, 19, 19, 19, 20, 20, 21, 22, 23, 24, 25, 26, 27, 28, 28,
         28, 29, 29, 30, 31, 31, 32, 32, 32, 32, 33, 33, 33, 34, 34, 35, 35, 35, 36, 36, 36, 36, 37,
         38, 39, 39, 40, 41, 42, 43, 44, 44, 45, 46, 47, 48, 49, 50, 50, 50, 50, 51, 51, 51, 51, 52,
-        52, 52, 52, 53, 55, 55, 56, 57, 57, 58, 58,
+        52, 52, 52, 53, 55, 55, 56, 57, 57, 58, 58, 59, 59, 60, 60,
     ];
     let op = r.pick(&CALLS);
     let mut second = Vec::new();
@@ -547,6 +551,7 @@ pub fn any(r: &mut Rng) -> Case {
             let u = shapes::unit(r);
             (vec![], shapes::maybe_damaged(r, u, 3))
         }
+        59 | 60 => (vec![], shapes::list(r)),
         14..=17 | 40 | 41 | 46 | 47 => {
             let t = if r.one_in(2) {
                 r.pick(&[15, 16, 0, 12, 33, 39, 47])
@@ -650,7 +655,7 @@ pub fn any(r: &mut Rng) -> Case {
             n.extend(eight(index(r)));
             n.extend(h);
             let list = if r.one_in(6) {
-                vec![1]
+                vec![r.pick(&[1, 2])]
             } else {
                 shapes::list(r)
             };

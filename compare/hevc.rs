@@ -7,6 +7,7 @@ use crate::generator::{with_room, with_room_by, Emit};
 use crate::reading::list_with_reserved;
 use crate::rng::Rng;
 use crate::shapes;
+use crate::versions::list_of;
 use original::hvcc::{HevcConfig, NalArray};
 use std::collections::hash_map::DefaultHasher;
 use std::collections::HashSet;
@@ -100,8 +101,8 @@ fn numbers(values: [u64; 16]) -> Vec<u8> {
     values.into_iter().zip(FIELDS).flat_map(bytes).collect()
 }
 
-/// For a case that reads a record: the case that writes what was read, and the bytes that it must write, which are made from the record alone. None
-/// if the original refuses the record.
+/// For a case that reads a record: the case that writes what was read, from a list of either version by the fill byte, and the bytes that it must
+/// write, which are made from the record alone. None if the original refuses the record.
 pub fn written_again(c: &Case) -> Option<Case> {
     if c.op != READ || c.first.len() > 1 << 20 {
         return None;
@@ -112,7 +113,7 @@ pub fn written_again(c: &Case) -> Option<Case> {
         fill: c.fill,
         room: again.len() + usize::from(c.fill % 4),
         again: Some(again),
-        ..Case::new(WRITE, numbers_of(&h), list_with_reserved(&h.arrays))
+        ..Case::new(WRITE, numbers_of(&h), list_of(c.fill & 4 != 0, &h.arrays))
     })
 }
 
@@ -297,7 +298,7 @@ fn list_limits() -> Vec<Vec<u8>> {
     }
     let whole = list_with_reserved(&two_arrays());
     out.extend((0..=whole.len()).map(|n| whole[..n].to_vec()));
-    out.push([2].into_iter().chain(whole).collect());
+    out.push([&[3], &whole[1..]].concat());
     out
 }
 
@@ -472,7 +473,7 @@ pub fn any_list(r: &mut Rng) -> Vec<u8> {
         return shapes::list(r);
     }
     let arrays = any_arrays(r);
-    let s = list_with_reserved(&arrays);
+    let s = list_of(r.one_in(2), &arrays);
     shapes::maybe_damaged(r, s, 8)
 }
 

@@ -19,6 +19,19 @@ pub fn pps() -> Vec<u8> {
     vec![0, 0x81, 0x80]
 }
 
+/// The numbers of a call that would be accepted on a sound input.
+pub fn numbers(op: u8) -> Vec<u8> {
+    match op {
+        23 | 24 | 39 | 42 => vec![4],
+        29..=31 => vec![0, 4],
+        33 | 34 | 53 => vec![4],
+        52 => [vec![0; 27], vec![4]].concat(),
+        35 => vec![0, 4, 1, 8],
+        36..=38 | 44 | 54 => [vec![0; 11], vec![4]].concat(),
+        _ => vec![],
+    }
+}
+
 /// A list of one array.
 fn one(complete: bool, t: u8, units: &[Vec<u8>]) -> Vec<u8> {
     list_bytes(&[VvcNalArray::new(complete, t, units.to_vec())])
@@ -302,14 +315,6 @@ fn ends(calls: &mut Calls) {
     for n in 0..=3 {
         for op in 6..=9 {
             calls.push((op, vec![], vec![0x25, 0xfb, 0x9d][..n].to_vec(), vec![]));
-        }
-    }
-    // lists without a version byte and of another version, for every call that takes one
-    for op in [
-        14, 16, 29, 33, 34, 35, 36, 37, 40, 41, 44, 46, 47, 52, 53, 55,
-    ] {
-        for list in [vec![], vec![2]] {
-            calls.push((op, vec![0, 4], list, vec![]));
         }
     }
     // arrays too short, of type 63 and of 64, with a first byte of 3 and of 4; an array that the full writer refuses, and another after it

@@ -6,8 +6,9 @@ use crate::case::Case;
 use crate::directory::{FILL, PART};
 use crate::directory_cases::{case, directory};
 use crate::generator::payload;
-use crate::limits::{pps, sps};
+use crate::limits::{numbers, pps, sps};
 use crate::reading::{Question, LARGEST};
+use crate::versions::{NARROW, WIDEN};
 
 extern "C" {
     fn replay_line(
@@ -59,14 +60,16 @@ fn long(front: &[u8], len: usize) -> Vec<u8> {
     s
 }
 
-/// The fronts of long inputs: nothing, and the beginning of a sound one.
+/// The fronts of long inputs: nothing, and the beginning of a sound one; of a list in both versions.
 fn fronts(op: u8) -> Vec<Vec<u8>> {
     let sound = match op {
         6..=9 | 19 => sps(),
         20 => vec![0, 0x71, 0, 0],
         21 => vec![0, 0x61, 0xc0],
-        14..=17 | 29 | 33..=38 | 40 | 41 | 44 | 46 | 47 | 52..=54 => {
-            [&[1, 0, 0, 0, 9, 1, 16, 0, 0, 0, 3][..], &pps()].concat()
+        14..=17 | 29 | 33..=38 | 40 | 41 | 44 | 46 | 47 | 52..=54 | NARROW | WIDEN => {
+            let wide = [&[1, 0, 0, 0, 9, 1, 16, 0, 0, 0, 3][..], &pps()].concat();
+            let narrow = [&[2, 0, 7, 1, 16, 0, 3][..], &pps()].concat();
+            return vec![vec![], wide, narrow];
         }
         23 | 24 | 31 | 39 | 42 => vec![0, 0, 0, 2, 0, 0x41],
         25..=27 | 43 => vec![0, 0, 1, 0x41],
@@ -80,22 +83,10 @@ fn fronts(op: u8) -> Vec<Vec<u8>> {
     vec![vec![], sound]
 }
 
-/// The numbers of a call that would be accepted on a short input.
-fn numbers(op: u8) -> Vec<u8> {
-    match op {
-        23 | 24 | 39 | 42 => vec![4],
-        29..=31 => vec![0, 4],
-        33 | 34 | 53 => vec![4],
-        52 => [vec![0; 27], vec![4]].concat(),
-        35 => vec![0, 4, 1, 8],
-        36..=38 | 44 | 54 => [vec![0; 11], vec![4]].concat(),
-        _ => vec![],
-    }
-}
-
 /// The calls that take an input.
 fn calls() -> impl Iterator<Item = u8> {
-    (3..=9).chain(14..=21).chain(23..=47).chain(50..=54)
+    let reading = (3..=9).chain(14..=21).chain(23..=47).chain(50..=54);
+    reading.chain([NARROW, WIDEN])
 }
 
 /// Every call that takes an input, with one that is too long; where it takes two, with either and both.
@@ -141,12 +132,26 @@ fn largest(emit: &mut dyn FnMut(Case)) {
     }
 }
 
+/// The front of a list of 2^30 bytes with one unit.
+fn one_unit() -> Vec<u8> {
+    let chunk = |before: usize| ((LARGEST - before) as u32).to_be_bytes();
+    [&[1][..], &chunk(5), &[1, 16], &chunk(11)].concat()
+}
+
+/// Narrowing of such a list, which is 29.
+fn narrowed(emit: &mut dyn FnMut(Case)) {
+    emit(Case {
+        fill: 0xa5,
+        room: 3,
+        ..Case::new(NARROW, vec![], long(&one_unit(), LARGEST))
+    });
+}
+
 /// The calls on a directory, with a list of some length: parts that end with a list of 2^30 bytes and that pass its end, more entries in use than
 /// there are. The list is zeros, or one unit if it has 2^30 bytes.
 fn directories(len: usize, emit: &mut dyn FnMut(Case)) {
     let end = LARGEST as u64;
-    let chunk = |before: usize| ((LARGEST - before) as u32).to_be_bytes();
-    let unit = [&[1][..], &chunk(5), &[1, 16], &chunk(11)].concat();
+    let unit = one_unit();
     for d in [
         directory(&[(0, end - 3, 3)], &[(0, 1)]),
         directory(&[(0, end - 3, 4)], &[(0, 1)]),
@@ -171,6 +176,7 @@ pub fn each(f: &mut dyn FnMut(&Case, u32, &str, &str)) {
     };
     too_long(&mut one);
     largest(&mut one);
+    narrowed(&mut one);
     directories(LARGEST + 1, &mut one);
     directories(LARGEST, &mut one);
 }

@@ -20,6 +20,8 @@ mod rng;
 mod shapes;
 mod start_codes;
 mod strict;
+mod version_cases;
+mod versions;
 
 use case::{Case, NAMES};
 use std::collections::BTreeMap;
@@ -37,13 +39,15 @@ const TOGETHER: usize = 600_000;
 type Expected = (String, String, u8, u32, HeldTo);
 
 /// What an answer is held to besides the expected one: for strict reading what the original's writer gives for the record, for an HEVC record that is
-/// written again the bytes that must come, for short start codes the original's stream, for a directory the original's units.
+/// written again the bytes that must come, for short start codes the original's stream, for a directory the original's units, for a list that is
+/// written in a version the original's arrays.
 enum HeldTo {
     Nothing,
     Writer(strict::Asked),
     Record(Vec<u8>),
     Stream(start_codes::Asked),
     Units(directory::Asked),
+    Arrays(versions::Asked),
 }
 
 /// The answers that are held to more than the expected ones.
@@ -53,6 +57,7 @@ struct AllHeld {
     hevc: hevc::Held,
     streams: start_codes::Held,
     directories: directory::Held,
+    lists: versions::Held,
 }
 
 impl AllHeld {
@@ -76,6 +81,10 @@ impl AllHeld {
                 let agrees = self.directories.agrees(got, &asked);
                 (agrees, self.directories.disagree, "the original's units")
             }
+            HeldTo::Arrays(asked) => {
+                let agrees = self.lists.agrees(got, &asked);
+                (agrees, self.lists.disagree, "the original's arrays")
+            }
         };
         (!agrees && so_far <= 10).then_some(with)
     }
@@ -86,21 +95,21 @@ impl AllHeld {
         self.hevc.print();
         self.streams.print();
         self.directories.print();
+        self.lists.print();
         let records = self.strict.disagree + self.hevc.disagree;
-        records + self.streams.disagree + self.directories.disagree
+        records + self.streams.disagree + self.directories.disagree + self.lists.disagree
     }
 }
 
 /// How often both returned a refusal's number, for each call.
 type Table = BTreeMap<(u8, u32), u64>;
 
-/// Every case of a run: the fixed lists first, then as many of any shape as are asked for. An HEVC record that reads is written again; a stream is
-/// assembled with both choices of start codes.
-fn all_cases(seed: u64, count: usize, emit: generator::Emit) {
+/// The fixed lists. A case that takes a unit list is sent in both versions of the list.
+fn fixed_cases(emit: generator::Emit) {
     let emit: generator::Emit = &mut |c| {
-        let further = hevc::written_again(&c).or_else(|| start_codes::shortened(&c));
+        let twin = versions::twin(&c);
         emit(c);
-        further.into_iter().for_each(&mut *emit);
+        twin.into_iter().for_each(&mut *emit);
     };
     generator::worked(emit);
     generator::numbers(emit);
@@ -112,7 +121,21 @@ fn all_cases(seed: u64, count: usize, emit: generator::Emit) {
     hevc::fixed(emit);
     hevc::large(emit);
     directory_cases::fixed(emit);
+    version_cases::fixed(emit);
+    version_cases::longest(emit);
+    version_cases::large(emit);
     generator::large(emit);
+}
+
+/// Every case of a run: the fixed lists first, then as many of any shape as are asked for. An HEVC record that reads is written again; a stream is
+/// assembled with both choices of start codes.
+fn all_cases(seed: u64, count: usize, emit: generator::Emit) {
+    let emit: generator::Emit = &mut |c| {
+        let further = hevc::written_again(&c).or_else(|| start_codes::shortened(&c));
+        emit(c);
+        further.into_iter().for_each(&mut *emit);
+    };
+    fixed_cases(emit);
     generator::short_strings(2, emit);
     generator::zero_strings(8, emit);
     let mut r = rng::Rng(seed);
@@ -131,6 +154,9 @@ fn held_to(c: &Case) -> HeldTo {
         (start_codes::SHORT, _) => start_codes::asked(c).map_or(HeldTo::Nothing, HeldTo::Stream),
         (directory::FILL..=directory::PART, _) => {
             directory::asked(c).map_or(HeldTo::Nothing, HeldTo::Units)
+        }
+        (versions::NARROW | versions::WIDEN, _) => {
+            versions::asked(c).map_or(HeldTo::Nothing, HeldTo::Arrays)
         }
         (_, Some(bytes)) => HeldTo::Record(bytes.clone()),
         _ => HeldTo::Nothing,
@@ -200,7 +226,7 @@ fn print(table: &Table) {
     println!("\n| call | accepted | refused, by number |\n|---|---:|---|");
     for (i, name) in NAMES.iter().enumerate() {
         let of = |e| table.get(&(i as u8 + 1, e)).copied().unwrap_or(0);
-        let refused: Vec<String> = (1..=28)
+        let refused: Vec<String> = (1..=29)
             .filter(|&e| of(e) > 0)
             .map(|e| format!("{e}: {}", of(e)))
             .collect();

@@ -1,6 +1,6 @@
-//! What the original does not have, from the rules of docs/SCOPE.md: the unit list (2), the unit check (4.6), the kinds of units (3.3), the limits of
-//! full write (3.9) and of HEVC write (4.11), where units lie, the units of an access unit one by one and their stream with short start codes (3.12),
-//! the two rules of strict reading (4.10), and a directory of units (4.12).
+//! What the original does not have, from the rules of docs/SCOPE.md: the unit list in both versions (2), the unit check (4.6), the kinds of units
+//! (3.3), the limits of full write (3.9) and of HEVC write (4.11), where units lie, the units of an access unit one by one and their stream with
+//! short start codes (3.12), the two rules of strict reading (4.10), a directory of units (4.12), and narrowing and widening (4.13).
 
 use original::hvcc::{split_length_prefixed, HevcConfig, NalArray};
 use original::vvcc::{self, VvcConfig, VvcNalArray};
@@ -19,13 +19,32 @@ pub fn too_long(op: u8) -> Result<String, Refusal> {
     }
 }
 
-fn chunk(s: &[u8]) -> Option<(&[u8], &[u8])> {
-    let n = u32::from_be_bytes(s.get(..4)?.try_into().ok()?) as usize;
-    let rest = &s[4..];
+/// The versions of a unit list.
+pub const WIDE: u8 = 1;
+pub const NARROW: u8 = 2;
+
+/// How many bytes a length has in a list of a version; none for a version that no list has.
+pub fn width(version: u8) -> Option<usize> {
+    match version {
+        WIDE => Some(4),
+        NARROW => Some(2),
+        _ => None,
+    }
+}
+
+/// The length of `width` bytes at the front; none if it is cut off.
+pub fn length(s: &[u8], width: usize) -> Option<usize> {
+    let bytes = s.get(..width)?;
+    Some(bytes.iter().fold(0, |n, b| n << 8 | usize::from(*b)))
+}
+
+fn chunk(s: &[u8], width: usize) -> Option<(&[u8], &[u8])> {
+    let n = length(s, width)?;
+    let rest = &s[width..];
     (n <= rest.len()).then(|| rest.split_at(n))
 }
 
-fn array(s: &[u8]) -> Option<NalArray> {
+fn array(s: &[u8], width: usize) -> Option<NalArray> {
     let (&complete, s) = s.split_first()?;
     let (&kind, mut s) = s.split_first()?;
     if complete > 3 || kind > 63 {
@@ -33,7 +52,7 @@ fn array(s: &[u8]) -> Option<NalArray> {
     }
     let mut units = Vec::new();
     while !s.is_empty() {
-        let (unit, rest) = chunk(s)?;
+        let (unit, rest) = chunk(s, width)?;
         units.push(unit.to_vec());
         s = rest;
     }
@@ -45,15 +64,15 @@ fn array(s: &[u8]) -> Option<NalArray> {
     ))
 }
 
-/// A unit list taken apart; 21 where it is malformed. Its arrays are those of an HEVC record: the type has six bits, and there is a reserved bit.
+/// A unit list of either version taken apart; 21 where it is malformed. Its arrays are those of an HEVC record: the type has six bits, and there is a
+/// reserved bit.
 pub fn list(s: &[u8]) -> Result<Vec<NalArray>, Refusal> {
-    let Some((1, mut s)) = s.split_first() else {
-        return Err(21);
-    };
+    let (version, mut s) = s.split_first().ok_or(21u32)?;
+    let width = width(*version).ok_or(21u32)?;
     let mut arrays = Vec::new();
     while !s.is_empty() {
-        let (one, rest) = chunk(s).ok_or(21u32)?;
-        arrays.push(array(one).ok_or(21u32)?);
+        let (one, rest) = chunk(s, width).ok_or(21u32)?;
+        arrays.push(array(one, width).ok_or(21u32)?);
         s = rest;
     }
     Ok(arrays)
@@ -70,14 +89,15 @@ pub type Place = (u8, usize, usize);
 
 /// Where the units of a sound list lie, each with its array's type.
 pub fn list_places(s: &[u8]) -> Vec<(u8, Place)> {
-    let four = |at: usize| u32::from_be_bytes(s[at..at + 4].try_into().unwrap()) as usize;
+    let w = width(s[0]).expect("a sound list");
+    let len = |at: usize| length(&s[at..], w).expect("a sound list");
     let (mut out, mut at) = (Vec::new(), 1);
     while at < s.len() {
-        let (end, kind) = (at + 4 + four(at), s[at + 5]);
-        at += 6;
+        let (end, kind) = (at + w + len(at), s[at + w + 1]);
+        at += w + 2;
         while at < end {
-            out.push((kind, (1, at + 4, four(at))));
-            at += 4 + four(at);
+            out.push((kind, (1, at + w, len(at))));
+            at += w + len(at);
         }
     }
     out
@@ -89,34 +109,71 @@ pub fn places(which: u8, s: &[u8], parts: &[&[u8]]) -> Vec<Place> {
     parts.iter().map(|u| (which, start(u), u.len())).collect()
 }
 
-/// Puts an array of a list: its first byte, its type and its units.
-fn put_array(out: &mut Vec<u8>, complete: u8, kind: u8, units: &[Vec<u8>]) {
+/// Puts bytes after their length, which has `width` bytes.
+fn put_chunk(out: &mut Vec<u8>, width: usize, bytes: &[u8]) {
+    let n = bytes.len();
+    assert!(n >> (8 * width) == 0, "a length of {n} in {width} bytes");
+    out.extend_from_slice(&n.to_be_bytes()[8 - width..]);
+    out.extend_from_slice(bytes);
+}
+
+/// Puts an array of a list, whose lengths have `width` bytes: its first byte, its type and its units.
+fn put_array(out: &mut Vec<u8>, width: usize, complete: u8, kind: u8, units: &[Vec<u8>]) {
     let mut one = vec![complete, kind];
     for u in units {
-        one.extend_from_slice(&(u.len() as u32).to_be_bytes());
-        one.extend_from_slice(u);
+        put_chunk(&mut one, width, u);
     }
-    out.extend_from_slice(&(one.len() as u32).to_be_bytes());
-    out.extend_from_slice(&one);
+    put_chunk(out, width, &one);
 }
 
-/// A unit list of the arrays of a full record.
+/// A unit list of the arrays of a full record, as the calls write it: of version 01.
 pub fn list_bytes(arrays: &[VvcNalArray]) -> Vec<u8> {
-    let mut out = vec![1];
+    let mut out = vec![WIDE];
     for a in arrays {
-        put_array(&mut out, a.complete as u8, a.nal_unit_type, &a.nal_units);
+        put_array(&mut out, 4, a.complete as u8, a.nal_unit_type, &a.nal_units);
     }
     out
 }
 
-/// A unit list of arrays that may have the reserved bit.
-pub fn list_with_reserved(arrays: &[NalArray]) -> Vec<u8> {
-    let mut out = vec![1];
+/// A unit list of a version. Its arrays may have the reserved bit, and their lengths must have room in the version.
+fn list_of_version(version: u8, arrays: &[NalArray]) -> Vec<u8> {
+    let width = width(version).expect("a version of a list");
+    let mut out = vec![version];
     for a in arrays {
         let complete = a.complete as u8 + 2 * a.reserved_bit as u8;
-        put_array(&mut out, complete, a.nal_unit_type, &a.nal_units);
+        put_array(&mut out, width, complete, a.nal_unit_type, &a.nal_units);
     }
     out
+}
+
+/// A unit list of version 01.
+pub fn list_with_reserved(arrays: &[NalArray]) -> Vec<u8> {
+    list_of_version(WIDE, arrays)
+}
+
+/// Whether a length of arrays is above 65,535 where lengths have two bytes: that of an array, which is what follows it, or that of a unit.
+fn too_long_to_narrow(arrays: &[NalArray]) -> bool {
+    let follows = |a: &NalArray| 2 + a.nal_units.iter().map(|u| 2 + u.len()).sum::<usize>();
+    let unit = |a: &NalArray| a.nal_units.iter().any(|u| u.len() > 65535);
+    arrays.iter().any(|a| follows(a) > 65535 || unit(a))
+}
+
+/// A unit list of version 02: 29.
+pub fn narrow_list(arrays: &[NalArray]) -> Result<Vec<u8>, Refusal> {
+    if too_long_to_narrow(arrays) {
+        return Err(29);
+    }
+    Ok(list_of_version(NARROW, arrays))
+}
+
+/// The list of version 02 with the arrays of a list: 21, 29.
+pub fn narrow(s: &[u8]) -> Result<Vec<u8>, Refusal> {
+    narrow_list(&list(s)?)
+}
+
+/// The list of version 01 with the arrays of a list: 21.
+pub fn widen(s: &[u8]) -> Result<Vec<u8>, Refusal> {
+    Ok(list_with_reserved(&list(s)?))
 }
 
 /// The unit check: not empty, no 00 00 01, no 00 at the end.

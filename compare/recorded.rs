@@ -1,5 +1,6 @@
 //! The recorded list of `replay`: some thousands of short cases with the expected answers. A case is taken if it reaches a region of the original
-//! that no earlier case reached, or is one of the first of its kind: its call, refusal and room.
+//! that no earlier case reached, or is one of the first of its kind: its call, refusal and room. With a case that takes a unit list the same one with
+//! the list in the other version is taken, and both are answered alike.
 
 use crate::answers;
 use crate::case::Case;
@@ -13,8 +14,10 @@ use crate::rng::Rng;
 use crate::shapes;
 use crate::start_codes;
 use crate::strict;
+use crate::version_cases;
+use crate::versions;
 use original::vvcc::VvcNalArray;
-use std::collections::BTreeMap;
+use std::collections::{BTreeMap, HashSet};
 use std::fs;
 use std::path::Path;
 
@@ -54,6 +57,9 @@ struct List {
     cases: usize,
     kinds: BTreeMap<(u8, u32, usize), usize>,
     reached: Vec<bool>,
+    lines: HashSet<String>,
+    pairs: usize,
+    alike: usize,
 }
 
 /// The room of a case compared with its result: none, too short, exact, longer; and no result nor unit.
@@ -68,10 +74,27 @@ fn room(c: &Case, a: &answers::Answer) -> usize {
 }
 
 impl List {
-    fn take(&mut self, c: &Case, a: &answers::Answer) {
-        self.input.push_str(&c.line());
+    /// Puts a case, if it is not in the list yet, and returns whether it was not.
+    fn put(&mut self, c: &Case, a: &answers::Answer) -> bool {
+        let line = c.line();
+        if self.lines.contains(&line) {
+            return false;
+        }
+        self.input.push_str(&line);
         self.output.push_str(&answers::line(c, a));
+        self.lines.insert(line);
         self.cases += 1;
+        true
+    }
+
+    /// Takes a case; if it takes a unit list, in both versions of the list.
+    fn take(&mut self, c: &Case, a: &answers::Answer) {
+        let new = self.put(c, a);
+        if let Some((twin, b, alike)) = versions::answered_twin(c, a) {
+            let pair = usize::from(self.put(&twin, &b) || new);
+            self.pairs += pair;
+            self.alike += pair * usize::from(alike);
+        }
     }
 
     /// Takes a case; if it assembles a stream, with both choices of start codes.
@@ -107,6 +130,9 @@ pub fn write(folder: &str, seed: u64) -> bool {
         cases: 0,
         kinds: BTreeMap::new(),
         reached: Vec::new(),
+        lines: HashSet::new(),
+        pairs: 0,
+        alike: 0,
     };
     list.program_lines();
     generator::worked(&mut |c| list.take(&c, &answers::answer(&c)));
@@ -115,6 +141,7 @@ pub fn write(folder: &str, seed: u64) -> bool {
     strict::short(&mut |c| list.take(&c, &answers::answer(&c)));
     hevc::short(&mut |c| list.take(&c, &answers::answer(&c)));
     directory_cases::fixed(&mut |c| list.take(&c, &answers::answer(&c)));
+    version_cases::fixed(&mut |c| list.take(&c, &answers::answer(&c)));
     codes::short(&mut |c| list.take(&c, &answers::answer(&c)));
     for (op, unit) in [
         (19, shapes::longest_sps()),
@@ -141,6 +168,7 @@ pub fn write(folder: &str, seed: u64) -> bool {
         list.take_both(Case::of_line(line).expect("a case"));
     }
     list.long_cases();
+    version_cases::longest(&mut |c| list.take(&c, &answers::answer(&c)));
     fs::write(Path::new(folder).join("stdin"), &list.input).expect("stdin is written");
     fs::write(Path::new(folder).join("stdout"), &list.output).expect("stdout is written");
     let reached = list.reached.iter().filter(|r| **r).count();
@@ -149,6 +177,10 @@ pub fn write(folder: &str, seed: u64) -> bool {
         list.cases,
         list.input.len(),
         list.output.len()
+    );
+    println!(
+        "{} pairs of both versions of a list, {} held to be answered alike",
+        list.pairs, list.alike
     );
     println!(
         "{reached} of {} regions of the original reached by them",
@@ -185,7 +217,7 @@ impl List {
             (&long.line(), "case too long\n"),
             (&together.line(), "case too long\n"),
             (&beyond, "case too long\n"),
-            (&none(59).line(), "59 no such call =abab\n"),
+            (&none(61).line(), "61 no such call =abab\n"),
             (&none(0).line(), "0 no such call =abab\n"),
             (&odd, "6 0 1 0 =\n"),
         ] {

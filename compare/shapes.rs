@@ -1,7 +1,7 @@
 //! Parameter sets, units, lists, records, items and streams of every shape, valid ones and damaged copies.
 
-use crate::reading::list_with_reserved;
 use crate::rng::Rng;
+use crate::versions;
 use original::hvcc::NalArray;
 use original::vvcc::VvcNalArray;
 
@@ -450,7 +450,7 @@ pub fn widened(r: &mut Rng, arrays: Vec<VvcNalArray>) -> Vec<NalArray> {
         .collect()
 }
 
-/// The list of arrays; for one in four also with types and reserved bits that a full record's arrays do not have.
+/// The list of arrays, in either version; for one in four also with types and reserved bits that a full record's arrays do not have.
 fn list_of(r: &mut Rng, arrays: Vec<VvcNalArray>) -> Vec<u8> {
     let plain = |a: VvcNalArray| NalArray::new(a.complete, false, a.nal_unit_type, a.nal_units);
     let arrays = if r.one_in(4) {
@@ -458,7 +458,7 @@ fn list_of(r: &mut Rng, arrays: Vec<VvcNalArray>) -> Vec<u8> {
     } else {
         arrays.into_iter().map(plain).collect()
     };
-    list_with_reserved(&arrays)
+    versions::list_of(r.one_in(2), &arrays)
 }
 
 /// A unit list.

@@ -55,7 +55,7 @@ pub fn asked(c: &Case) -> Option<Asked> {
 }
 
 /// The refusal in an answer line, and the bytes that were written.
-fn written(line: &str) -> Option<(u32, Vec<u8>)> {
+pub fn written(line: &str) -> Option<(u32, Vec<u8>)> {
     let mut words = line.trim_end().split(' ').skip(1);
     let refusal = words.next()?.parse().ok()?;
     if refusal != 0 {

@@ -24,7 +24,7 @@
 extern "C" {
 #endif
 
-/* Why a call is refused. docs/SCOPE.md defines the numbers. No function below returns 8, 9, 10, 21, 24, 27 or 28: they belong to calls that
+/* Why a call is refused. docs/SCOPE.md defines the numbers. No function below returns 8, 9, 10, 21, 24, 27, 28 or 29: they belong to calls that
  * are not exported. */
 enum vvcc_refusal {
     VVCC_ACCEPTED = 0,                 /* no refusal */
@@ -55,7 +55,8 @@ enum vvcc_refusal {
     VVCC_RESERVED_BIT = 25,            /* a reserved bit of a full record is not the standard's */
     VVCC_ARRAY_TYPE = 26,              /* an array of a full record has a type outside 12 to 17 and 23 */
     VVCC_CONFIGURATION_VERSION = 27,   /* the first byte of an HEVC record is not 1 */
-    VVCC_DIRECTORY_TOO_SHORT = 28      /* a directory is shorter than the number of units */
+    VVCC_DIRECTORY_TOO_SHORT = 28,     /* a directory is shorter than the number of units */
+    VVCC_TOO_LONG_TO_NARROW = 29       /* a length of the unit list is above 65,535 as narrowed */
 };
 
 /* The start codes of a stream: the number that a call takes as `short_codes`. Any number but 0 means short codes.

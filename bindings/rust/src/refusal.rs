@@ -54,6 +54,7 @@ refusals! {
     ArrayType = 26, "an array of a full record has a type outside 12 to 17 and 23";
     ConfigurationVersion = 27, "the first byte of an HEVC record is not 1";
     DirectoryTooShort = 28, "a directory is shorter than the number of units";
+    TooLongToNarrow = 29, "a length of the unit list is above 65,535 as narrowed";
 }
 
 impl Refusal {
@@ -62,7 +63,7 @@ impl Refusal {
         self as u32
     }
 
-    /// The refusal with a number that the library returned: 1 to 28.
+    /// The refusal with a number that the library returned: 1 to 29.
     pub(crate) fn of_number(n: u32) -> Refusal {
         Refusal::ALL[n as usize - 1]
     }

@@ -2,11 +2,12 @@
 //! round the sides take turns, and the medians of their times are printed.
 mod records;
 mod timing;
+mod walks;
 
-use original::vvcc::{CompactVvcConfig, VvcConfig};
-use records::compact_of;
+use original::vvcc::VvcConfig;
 use std::hint::black_box;
-use timing::{clock, median};
+use walks::{full_of, list_of, long_record, original, part, walk};
+use walks::{Table, UnitNumbers, SPS, UNITS, WIDE};
 
 #[repr(C)]
 #[derive(Clone, Copy)]
@@ -18,15 +19,6 @@ struct Entry {
 
 /// The number of units of each type.
 type Totals = [usize; 64];
-
-#[repr(C)]
-#[derive(Clone, Copy)]
-struct UnitNumbers {
-    refusal: u32,
-    is_there: u32,
-    start: usize,
-    len: usize,
-}
 
 extern "C" {
     fn speed_fill(
@@ -44,18 +36,10 @@ extern "C" {
         totals: *const Totals,
         t: u8,
     ) -> UnitNumbers;
-    fn speed_walk(list: *const u8, list_len: usize, t: u8) -> UnitNumbers;
 }
 
-/// The type that is asked for, that of an SPS, and how many times.
-const SPS: u8 = 15;
+/// How many times the first SPS is asked for.
 const TIMES: usize = 36;
-
-/// How many units the record has.
-const UNITS: usize = 33;
-
-/// How many passes are made between two readings of the clock.
-const PASSES: usize = 500;
 
 /// A directory and its totals.
 struct Directory {
@@ -89,22 +73,6 @@ impl Directory {
     }
 }
 
-/// The first SPS, by a walk over the list.
-fn walk(list: &[u8]) -> UnitNumbers {
-    unsafe { speed_walk(list.as_ptr(), list.len(), SPS) }
-}
-
-/// The first SPS of the original's record.
-fn original(config: &VvcConfig) -> Option<&[u8]> {
-    config.nal_units_of_type(SPS).first().copied()
-}
-
-/// The part of a list that an answer says.
-fn part(list: &[u8], unit: UnitNumbers) -> &[u8] {
-    assert_eq!((unit.refusal, unit.is_there), (0, 1));
-    &list[unit.start..unit.start + unit.len]
-}
-
 /// Asks as many times as are measured. An answer is looked at where it lies, and not copied.
 fn many<T>(ask: impl Fn() -> T) {
     for _ in 0..TIMES {
@@ -114,92 +82,55 @@ fn many<T>(ask: impl Fn() -> T) {
 
 /// The record: an SPS, then PPS, APS and SEI units in turn; or the same with the SPS behind all others.
 fn config_of(sps_last: bool) -> VvcConfig {
-    let mut c = CompactVvcConfig::parse(&compact_of(UNITS, &[16, 17, 23])).unwrap();
+    let mut c = long_record();
     if sps_last {
         c.nal_units.rotate_left(1);
     }
-    VvcConfig::parse(&c.to_full(1, 8, 16, 8).unwrap().serialize()).unwrap()
+    full_of(&c)
 }
 
-/// The units of a record as a unit list.
-fn list_of(config: &VvcConfig) -> Vec<u8> {
-    let mut list = vec![1];
-    for a in &config.arrays {
-        let mut rest = vec![a.complete as u8, a.nal_unit_type];
-        for u in &a.nal_units {
-            rest.extend((u.len() as u32).to_be_bytes());
-            rest.extend(u);
-        }
-        list.extend((rest.len() as u32).to_be_bytes());
-        list.extend(rest);
+/// One row: the directory's time, the other sides' times, and the directory's in parts of each.
+fn row(t: &Table, name: &str, count: usize, sides: &mut [&mut dyn FnMut()]) {
+    if !t.wants(name) {
+        return;
     }
-    list
+    let ns = t.medians(count, sides);
+    let others = &ns[1..];
+    let mut columns: Vec<String> = ns.iter().map(|t| format!("{t:.1}")).collect();
+    columns.resize(3, "-".into());
+    columns.extend(others.iter().map(|t| format!("{:.2}", ns[0] / t)));
+    columns.resize(5, "-".into());
+    println!("| {name} | {} |", columns.join(" | "));
 }
 
-/// The table's rows, as they are measured.
-struct Table {
-    rounds: usize,
-    word: String,
-}
-
-impl Table {
-    /// One row: the sides one after another in every round; they take turns in being first. A side's pass does what is measured `count` times.
-    fn row(&self, name: &str, count: usize, sides: &mut [&mut dyn FnMut()]) {
-        if !name.contains(&self.word) {
-            return;
-        }
-        let mut times = vec![vec![]; sides.len()];
-        for round in 0..self.rounds {
-            for k in 0..sides.len() {
-                let i = (round + k) % sides.len();
-                times[i].push(clock(PASSES, &mut *sides[i]) / count as f64);
-            }
-        }
-        let ns: Vec<f64> = times.into_iter().map(median).collect();
-        let others = &ns[1..];
-        let mut columns: Vec<String> = ns.iter().map(|t| format!("{t:.1}")).collect();
-        columns.resize(3, "-".into());
-        columns.extend(others.iter().map(|t| format!("{:.2}", ns[0] / t)));
-        columns.resize(5, "-".into());
-        println!("| {name} | {} |", columns.join(" | "));
-    }
-
-    /// The rows of one record. Every side is first held to the same unit.
-    fn rows(&self, place: &str, config: &VvcConfig) {
-        let list = &list_of(config)[..];
-        let mut d = Directory::new();
-        assert_eq!(d.fill(list), 0);
-        let right = original(config).unwrap();
-        assert!(part(list, d.first(list)) == right && part(list, walk(list)) == right);
-        let mut walks = || many(|| walk(black_box(list)));
-        let mut originals = || many(|| original(black_box(config)));
-        let mut all = || {
-            assert_eq!(black_box(&mut d).fill(black_box(list)), 0);
-            many(|| black_box(&d).first(black_box(list)));
-        };
-        let name = format!("directory, first SPS, {TIMES} times, {UNITS} units, {place}");
-        self.row(&name, 1, &mut [&mut all, &mut walks, &mut originals]);
-        let mut fill = || assert_eq!(black_box(&mut d).fill(black_box(list)), 0);
-        let name = format!("directory, filling, {UNITS} units, {place}");
-        self.row(&name, 1, &mut [&mut fill]);
-        let mut questions = || many(|| black_box(&d).first(black_box(list)));
-        let name = format!("directory, one question, {UNITS} units, {place}");
-        let sides: &mut [&mut dyn FnMut()] = &mut [&mut questions, &mut walks, &mut originals];
-        self.row(&name, TIMES, sides);
-    }
+/// The rows of one record. Every side is first held to the same unit.
+fn rows(t: &Table, place: &str, config: &VvcConfig) {
+    let list = &list_of(&config.arrays, WIDE)[..];
+    let mut d = Directory::new();
+    assert_eq!(d.fill(list), 0);
+    let right = original(config).unwrap();
+    assert!(part(list, d.first(list)) == right && part(list, walk(list)) == right);
+    let mut walks = || many(|| walk(black_box(list)));
+    let mut originals = || many(|| original(black_box(config)));
+    let mut all = || {
+        assert_eq!(black_box(&mut d).fill(black_box(list)), 0);
+        many(|| black_box(&d).first(black_box(list)));
+    };
+    let name = format!("directory, first SPS, {TIMES} times, {UNITS} units, {place}");
+    row(t, &name, 1, &mut [&mut all, &mut walks, &mut originals]);
+    let mut fill = || assert_eq!(black_box(&mut d).fill(black_box(list)), 0);
+    let name = format!("directory, filling, {UNITS} units, {place}");
+    row(t, &name, 1, &mut [&mut fill]);
+    let mut questions = || many(|| black_box(&d).first(black_box(list)));
+    let name = format!("directory, one question, {UNITS} units, {place}");
+    let sides: &mut [&mut dyn FnMut()] = &mut [&mut questions, &mut walks, &mut originals];
+    row(t, &name, TIMES, sides);
 }
 
 fn main() {
-    let args: Vec<String> = std::env::args().collect();
-    let rounds = args
-        .get(1)
-        .map_or(201, |n| n.parse().expect("ROUNDS is a number"));
-    let t = Table {
-        rounds,
-        word: args.get(2).cloned().unwrap_or_default(),
-    };
+    let t = Table::asked();
     println!("| Work | directory, ns | walks, ns | original, ns | directory / walks | directory / original |");
     println!("|---|---|---|---|---|---|");
-    t.rows("SPS first", &config_of(false));
-    t.rows("SPS last", &config_of(true));
+    rows(&t, "SPS first", &config_of(false));
+    rows(&t, "SPS last", &config_of(true));
 }

@@ -14,7 +14,7 @@ use Rattle.boxes.specs.declared.Span.{Span}
 use Rattle.unit_list.specs.UnitList.{Array, largestType, decode, unitsOf, unitsOfType, heldArrays, contents}
 use Rattle.unit_list.specs.Answers.{listUnits}
 use Rattle.unit_list.proofs.Units.{units-held}
-use Rattle.directory.specs.Directory.{entriesOf, entriesOfType, tableFrom, totalsOf, fitting, filled, fillDirectory}
+use Rattle.directory.specs.Directory.{entryOf, entriesOf, listEntries, entriesOfType, tableFrom, totalsOf, fitting, filled, fillDirectory}
 use Rattle.directory.specs.declared.Entry.{Entry}
 use Rattle.directory.proofs.ListEntries.{spanOf, entries-spans, entries-of-type}
 use Rattle.narrow.proofs.Versions.{same-arrays, same-answer}
@@ -29,7 +29,7 @@ use Rattle.split.specs.Stream.{annexB}
 use Rattle.access_unit.specs.AccessUnit.{Source, ofList, ofItem, kept, leading, following, arranged, notEmpty, targetOf, accessUnit, heldIn}
 use Rattle.access_unit.specs.AccessUnit.{codeOf, assemble}
 use Rattle.access_unit.specs.declared.StartCodes.{StartCodes}
-use Rattle.both_versions.specs.BothVersions.{SameAnswers, BothVersions}
+use Rattle.both_versions.specs.BothVersions.{entryBytes, SameAnswers, BothVersions}
 use Rattle.both_versions.proofs.Units.{units-of-type-held, length-held, same-made, same-count, same-unit}
 
 -- two lists with the same arrays
@@ -179,6 +179,32 @@ module _ (d : List Entry) (totals : List ℕ) where
           (λ x. sym (length-spans (entriesOfType x (entriesOf xs))) ∙ ap length (entries-of-type x xs) ∙ sym (length-held s (unitsOfType x xs))
           ∙ ap length (units-of-type-held x s xs)))
 
+-- the entries, by the arrays' types and the units' bytes
+typedBytes : List (Array (List ℕ)) → List (ℕ × List ℕ)
+typedBytes [] = []
+typedBytes (a ∷ ys) = map (λ u. (a .unitType, u)) (a .units) ++ typedBytes ys
+
+entries-typed : (s : List ℕ) (x : ℕ) (us : List Span) → map (entryBytes s) (map (entryOf x) us) ≡ map (λ u. (x, u)) (map (held s) us)
+entries-typed s x [] = refl
+entries-typed s x (a ∷ us) = rw (entries-typed s x us)
+
+entries-bytes : (s : List ℕ) (xs : List (Array Span)) → map (entryBytes s) (entriesOf xs) ≡ typedBytes (heldArrays s xs)
+unfolding entriesOf typedBytes
+entries-bytes s [] = refl
+entries-bytes s (a ∷ xs) =
+    map-append (entryBytes s) (map (entryOf (a .unitType)) (a .units)) (entriesOf xs)
+    ∙ rw (entries-typed s (a .unitType) (a .units), entries-bytes s xs)
+
+entries-by : (s : List ℕ)
+    → andThen (listEntries s) (λ es. accept (map (entryBytes s) es)) ≡ andThen (decode s) (λ xs. accept (typedBytes (heldArrays s xs)))
+entries-by s = go (decode s)
+  where
+    go : (o : Outcome (List (Array Span)))
+        → andThen (andThen o (λ xs. accept (entriesOf xs))) (λ es. accept (map (entryBytes s) es))
+        ≡ andThen o (λ xs. accept (typedBytes (heldArrays s xs)))
+    go (accept xs) = ap accept (entries-bytes s xs)
+    go (refuse n) = refl
+
 -- ### the claim
 
 same-answers : (s t : List ℕ) → contents t ≡ contents s → SameAnswers s t
@@ -193,6 +219,7 @@ same-answers s t e =
           ∙ ap (numberIn d totals) (same-answer (ℕ × List ℕ) (filling d totals) s t e) ∙ sym (fill-by d totals s .0);
       totals = λ d totals. fill-by d totals t .1
           ∙ ap (totalsIn d totals) (same-answer (ℕ × List ℕ) (filling d totals) s t e) ∙ sym (fill-by d totals s .1);
+      entries = entries-by t ∙ same-answer (List (ℕ × List ℕ)) (λ ys. accept (typedBytes ys)) s t e ∙ sym (entries-by s);
       compact = λ c. same-units s t e (compactBytes c);
       full = λ h. same-answer (List ℕ) (writeFull h) s t e;
       hevc = λ h. same-answer (List ℕ) (writeHevc h) s t e;

@@ -10,7 +10,7 @@ use Rattle.boxes.specs.Bytes.{AllBytes}
 use Rattle.boxes.specs.Parts.{held}
 use Rattle.boxes.specs.Walk.{countFound, found}
 use Rattle.unit_list.specs.Answers.{listUnits, listUnitsOfType}
-use Rattle.directory.specs.Directory.{fillDirectory}
+use Rattle.directory.specs.Directory.{listEntries, fillDirectory}
 use Rattle.directory.specs.declared.Entry.{Entry}
 use Rattle.narrow.specs.Narrow.{narrowed, widened}
 use Rattle.compact.specs.Compact.{serializeCompact}
@@ -25,15 +25,20 @@ use Rattle.expand.specs.declared.Picture.{Picture}
 use Rattle.access_unit.specs.AccessUnit.{accessUnit, heldIn, assemble}
 use Rattle.access_unit.specs.declared.StartCodes.{StartCodes}
 
+-- the type of a directory's entry, and the bytes of s that it stands for
+abbrev pub entryBytes : List ℕ → Entry → ℕ × List ℕ
+entryBytes s e = (e .«unit_type», held s (record { start = e .offset; len = e .len }))
+
 pub record SameAnswers (s t : List ℕ) : Type 0 where
   -- how many units there are, and the bytes of unit k; the same for those of a type, and so for the record's SPS
   pub count : countFound (listUnits t) ≡ countFound (listUnits s)
   pub unit : (k : ℕ) → held t (found (listUnits t) k) ≡ held s (found (listUnits s) k)
   pub countOfType : (x : ℕ) → countFound (listUnitsOfType x t) ≡ countFound (listUnitsOfType x s)
   pub unitOfType : (x k : ℕ) → held t (found (listUnitsOfType x t) k) ≡ held s (found (listUnitsOfType x s) k)
-  -- a directory: the number of entries or the refusal, and the totals
+  -- a directory: the number of entries or the refusal, the totals, and of each entry that is filled the type and the bytes
   pub filled : (d : List Entry) (totals : List ℕ) → fillDirectory t d totals .0 ≡ fillDirectory s d totals .0
   pub totals : (d : List Entry) (totals : List ℕ) → fillDirectory t d totals .1 .1 ≡ fillDirectory s d totals .1 .1
+  pub entries : andThen (listEntries t) (λ es. accept (map (entryBytes t) es)) ≡ andThen (listEntries s) (λ es. accept (map (entryBytes s) es))
   -- what is written: a compact record, a full record, an HEVC record, the expanded list with its head
   pub compact : (c : CompactVvcConfig) → serializeCompact c t ≡ serializeCompact c s
   pub full : (h : VvcConfig) → serializeFull h t ≡ serializeFull h s

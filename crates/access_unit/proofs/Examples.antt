@@ -7,13 +7,13 @@ use native.Mathlib.Omega.{arith}
 use Rattle.parse.specs.Outcome.{accept}
 use Rattle.parse.specs.Parse.{many, manyUpTo}
 use Rattle.boxes.specs.Bytes.{be, uint, bytes, chunk, inside}
-use Rattle.nal.specs.StartCode.{isStartCode, scan, endsInZero, unitChecked}
+use Rattle.nal.specs.StartCode.{bytesBefore, startsWithCode, scan, endsInZero, unitChecked}
 use Rattle.nal.specs.Kinds.{unitKind}
 use Rattle.unit_list.specs.UnitList.{arrayRest, array, unitList, decode, unitsOf}
 use Rattle.split.specs.Item.{itemUnit, itemUnits, splitItem}
 use Rattle.split.specs.Stream.{annexB}
 use Rattle.split.specs.RoundTrip.{SplitsInto, threes}
-use Rattle.split.proofs.Checked.{allChecked, all-pass}
+use Rattle.split.proofs.Checked.{allChecked, all-splittable}
 use Rattle.full.specs.Read.{plainHead}
 use Rattle.access_unit.specs.AccessUnit.{keeps, mayLead, leading, following, kept, arranged, accessUnit, codeOf, assemble}
 use Rattle.access_unit.specs.declared.StartCodes.the-variants.{Four, Short}
@@ -55,8 +55,8 @@ made = record { head = plainHead 1; list = list; item = item; tols = none; sourc
 
 -- it splits into its units, of which three have three bytes
 recovered : SplitsInto short units
-unfolding isStartCode scan endsInZero unitChecked allChecked
-recovered = assembly-splits Short short units made (all-pass units refl) (omega arith)
+unfolding bytesBefore startsWithCode scan endsInZero unitChecked allChecked
+recovered = assembly-splits Short short units made (all-splittable units refl) (omega arith)
 
 three-of-six : threes (codeOf Short) units ≡ 3
 unfolding threes

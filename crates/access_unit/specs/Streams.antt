@@ -6,7 +6,7 @@ use mathlib.Core.List.{List, map}
 use mathlib.Core.Option.{Option}
 use lib.ListN.{length}
 use Rattle.parse.specs.Outcome.{accept, refuse}
-use Rattle.split.specs.RoundTrip.{AllPass, SplitsInto, threes}
+use Rattle.split.specs.RoundTrip.{AllSplittable, SplitsInto, threes}
 use Rattle.full.specs.declared.VvcConfig.{VvcConfig}
 use Rattle.access_unit.specs.AccessUnit.{Source, accessUnit, heldIn, codeOf, assemble}
 use Rattle.access_unit.specs.declared.StartCodes.{StartCodes}
@@ -23,14 +23,15 @@ pub record Assembly (codes : StartCodes) (s : List ℕ) (units : List (List ℕ)
   pub given : assemble codes head list item tols ≡ accept s
   pub held : map (heldIn list item) sources ≡ units
 
--- Where all units that are kept pass the unit check and the stream has at most 2^30 bytes, splitting returns exactly them, in order.
+-- Where no unit that is kept is empty, contains 00 00 01 or ends in 00 and the stream has at most 2^30 bytes, splitting returns exactly them, in
+-- order.
 abbrev pub AssemblySplits : StartCodes → Type 0
-AssemblySplits codes = (s : List ℕ) (us : List (List ℕ)) → Assembly codes s us → AllPass us → length s ≤ 2 ^ 30 → SplitsInto s us
+AssemblySplits codes = (s : List ℕ) (us : List (List ℕ)) → Assembly codes s us → AllSplittable us → length s ≤ 2 ^ 30 → SplitsInto s us
 
 -- Two equal streams that were made under one choice are of equal units.
 abbrev pub AssemblySame : StartCodes → Type 0
 AssemblySame codes =
-    (s : List ℕ) (us vs : List (List ℕ)) → Assembly codes s us → Assembly codes s vs → AllPass us → AllPass vs → us ≡ vs
+    (s : List ℕ) (us vs : List (List ℕ)) → Assembly codes s us → Assembly codes s vs → AllSplittable us → AllSplittable vs → us ≡ vs
 
 -- Both choices have the same refusals, and the stream with short codes is shorter than the other by exactly the number of units that have three
 -- bytes, so never longer.

@@ -9,12 +9,8 @@ use lib.ListN.{length, getD}
 use borrow.Author.Tests.{ltb-true, lt-ltb, le-ltb, eqb-true, eqb-false, eq-eqb, ne-eqb, not-true}
 use Rattle.parse.proofs.General.{both-true}
 use Rattle.nal.specs.StartCode.{scan, endsInZero, unitChecked}
-use Rattle.nal.proofs.StartCodes.{CodeAt, scan-none, none-scan}
-
-pub record Splittable (u : List ℕ) : Type 0 where
-  pub some : 0 < length u
-  pub free : (i : ℕ) → CodeAt u i → ⊥
-  pub ends : getD u (length u - 1) 0 ≡ 0 → ⊥
+use Rattle.nal.specs.PlainCheck.{Splittable}
+use Rattle.nal.proofs.StartCodes.{CodeAt, none-scan}
 
 -- the last byte decides the end
 pub ends-last : (u : List ℕ) → 0 < length u → endsInZero u ≡ eqb (getD u (length u - 1) 0) 0
@@ -30,26 +26,29 @@ unfolding endsInZero
 ends-none [] h = refl
 ends-none (x ∷ u) h = absurd (omega arith)
 
+-- ### what splitting needs
+
+module _ (u : List ℕ) (s : Splittable u) where
+  pub no-code : (i : ℕ) → CodeAt u i → ⊥
+  no-code i c = s .clean .free i (c .inside) (c .first) (c .second) (c .third)
+
+  pub last-byte : getD u (length u - 1) 0 ≡ 0 → ⊥
+  last-byte = s .clean .ends (s .some)
+
+pub splittable : (u : List ℕ) → 0 < length u → ((i : ℕ) → CodeAt u i → ⊥) → (getD u (length u - 1) 0 ≡ 0 → ⊥) → Splittable u
+splittable u some none ends = record {
+  some = some;
+  clean = record { free = λ i a b c d. none i (record { inside = a; first = b; second = c; third = d }); ends = λ _. ends };
+}
+
 pub checked-splittable : (u : List ℕ) → unitChecked u ≡ true → Splittable u
 unfolding unitChecked
 checked-splittable u e =
     let p = both-true (ltb 0 (length u)) (eqb (scan u) (length u) && not (endsInZero u)) e in
     let q = both-true (eqb (scan u) (length u)) (not (endsInZero u)) (p .1) in
     let some : 0 < length u = ltb-true 0 (length u) (p .0) in
-    record {
-      some = some;
-      free = none-scan u (eqb-true (scan u) (length u) (q .0));
-      ends = eqb-false (getD u (length u - 1) 0) 0 (sym (ends-last u some) ∙ not-true (endsInZero u) (q .1));
-    }
-
-pub splittable-checked : (u : List ℕ) → Splittable u → unitChecked u ≡ true
-unfolding unitChecked
-splittable-checked u s = rw (
-  lt-ltb 0 (length u) (s .some),
-  eq-eqb (scan u) (length u) (scan-none u (s .free)),
-  ends-last u (s .some),
-  ne-eqb (getD u (length u - 1) 0) 0 (s .ends),
-)
+    splittable u some (none-scan u (eqb-true (scan u) (length u) (q .0)))
+    (eqb-false (getD u (length u - 1) 0) 0 (sym (ends-last u some) ∙ not-true (endsInZero u) (q .1)))
 
 -- the check's answers, in the order of its tests
 module _ (u : List ℕ) where

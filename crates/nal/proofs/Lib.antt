@@ -1,3 +1,4 @@
+pub mod FirstPlaces
 pub mod StartCodes
 pub mod Checks
 pub mod Headers

@@ -1,18 +1,31 @@
--- What the scan for start codes finds, in plain terms, and how it goes on from place to place.
-use Prim.Native.Nat.{ℕ, zero, suc, _+_, _-_, _≤_, _<_, zero-le}
+-- What the scan for start codes finds, in plain terms, and what it finds after a part without one.
+use Prim.Native.Nat.{ℕ, suc, _+_, _-_, _≤_, _<_}
 use mathlib.Core.Path.{_≡_, refl, sym, ap, _∙_}
 use mathlib.Core.Bool.{Bool, true, false, _&&_}
 use mathlib.Core.List.{List, [], _∷_, _++_, append-assoc}
 use native.Mathlib.Omega.{arith}
 use native.Mathlib.Decide.{decLe}
-use native.Mathlib.Numerals.{add-one}
 use lib.Dec.{eqb}
 use lib.ListN.{length, getD, drop, length-drop, length-append}
-use lib.Seq.{drop-cons, getD-drop}
 use borrow.Author.Tests.{eqb-true, eq-eqb}
 use Rattle.parse.specs.Logic.{if_then_else_}
 use Rattle.parse.proofs.General.{both-true}
-use Rattle.nal.specs.StartCode.{isStartCode, scan}
+use Rattle.nal.specs.StartCode.{bytesBefore, startsWithCode, scan}
+use Rattle.nal.proofs.FirstPlaces.{
+  fails,
+  ZerosAt,
+  drop-three,
+  before-le,
+  before-found,
+  before-first,
+  before-stays,
+  before-from,
+  before-here,
+  before-next,
+  before-past,
+  before-jump,
+  before-end,
+}
 
 -- the bytes 00 00 01 are in s from place i on
 pub record CodeAt (s : List ℕ) (i : ℕ) : Type 0 where
@@ -21,194 +34,132 @@ pub record CodeAt (s : List ℕ) (i : ℕ) : Type 0 where
   pub second : getD s (i + 1) 0 ≡ 0
   pub third : getD s (i + 2) 0 ≡ 1
 
--- ### from byte to byte
+-- ### the test at a place
 
-code-up : (x : ℕ) (s : List ℕ) (i : ℕ) → CodeAt s i → CodeAt (x ∷ s) (suc i)
-code-up x s i c =
-    let e₁ : suc i + 1 ≡ suc (i + 1) = omega arith in
-    let e₂ : suc i + 2 ≡ suc (i + 2) = omega arith in
-    record {
-      inside = omega arith;
-      first = c .first;
-      second = ap (λ (j : ℕ). getD (x ∷ s) j 0) e₁ ∙ c .second;
-      third = ap (λ (j : ℕ). getD (x ∷ s) j 0) e₂ ∙ c .third;
-    }
+code-short : (s : List ℕ) → length s < 3 → startsWithCode s ≡ false
+unfolding startsWithCode
+code-short [] h = refl
+code-short (x ∷ []) h = refl
+code-short (x ∷ y ∷ []) h = refl
+code-short (x ∷ y ∷ z ∷ r) h = absurd (omega arith)
 
-code-down : (x : ℕ) (s : List ℕ) (i : ℕ) → CodeAt (x ∷ s) (suc i) → CodeAt s i
-code-down x s i c =
-    let e₁ : suc (i + 1) ≡ suc i + 1 = omega arith in
-    let e₂ : suc (i + 2) ≡ suc i + 2 = omega arith in
-    record {
-      inside = omega arith;
-      first = c .first;
-      second = ap (λ (j : ℕ). getD (x ∷ s) j 0) e₁ ∙ c .second;
-      third = ap (λ (j : ℕ). getD (x ∷ s) j 0) e₂ ∙ c .third;
-    }
+module _ (s : List ℕ) (i : ℕ) where
+  code-test : i + 2 < length s → startsWithCode (drop i s) ≡ eqb (getD s (i + 2) 0) 1 && (eqb (getD s (i + 1) 0) 0 && eqb (getD s i 0) 0)
+  unfolding startsWithCode
+  code-test h = ap startsWithCode (drop-three s i h)
 
-code-here : (x y z : ℕ) (r : List ℕ) → isStartCode x y z ≡ true → CodeAt (x ∷ y ∷ z ∷ r) 0
-unfolding isStartCode
-code-here x y z r e =
-    let p = both-true (eqb z 1) (eqb y 0 && eqb x 0) e in
-    let q = both-true (eqb y 0) (eqb x 0) (p .1) in
-    record { inside = omega arith; first = eqb-true x 0 (q .1); second = eqb-true y 0 (q .0); third = eqb-true z 1 (p .0) }
+  pub code-at : startsWithCode (drop i s) ≡ true → CodeAt s i
+  code-at e =
+      elim (decLe (i + 3) (length s)) [
+        | yes k ↦ (
+            let p = both-true _ _ (sym (code-test (omega arith)) ∙ e) in
+            let q = both-true _ _ (p .1) in
+            record { inside = omega arith; first = eqb-true _ 0 (q .1); second = eqb-true _ 0 (q .0); third = eqb-true _ 1 (p .0) })
+        | no k ↦ (let f = code-short (drop i s) (omega (arith, length-drop i s)) in let z : _≡_ {A = ℕ} 0 1 = cc in absurd (omega arith))
+      ]
 
-code-test : (x y z : ℕ) (r : List ℕ) → CodeAt (x ∷ y ∷ z ∷ r) 0 → isStartCode x y z ≡ true
-unfolding isStartCode
-code-test x y z r c = rw (eq-eqb z 1 (c .third), eq-eqb y 0 (c .second), eq-eqb x 0 (c .first))
+  pub at-code : CodeAt s i → startsWithCode (drop i s) ≡ true
+  at-code c = code-test (c .inside) ∙ rw (eq-eqb _ 1 (c .third), eq-eqb _ 0 (c .second), eq-eqb _ 0 (c .first))
 
--- the scan stops at a start code, and passes any other byte
-pub scan-code : (s : List ℕ) → CodeAt s 0 → scan s ≡ 0
-unfolding scan
-scan-code [] c = absurd (let h = c .inside in omega arith)
-scan-code (x ∷ []) c = absurd (let h = c .inside in omega arith)
-scan-code (x ∷ y ∷ []) c = absurd (let h = c .inside in omega arith)
-scan-code (x ∷ y ∷ z ∷ r) c = rw (code-test x y z r c)
-
-pub scan-cons : (x : ℕ) (s : List ℕ) → (CodeAt (x ∷ s) 0 → ⊥) → scan (x ∷ s) ≡ suc (scan s)
-unfolding scan
-scan-cons x [] none = refl
-scan-cons x (y ∷ []) none = refl
-scan-cons x (y ∷ z ∷ r) none = go (isStartCode x y z) refl
-  where
-    go : (t : Bool) → isStartCode x y z ≡ t → (if t then 0 else suc (scan (y ∷ z ∷ r))) ≡ suc (scan (y ∷ z ∷ r))
-    go true e = absurd (none (code-here x y z r e))
-    go false e = refl
+-- a start code is two zeros and a byte of at most 1
+code-zeros : (s : List ℕ) (i : ℕ) → startsWithCode (drop i s) ≡ true → ZerosAt 1 s i
+code-zeros s i e = let c = code-at s i e in record { inside = c .inside; first = c .first; second = c .second; third = omega (arith, c .third) }
 
 -- ### in plain terms
 
-pub scan-le : (s : List ℕ) → scan s ≤ length s
-unfolding scan
-scan-le [] = zero-le
-scan-le (x ∷ []) = omega arith
-scan-le (x ∷ y ∷ []) = omega arith
-scan-le (x ∷ y ∷ z ∷ r) = go (isStartCode x y z) (scan-le (y ∷ z ∷ r))
-  where
-    go : (t : Bool) → scan (y ∷ z ∷ r) ≤ length (y ∷ z ∷ r) → (if t then 0 else suc (scan (y ∷ z ∷ r))) ≤ length (x ∷ y ∷ z ∷ r)
-    go true h = zero-le
-    go false h = omega arith
+module _ (s : List ℕ) where
+  pub scan-le : scan s ≤ length s
+  unfolding scan
+  scan-le = before-le startsWithCode s
 
--- below the length there is a start code at the place that the scan finds
-pub scan-found : (s : List ℕ) → scan s < length s → CodeAt s (scan s)
-unfolding scan
-scan-found [] h = absurd (omega arith)
-scan-found (x ∷ []) h = absurd (omega arith)
-scan-found (x ∷ y ∷ []) h = absurd (omega arith)
-scan-found (x ∷ y ∷ z ∷ r) h = go (isStartCode x y z) refl (scan-found (y ∷ z ∷ r)) h
-  where
-    go : (t : Bool) → isStartCode x y z ≡ t → (scan (y ∷ z ∷ r) < length (y ∷ z ∷ r) → CodeAt (y ∷ z ∷ r) (scan (y ∷ z ∷ r)))
-        → (if t then 0 else suc (scan (y ∷ z ∷ r))) < length (x ∷ y ∷ z ∷ r) → CodeAt (x ∷ y ∷ z ∷ r) (if t then 0 else suc (scan (y ∷ z ∷ r)))
-    go true e ih k = code-here x y z r e
-    go false e ih k = code-up x (y ∷ z ∷ r) (scan (y ∷ z ∷ r)) (ih (omega arith))
+  -- below the length there is a start code at the place that the scan finds
+  pub scan-found : scan s < length s → CodeAt s (scan s)
+  unfolding scan
+  scan-found h = code-at s (bytesBefore startsWithCode s) (before-found startsWithCode s h)
 
-scan-suc : (x : ℕ) (s : List ℕ) → scan (x ∷ s) ≤ suc (scan s)
-unfolding scan
-scan-suc x [] = omega arith
-scan-suc x (y ∷ []) = omega arith
-scan-suc x (y ∷ z ∷ r) = go (isStartCode x y z)
-  where
-    go : (t : Bool) → (if t then 0 else suc (scan (y ∷ z ∷ r))) ≤ suc (scan (y ∷ z ∷ r))
-    go true = zero-le
-    go false = omega arith
+  -- the scan ends at the length exactly where there is no start code
+  pub scan-none : ((i : ℕ) → CodeAt s i → ⊥) → scan s ≡ length s
+  scan-none none =
+      elim (decLe (length s) (scan s)) [
+        | yes k ↦ (let h = scan-le in omega arith)
+        | no k ↦ absurd (none (scan s) (scan-found (omega arith)))
+      ]
 
--- and there is none before
-pub scan-first : (s : List ℕ) (i : ℕ) → i < scan s → CodeAt s i → ⊥
-scan-first [] i h c = let k = c .inside in omega arith
-scan-first (x ∷ s) zero h c = let e = scan-code (x ∷ s) c in omega arith
-scan-first (x ∷ s) (suc i) h c = let k = scan-suc x s in scan-first s i (omega arith) (code-down x s i c)
-
--- so the scan ends at the length exactly where there is no start code
-pub scan-none : (s : List ℕ) → ((i : ℕ) → CodeAt s i → ⊥) → scan s ≡ length s
-scan-none s none =
-    elim (decLe (length s) (scan s)) [
-      | yes k ↦ (let h = scan-le s in omega arith)
-      | no k ↦ absurd (none (scan s) (scan-found s (omega arith)))
-    ]
-
-pub none-scan : (s : List ℕ) → scan s ≡ length s → (i : ℕ) → CodeAt s i → ⊥
-none-scan s e i c = scan-first s i (let h = c .inside in omega arith) c
-
--- ### from place to place
-
-module _ (s : List ℕ) (k i : ℕ) where
-  pub code-drop : CodeAt s (k + i) → CodeAt (drop k s) i
-  code-drop c =
-      let e₁ : k + (i + 1) ≡ k + i + 1 = omega arith in
-      let e₂ : k + (i + 2) ≡ k + i + 2 = omega arith in
-      record {
-        inside = omega (arith, c .inside, length-drop k s);
-        first = getD-drop k s i 0 ∙ c .first;
-        second = getD-drop k s (i + 1) 0 ∙ ap (λ (j : ℕ). getD s j 0) e₁ ∙ c .second;
-        third = getD-drop k s (i + 2) 0 ∙ ap (λ (j : ℕ). getD s j 0) e₂ ∙ c .third;
-      }
-
-  pub drop-code : CodeAt (drop k s) i → CodeAt s (k + i)
-  drop-code c =
-      let e₁ : k + i + 1 ≡ k + (i + 1) = omega arith in
-      let e₂ : k + i + 2 ≡ k + (i + 2) = omega arith in
-      record {
-        inside = omega (arith, c .inside, length-drop k s);
-        first = sym (getD-drop k s i 0) ∙ c .first;
-        second = ap (λ (j : ℕ). getD s j 0) e₁ ∙ sym (getD-drop k s (i + 1) 0) ∙ c .second;
-        third = ap (λ (j : ℕ). getD s j 0) e₂ ∙ sym (getD-drop k s (i + 2) 0) ∙ c .third;
-      }
-
-module _ (s : List ℕ) (i : ℕ) where
-  back : i + 0 ≡ i
-  back = omega arith
-
-  pub scan-hit : CodeAt s i → scan (drop i s) ≡ 0
-  scan-hit c = scan-code (drop i s) (code-drop s i 0 (rw back c))
-
-  pub scan-miss : i < length s → (CodeAt s i → ⊥) → scan (drop i s) ≡ suc (scan (drop (i + 1) s))
-  scan-miss h none =
-      let e : drop i s ≡ getD s i 0 ∷ drop (i + 1) s = rw (add-one i) (drop-cons s i 0 h) in
-      rw e (scan-cons (getD s i 0) (drop (i + 1) s) (λ c. none (rw back at (drop-code s i 0 (rw e c)))))
-
-  pub scan-end : i ≤ length s → length s - i < 3 → i + scan (drop i s) ≡ length s
-  scan-end h k =
-      let l = length-drop i s in
-      let e = scan-none (drop i s) (λ j c. let b = c .inside in omega arith) in
+  pub none-scan : scan s ≡ length s → (i : ℕ) → CodeAt s i → ⊥
+  unfolding scan
+  none-scan e i c =
+      let f = before-first startsWithCode s i (omega (arith, c .inside)) in
+      let t = at-code s i c in
+      let z : _≡_ {A = ℕ} 0 1 = cc in
       omega arith
 
--- past a part without a start code the scan goes on
-pub scan-skip : (s : List ℕ) (k : ℕ) → k ≤ length s → ((i : ℕ) → i < k → CodeAt s i → ⊥) → scan s ≡ k + scan (drop k s)
-scan-skip s zero h none = omega arith
-scan-skip [] (suc k) h none = absurd (omega arith)
-scan-skip (x ∷ s) (suc k) h none =
-    let a = scan-cons x s (none 0 (omega arith)) in
-    let b = scan-skip s k (omega arith) (λ i l c. none (suc i) (omega arith) (code-up x s i c)) in
-    omega arith
+  -- ### from place to place
+
+  -- from where the scan stopped it stops at once
+  pub scan-stays : (p : ℕ) → scan (drop (p + scan (drop p s)) s) ≡ 0
+  unfolding scan
+  scan-stays = before-stays startsWithCode s
+
+  -- from anywhere before the start code that follows, it finds that one
+  pub scan-from : (p n : ℕ) → n ≤ scan (drop p s) → p + n + scan (drop (p + n) s) ≡ p + scan (drop p s)
+  unfolding scan
+  scan-from = before-from startsWithCode s
+
+  -- the turns of a search
+  module _ (i : ℕ) where
+    pub scan-hit : CodeAt s i → scan (drop i s) ≡ 0
+    unfolding scan
+    scan-hit c = before-here startsWithCode (drop i s) (at-code s i c)
+
+    no-code : (CodeAt s i → ⊥) → startsWithCode (drop i s) ≡ false
+    no-code none = fails (startsWithCode (drop i s)) (λ e. none (code-at s i e))
+
+    pub scan-next : i < length s → (CodeAt s i → ⊥) → scan (drop i s) ≡ suc (scan (drop (i + 1) s))
+    unfolding scan
+    scan-next h none = before-next startsWithCode s i h (no-code none)
+
+    module _ (room : i + 2 < length s) where
+      pub scan-past : (getD s (i + 2) 0 ≡ 0 → ⊥) → (CodeAt s i → ⊥) → scan (drop i s) ≡ 3 + scan (drop (i + 3) s)
+      unfolding scan
+      scan-past some none = before-past startsWithCode 1 code-zeros s i room some (no-code none)
+
+      pub scan-jump : 1 < getD s (i + 2) 0 → scan (drop i s) ≡ 3 + scan (drop (i + 3) s)
+      unfolding scan
+      scan-jump = before-jump startsWithCode 1 code-zeros s i room
+
+    pub scan-end : i ≤ length s → length s - i < 3 → i + scan (drop i s) ≡ length s
+    unfolding scan
+    scan-end = before-end startsWithCode 1 code-zeros s i
 
 -- ### after a part without a start code
 
-free-tail : (x y z : ℕ) (r : List ℕ) → scan (x ∷ y ∷ z ∷ r) ≡ length (x ∷ y ∷ z ∷ r)
-    → (isStartCode x y z ≡ false) × (scan (y ∷ z ∷ r) ≡ length (y ∷ z ∷ r))
-unfolding scan
-free-tail x y z r = go (isStartCode x y z) refl
+free-tail : (x : ℕ) (r : List ℕ) → scan (x ∷ r) ≡ length (x ∷ r) → (startsWithCode (x ∷ r) ≡ false) × (scan r ≡ length r)
+unfolding scan bytesBefore
+free-tail x r = go (startsWithCode (x ∷ r)) refl
   where
-    go : (t : Bool) → isStartCode x y z ≡ t → (if t then 0 else suc (scan (y ∷ z ∷ r))) ≡ length (x ∷ y ∷ z ∷ r)
-        → (isStartCode x y z ≡ false) × (scan (y ∷ z ∷ r) ≡ length (y ∷ z ∷ r))
+    go : (t : Bool) → startsWithCode (x ∷ r) ≡ t → (if t then 0 else suc (bytesBefore startsWithCode r)) ≡ length (x ∷ r)
+        → (startsWithCode (x ∷ r) ≡ false) × (bytesBefore startsWithCode r ≡ length r)
     go true e h = absurd (omega arith)
     go false e h = (e, omega arith)
 
 -- the scan finds the start code that follows
 pub scan-then-code : (u r : List ℕ) → scan u ≡ length u → scan (u ++ 0 ∷ 0 ∷ 1 ∷ r) ≡ length u
-unfolding scan isStartCode
+unfolding scan bytesBefore startsWithCode
 scan-then-code [] r h = refl
 scan-then-code (x ∷ []) r h = refl
 scan-then-code (x ∷ y ∷ []) r h = refl
 scan-then-code (x ∷ y ∷ z ∷ u) r h =
-    let p = free-tail x y z u h in
+    let p = free-tail x (y ∷ z ∷ u) h in
     rw (p .0, scan-then-code (y ∷ z ∷ u) r (p .1))
 
 -- one more zero makes no start code
-pub scan-zero : (u : List ℕ) → scan u ≡ length u → scan (u ++ 0 ∷ []) ≡ suc (length u)
-unfolding scan isStartCode
+scan-zero : (u : List ℕ) → scan u ≡ length u → scan (u ++ 0 ∷ []) ≡ suc (length u)
+unfolding scan bytesBefore startsWithCode
 scan-zero [] h = refl
 scan-zero (x ∷ []) h = refl
 scan-zero (x ∷ y ∷ []) h = refl
 scan-zero (x ∷ y ∷ z ∷ u) h =
-    let p = free-tail x y z u h in
+    let p = free-tail x (y ∷ z ∷ u) h in
     rw (p .0, scan-zero (y ∷ z ∷ u) (p .1))
 
 -- the same for the start code of four bytes

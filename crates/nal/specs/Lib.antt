@@ -2,4 +2,5 @@ pub mod Header
 pub mod Kinds
 pub mod StartCode
 pub mod Answers
+pub mod PlainCheck
 pub mod inner

@@ -6,15 +6,21 @@ use lib.Dec.{eqb, ltb}
 use lib.ListN.{length, drop}
 use Rattle.parse.specs.Logic.{if_then_else_}
 
-unfoldable pub isStartCode : ℕ → ℕ → ℕ → Bool
-isStartCode x y z = eqb z 1 && (eqb y 0 && eqb x 0)
+-- how many bytes come before the first place from which on the bytes pass a test; all of them where there is none
+unfoldable pub bytesBefore : (List ℕ → Bool) → List ℕ → ℕ
+bytesBefore test [] = 0
+bytesBefore test (x ∷ r) = if test (x ∷ r) then 0 else suc (bytesBefore test r)
+
+-- whether the first three bytes are 00 00 01
+unfoldable pub startsWithCode : List ℕ → Bool
+startsWithCode [] = false
+startsWithCode (x ∷ []) = false
+startsWithCode (x ∷ y ∷ []) = false
+startsWithCode (x ∷ y ∷ z ∷ r) = eqb z 1 && (eqb y 0 && eqb x 0)
 
 -- how many bytes come before the first start code; all of them where there is none
 unfoldable pub scan : List ℕ → ℕ
-scan [] = 0
-scan (x ∷ []) = 1
-scan (x ∷ y ∷ []) = 2
-scan (x ∷ y ∷ z ∷ r) = if isStartCode x y z then 0 else suc (scan (y ∷ z ∷ r))
+scan s = bytesBefore startsWithCode s
 
 -- the place of the first start code at or after place p; the length where there is none
 abbrev pub startCodeFrom : List ℕ → ℕ → ℕ

@@ -13,7 +13,7 @@ use Rattle.boxes.specs.Bytes.{toChunk, outside}
 use Rattle.boxes.specs.Parts.{held, nowhere}
 use Rattle.boxes.specs.declared.Span.{Span}
 use Rattle.boxes.proofs.PrefixSizes.{not-outside}
-use Rattle.nal.proofs.Checks.{Splittable}
+use Rattle.nal.specs.PlainCheck.{Clean, Splittable}
 use Rattle.unit_list.specs.UnitList.{unitsOf, encode}
 use Rattle.unit_list.proofs.Encode.{held-encode, decode-encode, units-encode, length-toChunk}
 use Rattle.ptl.specs.declared.VvcPtlRecord.{VvcPtlRecord}
@@ -21,7 +21,6 @@ use Rattle.ptl_record.specs.AsWritten.{asWritten}
 use Rattle.ptl_record.proofs.RoundTrip as P
 use Rattle.split.specs.Item.{splitItem}
 use Rattle.split.specs.Stream.{StartCode, annexB, streamUnitsFrom, splitStream}
-use Rattle.split.specs.RoundTrip.{Clean}
 use Rattle.split.proofs.RoundTrip.{split-assembled, split-one, held-one}
 use Rattle.grouping.specs.Grouping.{grouped}
 use Rattle.grouping.proofs.GroupedFits.{Every, grouped-sound, grouped-few, grouped-count, every-grouped, units-long, grouped-long}

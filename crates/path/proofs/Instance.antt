@@ -8,14 +8,14 @@ use mathlib.Core.List.{List, [], _∷_, _++_}
 use Rattle.parse.specs.Parse.{times, many, manyUpTo}
 use Rattle.boxes.specs.Bytes.{be, toBe, uint, bytes, chunk, toChunk, inside}
 use Rattle.boxes.proofs.AllBytes.{allBytes}
-use Rattle.nal.specs.StartCode.{isStartCode, scan, endsInZero, unitChecked}
+use Rattle.nal.specs.StartCode.{bytesBefore, startsWithCode, scan, endsInZero, unitChecked}
 use Rattle.nal.proofs.Checks.{checked-splittable}
 use Rattle.unit_list.specs.UnitList.{arrayRest, array, unitList, decode, unitsOf, encodeUnits, encodeArray, encodeArrays, encode}
 use Rattle.rbsp.specs.Rbsp.{drops, nextZeros, unescape}
 use Rattle.bit_reader.specs.Bits.{bitsAt, u, skip, align, zerosBeforeOne, ue}
 use Rattle.ptl.specs.Ptl.{presentFlags, levels, withoutFlags, constraintBits, generalConstraintsInfo, constraintBytes, profileTierLevel}
 use Rattle.sps.specs.Sps.{window, spsHead, parseSps}
-use Rattle.split.proofs.Checked.{allChecked, clean-of}
+use Rattle.split.proofs.Checked.{allChecked}
 use Rattle.split.specs.Stream.{annexB}
 use Rattle.grouping.specs.Grouping.{havingType, without, firsts, grouped}
 use Rattle.grouping.proofs.Grouping.{grouped-as}
@@ -59,10 +59,10 @@ pub instances : Instances
 unfolding times many manyUpTo be toBe uint bytes chunk toChunk inside arrayRest array unitList decode unitsOf encodeUnits encodeArray encodeArrays
     encode drops nextZeros unescape bitsAt u skip align zerosBeforeOne ue presentFlags levels withoutFlags constraintBits generalConstraintsInfo
     constraintBytes profileTierLevel window spsHead parseSps atEnd compactRecord parseCompact havingType without firsts grouped multiLayerVps
-    ptlOfSets expandUnits toFull allBytes isStartCode scan endsInZero unitChecked allChecked
+    ptlOfSets expandUnits toFull allBytes bytesBefore startsWithCode scan endsInZero unitChecked allChecked
 instances = record {
   worked = meets C (0x9A ∷ []) 4 (P ∷ Q ∷ []) refl refl refl refl (λ e. omega arith) (omega arith) (omega arith) refl
-      (clean-of (0x9A ∷ []) (checked-splittable (0x9A ∷ []) refl)) (omega arith) (omega arith);
+      (checked-splittable (0x9A ∷ []) refl .clean) (omega arith) (omega arith);
   interleaved = meets mixed [] 1 (Q ∷ P ∷ opi ∷ sei ∷ Q′ ∷ dci ∷ P′ ∷ []) refl refl refl refl (λ e. omega arith) (omega arith) (omega arith) refl
       clean-none (omega arith) (omega arith);
 }

@@ -5,16 +5,16 @@ use mathlib.Core.Path.{_≡_, refl, sym, subst}
 use mathlib.Core.Bool.{Bool, true, false}
 use mathlib.Core.List.{List, [], _∷_}
 use lib.Dec.{eqb}
-use lib.ListN.{length, getD}
+use lib.ListN.{length}
 use borrow.Author.Tests.{eq-eqb}
 use Rattle.parse.specs.Logic.{if_then_else_}
 use Rattle.parse.specs.Outcome.{accept}
 use Rattle.boxes.proofs.AllBytes.{allBytes, bytes-of}
 use Rattle.nal.specs.Header.{typeOr31}
-use Rattle.nal.proofs.Checks.{Splittable}
+use Rattle.nal.specs.PlainCheck.{Clean}
 use Rattle.unit_list.specs.UnitList.{encode}
-use Rattle.split.specs.RoundTrip.{Clean}
-use Rattle.split.proofs.Checked.{allChecked, splits-at, clean-of}
+use Rattle.split.specs.RoundTrip.{AllSplittable}
+use Rattle.split.proofs.Checked.{allChecked, all-splittable}
 use Rattle.ptl.proofs.Examples.{ptlOfP}
 use Rattle.grouping.specs.Grouping.{havingType, grouped}
 use Rattle.grouping.specs.Order.{typeAt}
@@ -77,11 +77,11 @@ module _ (C S : List ℕ) (size : ℕ) (us : List (List ℕ)) where
     one-opi = subst (AtMostOne 12) (sym e) (one-at 12 us o);
     one-dci = subst (AtMostOne 13) (sym e) (one-at 13 us d);
     some = λ k h. splits k h .some;
-    clean = λ k h. clean-of (getD (unitsIn C) k []) (splits k h);
+    clean = λ k h. splits k h .clean;
     picture-clean = s;
     short = omega arith;
     fits = p;
   }
     where
-      splits : (k : ℕ) → k < length (unitsIn C) → Splittable (getD (unitsIn C) k [])
-      splits = subst (λ (vs : List (List ℕ)). (k : ℕ) → k < length vs → Splittable (getD vs k [])) (sym e) (splits-at us c)
+      splits : AllSplittable (unitsIn C)
+      splits = subst AllSplittable (sym e) (all-splittable us c)

@@ -11,9 +11,8 @@ use borrow.Author.Tests.{eqb-true}
 use Rattle.parse.specs.Outcome.{accept}
 use Rattle.boxes.specs.Bytes.{AllBytes}
 use Rattle.nal.specs.Header.{largestUnitType, typeOr31}
-use Rattle.nal.proofs.Checks.{Splittable}
+use Rattle.nal.specs.PlainCheck.{Splittable}
 use Rattle.unit_list.specs.UnitList.{unitsOf, encode}
-use Rattle.split.proofs.Checked.{clean-splits}
 use Rattle.split.specs.Stream.{annexB}
 use Rattle.grouping.specs.Grouping.{havingType, grouped}
 use Rattle.grouping.proofs.GroupedFits.{Every}
@@ -65,7 +64,7 @@ module _ (C S : List ℕ) (still : Still C S) where
   }
 
   splittable : Every Splittable us
-  splittable = every-of Splittable us (λ k h. clean-splits (getD us k []) (still .some k h) (still .clean k h))
+  splittable = every-of Splittable us (λ k h. record { some = still .some k h; clean = still .clean k h })
 
   -- the expansion of the premises; its PTL is that of every other expansion
   pub expansion-of : Expansion us (known .all-bytes) config (still .picture) (still .full) (still .full-list)

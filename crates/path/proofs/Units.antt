@@ -12,10 +12,10 @@ use borrow.Author.Tests.{eqb-true}
 use Rattle.parse.specs.Logic.{if_then_else_}
 use Rattle.boxes.specs.Bytes.{AllBytes}
 use Rattle.nal.specs.Header.{largestUnitType, typeOr31}
+use Rattle.nal.specs.PlainCheck.{Clean, Splittable}
 use Rattle.nal.proofs.StartCodes.{CodeAt}
-use Rattle.nal.proofs.Checks.{Splittable}
-use Rattle.split.specs.RoundTrip.{Clean}
-use Rattle.split.proofs.RoundTrip.{AllSplittable}
+use Rattle.nal.proofs.Checks.{splittable}
+use Rattle.split.specs.RoundTrip.{AllSplittable}
 use Rattle.grouping.specs.Grouping.{havingType}
 use Rattle.grouping.specs.Order.{typeAt}
 use Rattle.grouping.proofs.GroupedFits.{Every}
@@ -76,7 +76,7 @@ last-byte (x ∷ S) c e = c .ends (omega arith) (subst (λ (n : ℕ). getD (0 �
     a = omega arith
 
 pub still-splits : (S : List ℕ) → Clean S → Splittable (0 ∷ 65 ∷ S)
-still-splits S c = record { some = omega arith; free = no-code S c; ends = last-byte S c }
+still-splits S c = splittable (0 ∷ 65 ∷ S) (omega arith) (no-code S c) (last-byte S c)
 
 -- units with one more after them
 pub all-split : (gs : List (List ℕ)) (u : List ℕ) → Every Splittable gs → Splittable u → AllSplittable (gs ++ (u ∷ []))

@@ -1,4 +1,4 @@
--- Units that pass the unit check, in plain terms and as a test that computes.
+-- Units that pass the unit check can be split off a stream: the check is a test of it that computes.
 use Prim.Native.Nat.{ℕ, zero, suc, _<_}
 use mathlib.Core.Path.{_≡_}
 use mathlib.Core.Bool.{Bool, true, _&&_}
@@ -7,26 +7,16 @@ use native.Mathlib.Omega.{arith}
 use lib.ListN.{length, getD}
 use Rattle.parse.proofs.General.{both-true}
 use Rattle.nal.specs.StartCode.{unitChecked}
-use Rattle.nal.proofs.Checks.{Splittable, checked-splittable}
-use Rattle.split.specs.RoundTrip.{Clean, AllPass}
+use Rattle.nal.proofs.Checks.{checked-splittable}
+use Rattle.split.specs.RoundTrip.{AllSplittable}
 
--- units into which a stream splits
-pub clean-splits : (u : List ℕ) → 0 < length u → Clean u → Splittable u
-clean-splits u h c = record { some = h; free = λ i k. c .free i (k .inside) (k .first) (k .second) (k .third); ends = c .ends h }
-
-pub clean-of : (v : List ℕ) → Splittable v → Clean v
-clean-of v s = record { free = λ i a b c d. s .free i (record { inside = a; first = b; second = c; third = d }); ends = λ _. s .ends }
-
--- no unit is empty, contains 00 00 01 or ends in 00: the unit check (SCOPE 4.6)
+-- all units pass the unit check
 unfoldable pub allChecked : List (List ℕ) → Bool
 allChecked [] = true
 allChecked (v ∷ us) = unitChecked v && allChecked us
 
-pub splits-at : (us : List (List ℕ)) → allChecked us ≡ true → (k : ℕ) → k < length us → Splittable (getD us k [])
+pub all-splittable : (us : List (List ℕ)) → allChecked us ≡ true → AllSplittable us
 unfolding allChecked
-splits-at [] e k h = absurd (omega arith)
-splits-at (v ∷ us) e zero h = checked-splittable v (both-true (unitChecked v) (allChecked us) e .0)
-splits-at (v ∷ us) e (suc k) h = splits-at us (both-true (unitChecked v) (allChecked us) e .1) k (omega arith)
-
-pub all-pass : (us : List (List ℕ)) → allChecked us ≡ true → AllPass us
-all-pass us e k h = let s = splits-at us e k h in (s .some, clean-of (getD us k []) s)
+all-splittable [] e k h = absurd (omega arith)
+all-splittable (v ∷ us) e zero h = checked-splittable v (both-true (unitChecked v) (allChecked us) e .0)
+all-splittable (v ∷ us) e (suc k) h = all-splittable us (both-true (unitChecked v) (allChecked us) e .1) k (omega arith)

@@ -4,14 +4,14 @@ use mathlib.Core.List.{[], _∷_}
 use Rattle.parse.specs.Outcome.{accept, refuse}
 use Rattle.parse.specs.Parse.{many, manyUpTo}
 use Rattle.boxes.specs.Bytes.{be, uint, bytes}
-use Rattle.nal.specs.StartCode.{isStartCode, scan}
+use Rattle.nal.specs.StartCode.{bytesBefore, startsWithCode, scan}
 use Rattle.split.specs.Item.{itemUnit, itemUnits}
 use Rattle.split.specs.Stream.{trimOnto, trim, segment, nonEmpty, streamUnitsFrom}
 
 -- a start code of four bytes, a unit, a zero, an empty unit, and a unit with trailing zeros
 stream-units : streamUnitsFrom (0 ∷ 0 ∷ 0 ∷ 1 ∷ 7 ∷ 8 ∷ 0 ∷ 0 ∷ 0 ∷ 1 ∷ 0 ∷ 0 ∷ 1 ∷ 9 ∷ 0 ∷ 0 ∷ []) 0
     ≡ record { start = 4; len = 2 } ∷ record { start = 13; len = 1 } ∷ []
-unfolding streamUnitsFrom many manyUpTo segment nonEmpty scan isStartCode trim trimOnto
+unfolding streamUnitsFrom many manyUpTo segment nonEmpty scan bytesBefore startsWithCode trim trimOnto
 stream-units = refl
 
 item-units : itemUnits 2 (0 ∷ 1 ∷ 7 ∷ 0 ∷ 2 ∷ 8 ∷ 9 ∷ []) ≡ accept (record { start = 2; len = 1 } ∷ record { start = 5; len = 2 } ∷ [])

@@ -10,16 +10,16 @@ use Rattle.parse.specs.Outcome.{accept}
 use Rattle.parse.proofs.Lent.{lent-within}
 use Rattle.boxes.specs.Bytes.{toChunk}
 use Rattle.boxes.specs.Parts.{held}
-use Rattle.nal.specs.StartCode.{isStartCode, scan, startCodeFrom}
-use Rattle.nal.proofs.StartCodes.{scan-none, scan-then-code, scan-then-four}
-use Rattle.nal.proofs.Checks.{Splittable}
+use Rattle.nal.specs.StartCode.{bytesBefore, startsWithCode, scan, startCodeFrom}
+use Rattle.nal.specs.PlainCheck.{Splittable}
+use Rattle.nal.proofs.StartCodes.{scan-none, scan-stays, scan-then-code, scan-then-four}
+use Rattle.nal.proofs.Checks.{no-code, last-byte}
 use Rattle.split.specs.Item.{itemUnits, toItem}
 use Rattle.split.specs.Stream.{trim, streamUnitsFrom, splitStream, StartCode, three, four, codeBytes, annexB}
-use Rattle.split.specs.RoundTrip.{AllPass, SplitsBack, SameUnits, oneIfThree, threes, Shorter}
+use Rattle.split.specs.RoundTrip.{AllSplittable, SplitsBack, SameUnits, oneIfThree, threes, Shorter}
 use Rattle.split.specs.inner.Walk.{itemUnitsFrom}
-use Rattle.split.proofs.Checked.{clean-splits}
 use Rattle.split.proofs.Trim.{trim-zero, trim-whole}
-use Rattle.split.proofs.Streams.{scan-stays, units-scan, units-end, step-unit}
+use Rattle.split.proofs.Streams.{units-scan, units-end, step-unit}
 use Rattle.split.proofs.Items.{items-left}
 use Rattle.split.proofs.ItemRoundTrip.{placed, made-left}
 
@@ -27,32 +27,28 @@ use Rattle.split.proofs.ItemRoundTrip.{placed, made-left}
 
 -- its last three bytes are where the scan stops
 scan-code : (c : StartCode) (r : List ℕ) → scan (codeBytes c ++ r) + 3 ≡ length (codeBytes c)
-unfolding scan isStartCode
+unfolding scan bytesBefore startsWithCode
 scan-code three r = refl
 scan-code four r = refl
 
 stops-within : (c : StartCode) (r : List ℕ) → scan (codeBytes c ++ r) < length (codeBytes c ++ r)
-unfolding scan isStartCode
+unfolding scan bytesBefore startsWithCode
 stops-within three r = omega arith
 stops-within four r = omega arith
-
--- every unit passes the unit check
-abbrev pub AllSplittable : List (List ℕ) → Type 0
-AllSplittable us = (k : ℕ) → k < length us → Splittable (getD us k [])
 
 -- what is between a unit's start code and the next one is the unit when trailing zeros are cut off
 before-code : (c : StartCode) (u r : List ℕ) → Splittable u → trim (take (scan (u ++ (codeBytes c ++ r))) (u ++ (codeBytes c ++ r))) ≡ u
 before-code three u r h =
-    rw (scan-then-code u r (scan-none u (h .free)), take-at u (0 ∷ 0 ∷ 1 ∷ r) (length u) refl) (trim-whole u (h .some) (h .ends))
+    rw (scan-then-code u r (scan-none u (no-code u h)), take-at u (0 ∷ 0 ∷ 1 ∷ r) (length u) refl) (trim-whole u (h .some) (last-byte u h))
 before-code four u r h =
     let e : suc (length u) ≡ length u + 1 = omega arith in
-    rw (scan-then-four u r (scan-none u (h .free)), e, take-append-add u (0 ∷ 0 ∷ 0 ∷ 1 ∷ r) 1) (trim-zero u ∙ trim-whole u (h .some) (h .ends))
+    rw (scan-then-four u r (scan-none u (no-code u h)), e, take-append-add u (0 ∷ 0 ∷ 0 ∷ 1 ∷ r) 1) (trim-zero u ∙ trim-whole u (h .some) (last-byte u h))
 
 -- the same with the end of the stream after the unit
 unit-between : (code : ℕ → List ℕ → StartCode) (u : List ℕ) (us : List (List ℕ)) → Splittable u
     → trim (take (scan (u ++ annexB code us)) (u ++ annexB code us)) ≡ u
 unfolding annexB
-unit-between code u [] h = rw (append-nil u, scan-none u (h .free), take-length u) (trim-whole u (h .some) (h .ends))
+unit-between code u [] h = rw (append-nil u, scan-none u (no-code u h), take-length u) (trim-whole u (h .some) (last-byte u h))
 unit-between code u (v ∷ us) h = before-code (code 0 v) u (v ++ annexB (λ k. code (suc k)) us) h
 
 module _ (s u t : List ℕ) (q : ℕ) (here : scan (drop q s) ≡ 0) (inside : q < length s) (follows : drop (q + 3) s ≡ u ++ t)
@@ -117,7 +113,7 @@ split-after code (u ∷ us) h pre =
     rw (one-unit c pre u t first b, holds-unit c pre u t first b)
     (ap (λ (l : List (List ℕ)). u ∷ l) (rw (← regroup c pre u t first b, length-done c pre u t first b) at rest))
 
--- the units of the stream of units that pass the unit check are those units, in order, whichever start codes they have
+-- the units of the stream of units that can be split off are those units, in order, whichever start codes they have
 pub split-assembled : (code : ℕ → List ℕ → StartCode) (us : List (List ℕ)) → AllSplittable us
     → map (held (annexB code us)) (streamUnitsFrom (annexB code us) 0) ≡ us
 split-assembled code us h = split-after code us h []
@@ -130,19 +126,16 @@ assembled-injective code code′ us vs h k e =
 
 -- ### the claims
 
-passes : (us : List (List ℕ)) → AllPass us → AllSplittable us
-passes us h k l = clean-splits (getD us k []) (h k l .0) (h k l .1)
-
 pub splits-back : (code : ℕ → List ℕ → StartCode) → SplitsBack code
 unfolding splitStream
 splits-back code us h small = record {
   spans = streamUnitsFrom (annexB code us) 0;
   splits = lent-within (annexB code us) (accept (streamUnitsFrom (annexB code us) 0)) small;
-  units = split-assembled code us (passes us h);
+  units = split-assembled code us h;
 }
 
 pub same-units : (code : ℕ → List ℕ → StartCode) → SameUnits code
-same-units code us vs h k = assembled-injective code code us vs (passes us h) (passes vs k)
+same-units code us vs = assembled-injective code code us vs
 
 code-three : (c : StartCode) → length (codeBytes c) + oneIfThree c ≡ 4
 code-three three = refl

@@ -6,8 +6,7 @@ use mathlib.Core.Option.{none, some}
 use mathlib.Core.Logic.{_⊎_, ⊎-elim, inl, inr}
 use native.Mathlib.Omega.{arith}
 use native.Mathlib.Decide.{decLe}
-use lib.ListN.{length, take, drop, length-take, length-drop, drop-of-length-le}
-use lib.Seq.{drop-drop}
+use lib.ListN.{length, take, drop, length-take, length-drop}
 use borrow.Author.Tests.{le-leb, lt-leb, eq-eqb, ne-eqb}
 use Rattle.error.specs.Refusals.{numberOf}
 use Rattle.error.specs.declared.Refusal.{Refusal}
@@ -19,7 +18,7 @@ use Rattle.boxes.specs.Places.{inFirst, placeFound}
 use Rattle.boxes.specs.declared.Span.{Span}
 use Rattle.boxes.proofs.Places.{nth-here, nth-next}
 use Rattle.nal.specs.StartCode.{scan, startCodeFrom}
-use Rattle.nal.proofs.StartCodes.{scan-le, scan-found, scan-first, scan-skip, scan-hit, drop-code}
+use Rattle.nal.proofs.StartCodes.{scan-le, scan-found, scan-stays, scan-from}
 use Rattle.split.specs.Stream.{trim, segment, nonEmpty, allRead, streamUnitsFrom, splitStream}
 use Rattle.split.specs.Answers.{Next, firstNext, nextOf, nextGiven}
 use Rattle.split.specs.inner.Walk.{UnitAhead}
@@ -27,30 +26,7 @@ use Rattle.split.specs.declared.NextUnit.{NextUnit}
 use Rattle.split.specs.declared.NextUnit.the-variants as N
 use Rattle.split.proofs.Trim.{trim-le}
 
-scan-nil : scan [] ≡ 0
-unfolding scan
-scan-nil = refl
-
 module _ (s : List ℕ) where
-  -- ### the scan
-
-  -- from where the scan stopped it stops at once
-  pub scan-stays : (p : ℕ) → scan (drop (startCodeFrom s p) s) ≡ 0
-  scan-stays p =
-      let l : length (drop p s) ≡ length s - p = length-drop p s in
-      elim (decLe (length (drop p s)) (scan (drop p s))) [
-        | yes k ↦ ap scan (drop-of-length-le s {i = startCodeFrom s p} (omega arith)) ∙ scan-nil
-        | no k ↦ scan-hit s (startCodeFrom s p) (drop-code s p (scan (drop p s)) (scan-found (drop p s) (omega arith)))
-      ]
-
-  -- from anywhere before the start code that follows, it finds that one
-  pub scan-from : (b n : ℕ) → n ≤ scan (drop b s) → startCodeFrom s (b + n) ≡ startCodeFrom s b
-  scan-from b n h =
-      let l = scan-le (drop b s) in
-      let e = scan-skip (drop b s) n (omega arith) (λ i k. scan-first (drop b s) i (omega arith)) in
-      let d : scan (drop n (drop b s)) ≡ scan (drop (b + n) s) = ap scan (drop-drop n b s) in
-      omega arith
-
   -- a start code has three bytes
   pub code-room : (q : ℕ) → scan (drop q s) ≡ 0 → q < length s → q + 3 ≤ length s
   code-room q z h =
@@ -91,7 +67,7 @@ module _ (s : List ℕ) where
   pub units-scan : (p : ℕ) → streamUnitsFrom s (startCodeFrom s p) ≡ streamUnitsFrom s p
   unfolding streamUnitsFrom
   units-scan p =
-      let z = scan-stays p in
+      let z = scan-stays s p in
       let e : startCodeFrom s (startCodeFrom s p) ≡ startCodeFrom s p = omega arith in
       rw e
 
@@ -107,7 +83,7 @@ module _ (s : List ℕ) where
         rw e (ap nonEmpty (all-step q (record { start = q + 3; len = segmentLen }) (startCodeFrom s (q + 3)) inside refl))
 
     settled : startCodeFrom s (startCodeFrom s (q + 3)) ≡ startCodeFrom s (q + 3)
-    settled = let z = scan-stays (q + 3) in omega arith
+    settled = let z = scan-stays s (q + 3) in omega arith
 
     -- it is cut at the next start code
     pub segment-le : segmentLen ≤ scan (drop (q + 3) s)
@@ -122,7 +98,7 @@ module _ (s : List ℕ) where
 
     pub units-unit : 0 < segmentLen → streamUnitsFrom s q ≡ record { start = q + 3; len = segmentLen } ∷ streamUnitsFrom s (q + 3 + segmentLen)
     unfolding streamUnitsFrom nonEmpty
-    units-unit h = rw (scan-from (q + 3) segmentLen segment-le) (units-read ∙ rw (ne-eqb segmentLen 0 (λ z. omega arith)))
+    units-unit h = rw (scan-from s (q + 3) segmentLen segment-le) (units-read ∙ rw (ne-eqb segmentLen 0 (λ z. omega arith)))
 
   -- the same with the numbers that the code found
   module _ (q : ℕ) (here : scan (drop q s) ≡ 0) (inside : q < length s) (next len : ℕ) (stops : next ≡ startCodeFrom s (q + 3))
@@ -131,7 +107,7 @@ module _ (s : List ℕ) where
     same-len = cuts ∙ rw stops
 
     pub next-settled : scan (drop next s) ≡ 0
-    next-settled = rw stops (scan-stays (q + 3))
+    next-settled = rw stops (scan-stays s (q + 3))
 
     pub step-empty : len ≤ 0 → streamUnitsFrom s next ≡ streamUnitsFrom s q
     step-empty h = let e = same-len in rw stops (units-empty q here inside (omega arith))
@@ -171,7 +147,7 @@ module _ (s : List ℕ) where
       elim (decLe (length s) (startCodeFrom s p)) [
         | yes k ↦ View.ends (sym (units-scan p) ∙ units-end (startCodeFrom s p) k)
         | no k ↦ earlier p (startCodeFrom s p) (omega arith) (units-scan p)
-            (view-code (startCodeFrom s p) (scan-stays p) (omega arith) (λ r l. view-within f r (omega arith)))
+            (view-code (startCodeFrom s p) (scan-stays s p) (omega arith) (λ r l. view-within f r (omega arith)))
       ]
 
   pub view : (p : ℕ) → View p

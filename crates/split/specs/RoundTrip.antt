@@ -1,22 +1,18 @@
--- What a stream says of the units that it was made of (SCOPE 3.13, 4.6), for any choice of their start codes. The claims are `SplitsBack`,
+-- What a stream says of the units that it was made of (SCOPE 3.13), for any choice of their start codes. The claims are `SplitsBack`,
 -- `SameUnits` and `Shorter`.
-use Prim.Native.Nat.{ℕ, suc, _+_, _-_, _^_, _≤_, _<_}
+use Prim.Native.Nat.{ℕ, suc, _+_, _^_, _≤_, _<_}
 use mathlib.Core.Path.{_≡_}
 use mathlib.Core.List.{List, [], _∷_, map}
 use lib.ListN.{length, getD}
 use Rattle.parse.specs.Outcome.{accept}
 use Rattle.boxes.specs.Parts.{held}
 use Rattle.boxes.specs.declared.Span.{Span}
+use Rattle.nal.specs.PlainCheck.{Splittable}
 use Rattle.split.specs.Stream.{splitStream, StartCode, three, four, annexB}
 
--- u does not contain 00 00 01 and does not end in 00
-pub record Clean (u : List ℕ) : Type 0 where
-  pub free : (i : ℕ) → i + 2 < length u → getD u i 0 ≡ 0 → getD u (i + 1) 0 ≡ 0 → getD u (i + 2) 0 ≡ 1 → ⊥
-  pub ends : 0 < length u → getD u (length u - 1) 0 ≡ 0 → ⊥
-
--- every unit passes the unit check of SCOPE 4.6: it is not empty, does not contain 00 00 01 and does not end in 00
-abbrev pub AllPass : List (List ℕ) → Type 0
-AllPass us = (k : ℕ) → k < length us → (0 < length (getD us k [])) × Clean (getD us k [])
+-- no unit is empty, contains 00 00 01 or ends in 00
+abbrev pub AllSplittable : List (List ℕ) → Type 0
+AllSplittable us = (k : ℕ) → k < length us → Splittable (getD us k [])
 
 -- splitting s returns these units, in order
 pub record SplitsInto (s : List ℕ) (us : List (List ℕ)) : Type 0 where
@@ -26,11 +22,11 @@ pub record SplitsInto (s : List ℕ) (us : List (List ℕ)) : Type 0 where
 
 -- Splitting a stream of at most 2^30 bytes returns exactly the units that it was made of.
 abbrev pub SplitsBack : (ℕ → List ℕ → StartCode) → Type 0
-SplitsBack code = (us : List (List ℕ)) → AllPass us → length (annexB code us) ≤ 2 ^ 30 → SplitsInto (annexB code us) us
+SplitsBack code = (us : List (List ℕ)) → AllSplittable us → length (annexB code us) ≤ 2 ^ 30 → SplitsInto (annexB code us) us
 
 -- Equal streams were made of equal units.
 abbrev pub SameUnits : (ℕ → List ℕ → StartCode) → Type 0
-SameUnits code = (us vs : List (List ℕ)) → AllPass us → AllPass vs → annexB code us ≡ annexB code vs → us ≡ vs
+SameUnits code = (us vs : List (List ℕ)) → AllSplittable us → AllSplittable vs → annexB code us ≡ annexB code vs → us ≡ vs
 
 -- how many units have a start code of three bytes
 abbrev pub oneIfThree : StartCode → ℕ

@@ -6,8 +6,9 @@ use native.Mathlib.Omega.{arith}
 use borrow.Author.Needs.{needs}
 use lib.ListN.{length, drop}
 use Rattle.nal.specs.StartCode.{scan}
+use Rattle.nal.proofs.StartCodes.{scan-stays}
 use Rattle.split.specs.Stream.{streamUnitsFrom}
-use Rattle.split.proofs.Streams.{scan-stays, code-room, units-end, units-scan, next-settled, step-empty, step-unit, given-too-long, given-lent}
+use Rattle.split.proofs.Streams.{code-room, units-end, units-scan, next-settled, step-empty, step-unit, given-too-long, given-lent}
 use Rattle.split.proofs.next_unit.Statement.{statement}
 use Rattle.split.proofs.next_unit.Tie as tie
 

@@ -7,7 +7,8 @@ use native.Mathlib.Omega.{arith}
 use Rattle.parse.specs.Outcome.{accept}
 use Rattle.parse.specs.Parse.{many, manyUpTo}
 use Rattle.boxes.specs.Bytes.{be, uint, bytes, chunk, inside}
-use Rattle.nal.specs.StartCode.{bytesBefore, startsWithCode, scan, endsInZero, unitChecked}
+use Rattle.nal.specs.StartCode.{bytesBefore, endsInZero}
+use Rattle.nal.specs.UnitCheck.{startsForbidden, unitChecked}
 use Rattle.nal.specs.Kinds.{unitKind}
 use Rattle.unit_list.specs.UnitList.{arrayRest, array, unitList, decode, unitsOf}
 use Rattle.split.specs.Item.{itemUnit, itemUnits, splitItem}
@@ -55,7 +56,7 @@ made = record { head = plainHead 1; list = list; item = item; tols = none; sourc
 
 -- it splits into its units, of which three have three bytes
 recovered : SplitsInto short units
-unfolding bytesBefore startsWithCode scan endsInZero unitChecked allChecked
+unfolding bytesBefore startsForbidden endsInZero unitChecked allChecked
 recovered = assembly-splits Short short units made (all-splittable units refl) (omega arith)
 
 three-of-six : threes (codeOf Short) units ≡ 3

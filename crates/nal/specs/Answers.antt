@@ -5,7 +5,7 @@ use mathlib.Core.List.{List}
 use mathlib.Core.Option.{Option, none, some}
 use Rattle.error.specs.Refusals.{numberOf}
 use Rattle.parse.specs.Outcome.{Outcome, accept, refuse, lentInput}
-use Rattle.nal.specs.StartCode.{unitChecked}
+use Rattle.nal.specs.UnitCheck.{unitChecked}
 use Rattle.nal.specs.declared.HeaderField.{HeaderField}
 use Rattle.nal.specs.declared.HeaderField.the-variants as H
 use Rattle.nal.specs.declared.UnitCheck.{UnitCheck}

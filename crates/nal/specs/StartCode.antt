@@ -1,9 +1,9 @@
--- Start codes 00 00 01 (SCOPE 3.13; H.266 annex B), and the unit check (SCOPE 4.6).
+-- Start codes 00 00 01 (SCOPE 3.13; H.266 annex B), and the last byte of a unit.
 use Prim.Native.Nat.{ℕ, suc, _+_}
-use mathlib.Core.Bool.{Bool, false, not, _&&_}
+use mathlib.Core.Bool.{Bool, false, _&&_}
 use mathlib.Core.List.{List, [], _∷_}
-use lib.Dec.{eqb, ltb}
-use lib.ListN.{length, drop}
+use lib.Dec.{eqb}
+use lib.ListN.{drop}
 use Rattle.parse.specs.Logic.{if_then_else_}
 
 -- how many bytes come before the first place from which on the bytes pass a test; all of them where there is none
@@ -31,7 +31,3 @@ unfoldable pub endsInZero : List ℕ → Bool
 endsInZero [] = false
 endsInZero (x ∷ []) = eqb x 0
 endsInZero (x ∷ y ∷ r) = endsInZero (y ∷ r)
-
--- the unit check: the unit is not empty, has no 00 00 01 in it, and does not end in 00
-unfoldable pub unitChecked : List ℕ → Bool
-unitChecked u = ltb 0 (length u) && (eqb (scan u) (length u) && not (endsInZero u))

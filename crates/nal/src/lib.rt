@@ -1,4 +1,5 @@
 // A unit's header and the kinds of units (SCOPE 3.3), and the unit check (SCOPE 4.6).
+pub mod forbidden;
 pub mod header;
 pub mod start_code;
 
@@ -56,7 +57,7 @@ pub enum HeaderField {
     Refused(Refusal),
 }
 
-// The unit check: whether a stream with this unit in it splits into the same unit.
+// The unit check: whether a unit has only bytes that a decoder takes.
 pub enum UnitCheck {
     Yes,
     No,
@@ -153,7 +154,8 @@ pub fn is_record_nal_type(nal_unit_type: u8) -> bool
     }
 }
 
-// Whether a unit is not empty, has no 00 00 01 in it, and does not end in 00. Refusal: 23.
+// Whether a unit has only bytes that H.266 7.4.2 allows in one: it is not empty, has nowhere 00 00 00, 00 00 01 or 00 00 02, nor 00 00 03 before
+// a byte above 03, and does not end in 00. Refusal: 23.
 pub fn check_unit(unit: &[u8]) -> UnitCheck
     ensures { λ r. ⌜ checkOf r ≡ checked (now (unit .entry)) ⌝ }
 {
@@ -163,11 +165,11 @@ pub fn check_unit(unit: &[u8]) -> UnitCheck
     if unit.len() == 0 {
         return UnitCheck::No;
     }
-    let code = start_code::start_code(unit, 0);
-    if code < unit.len() {
+    if start_code::ends_in_zero(unit) {
         return UnitCheck::No;
     }
-    if start_code::ends_in_zero(unit) {
+    let place = forbidden::first_place(unit);
+    if place < unit.len() {
         return UnitCheck::No;
     }
     UnitCheck::Yes

@@ -8,7 +8,8 @@ use mathlib.Core.List.{List, [], _∷_, _++_}
 use Rattle.parse.specs.Parse.{times, many, manyUpTo}
 use Rattle.boxes.specs.Bytes.{be, toBe, uint, bytes, chunk, toChunk, inside}
 use Rattle.boxes.proofs.AllBytes.{allBytes}
-use Rattle.nal.specs.StartCode.{bytesBefore, startsWithCode, scan, endsInZero, unitChecked}
+use Rattle.nal.specs.StartCode.{bytesBefore, endsInZero}
+use Rattle.nal.specs.UnitCheck.{startsForbidden, unitChecked}
 use Rattle.nal.proofs.Checks.{checked-splittable}
 use Rattle.unit_list.specs.UnitList.{arrayRest, array, unitList, decode, unitsOf, encodeUnits, encodeArray, encodeArrays, encode}
 use Rattle.rbsp.specs.Rbsp.{drops, nextZeros, unescape}
@@ -59,7 +60,7 @@ pub instances : Instances
 unfolding times many manyUpTo be toBe uint bytes chunk toChunk inside arrayRest array unitList decode unitsOf encodeUnits encodeArray encodeArrays
     encode drops nextZeros unescape bitsAt u skip align zerosBeforeOne ue presentFlags levels withoutFlags constraintBits generalConstraintsInfo
     constraintBytes profileTierLevel window spsHead parseSps atEnd compactRecord parseCompact havingType without firsts grouped multiLayerVps
-    ptlOfSets expandUnits toFull allBytes bytesBefore startsWithCode scan endsInZero unitChecked allChecked
+    ptlOfSets expandUnits toFull allBytes bytesBefore startsForbidden endsInZero unitChecked allChecked
 instances = record {
   worked = meets C (0x9A ∷ []) 4 (P ∷ Q ∷ []) refl refl refl refl (λ e. omega arith) (omega arith) (omega arith) refl
       (checked-splittable (0x9A ∷ []) refl .clean) (omega arith) (omega arith);

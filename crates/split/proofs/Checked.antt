@@ -1,12 +1,11 @@
 -- Units that pass the unit check can be split off a stream: the check is a test of it that computes.
-use Prim.Native.Nat.{ℕ, zero, suc, _<_}
+use Prim.Native.Nat.{ℕ, zero, suc}
 use mathlib.Core.Path.{_≡_}
 use mathlib.Core.Bool.{Bool, true, _&&_}
 use mathlib.Core.List.{List, [], _∷_}
 use native.Mathlib.Omega.{arith}
-use lib.ListN.{length, getD}
 use Rattle.parse.proofs.General.{both-true}
-use Rattle.nal.specs.StartCode.{unitChecked}
+use Rattle.nal.specs.UnitCheck.{unitChecked}
 use Rattle.nal.proofs.Checks.{checked-splittable}
 use Rattle.split.specs.RoundTrip.{AllSplittable}
 

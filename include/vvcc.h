@@ -91,6 +91,12 @@ typedef struct vvcc_unit {
     size_t next;      /* the offset from which to continue */
 } vvcc_unit;
 
+/* The answer of the unit check. */
+typedef struct vvcc_check {
+    uint32_t refusal; /* 0, or the number of the refusal */
+    uint32_t passes;  /* 1 for yes, 0 for no; 0 on a refusal */
+} vvcc_check;
+
 /* The full record (ISO/IEC 14496-15) of a still's compact record (ISO/IEC 23008-12 Amd 2, Annex L), with the chroma format, bit depth and
  * dimensions that the file states. `out` needs at most 1100 + 5*record_len bytes.
  * Refusals, in this order: 23, 1, 7; with the multi-layer flag set 16, then 11 and 15 of the VPS; 17; 11 to 14 of the SPS; 18, then 11 and 15
@@ -143,6 +149,17 @@ vvcc_unit vvcc_next_unit(const uint8_t *stream, size_t stream_len, size_t from);
 /* The unit of an item whose length prefix, of `length_size` bytes, is at the offset `from`. Start with 0 and continue with `next`.
  * Refusals, in this order: 23, 4, then in byte order 1 and 5. */
 vvcc_unit vvcc_next_item_unit(const uint8_t *item, size_t item_len, uint8_t length_size, size_t from);
+
+/* The unit check: whether the bytes of a unit are as H.266 7.4.2 (NAL unit semantics) asks of every unit. It is yes exactly if
+ *  - the unit is not empty, and its last byte is not 00;
+ *  - none of 00 00 00, 00 00 01 and 00 00 02 occurs in it;
+ *  - 00 00 03 does not occur in it before a byte above 03. At the very end of the unit it is allowed.
+ * What the header of the unit says is not looked at, and nothing is decoded.
+ * A unit that passes is split off a stream as it is (vvcc_next_unit). No other call checks its units: a service makes this call for each unit
+ * before it hands a stream to a decoder. vvcc_next_unit finds the units of a stream, vvcc_next_item_unit those of an item. In a stream 00 00 01
+ * begins another unit, and zeros at the end of a unit are cut off: a unit with either is noticed only if it is checked before it is in a stream.
+ * Refusal: 23. */
+vvcc_check vvcc_check_unit(const uint8_t *unit, size_t unit_len);
 
 #ifdef __cplusplus
 }

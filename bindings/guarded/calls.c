@@ -5,8 +5,8 @@
 #include <stdlib.h>
 #include <string.h>
 
-const char *const call_names[CALLS] = {"vvcc_still_record",  "vvcc_still_stream", "vvcc_access_unit",
-                                       "vvcc_strict_record", "vvcc_next_unit",    "vvcc_next_item_unit"};
+const char *const call_names[CALLS] = {"vvcc_still_record", "vvcc_still_stream",   "vvcc_access_unit", "vvcc_strict_record",
+                                       "vvcc_next_unit",    "vvcc_next_item_unit", "vvcc_check_unit"};
 
 #define BIT(n) ((uint32_t)1 << (n))
 
@@ -21,6 +21,7 @@ static const uint32_t listed[CALLS] = {
     BIT(23) | BIT(3) | BIT(1) | BIT(2) | BIT(25) | BIT(26) | BIT(20),
     BIT(23),
     BIT(23) | BIT(4) | BIT(1) | BIT(5),
+    BIT(23),
 };
 
 /* Prints what was wrong and the case, and ends the program. */
@@ -126,4 +127,14 @@ vvcc_unit step(const test_case *c, enum side side, uint8_t around, size_t from) 
     if ((u.refusal || !u.found) && (u.found || u.start || u.len || u.next))
         fail(c, "no unit, and numbers that are not 0");
     return u;
+}
+
+/* The check of a unit, the unit placed. No unit here is too long. */
+vvcc_check ask(const test_case *c, enum side side, uint8_t around) {
+    uint8_t *at = place_input(FIRST, side, &c->first, around);
+    vvcc_check v = vvcc_check_unit(at, c->first.len);
+    check_input(c, FIRST, side, at, &c->first, around);
+    if (v.refusal)
+        fail(c, "a unit that is not too long was refused");
+    return v;
 }

@@ -120,9 +120,10 @@ static void walk_case(test_case *c) {
 
 /* A case of any call. */
 void any_case(test_case *c) {
-    static const enum call share[] = {STILL_RECORD, STILL_RECORD, STILL_STREAM,  STILL_STREAM,  STILL_STREAM, ACCESS_UNIT,
-                                      ACCESS_UNIT,  ACCESS_UNIT,  STRICT_RECORD, STRICT_RECORD, NEXT_UNIT,    NEXT_ITEM_UNIT};
-    c->call = share[below(12)];
+    static const enum call share[] = {STILL_RECORD, STILL_RECORD,  STILL_STREAM,  STILL_STREAM, STILL_STREAM, ACCESS_UNIT, ACCESS_UNIT,
+                                      ACCESS_UNIT,  STRICT_RECORD, STRICT_RECORD, NEXT_UNIT,    NEXT_UNIT,    CHECK_UNIT,  CHECK_UNIT,
+                                      NEXT_ITEM_UNIT};
+    c->call = share[below(15)];
     c->first.len = c->second.len = 0;
     if (c->call <= STILL_STREAM)
         still_case(c);
@@ -130,6 +131,8 @@ void any_case(test_case *c) {
         access_unit_case(c);
     else if (c->call == STRICT_RECORD)
         strict_record_case(c);
+    else if (c->call == CHECK_UNIT)
+        unit_to_check(&c->first);
     else
         walk_case(c);
 }

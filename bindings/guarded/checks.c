@@ -177,27 +177,57 @@ static void check_written(const test_case *c, counts *n) {
     n->answers[c->call][whole.answer.refusal]++;
 }
 
-/* A unit lies inside, after the place that was asked for, and is not empty. In a stream it follows 00 00 01 and does not end in 00; in an item it
- * follows its length. */
-static void check_unit(const test_case *c, const vvcc_unit *u, size_t from) {
-    const uint8_t *s = c->first.at;
-    size_t ahead = c->call == NEXT_UNIT ? 3 : c->length_size, len = c->first.len;
-    if (u->found != 1 || u->len == 0 || u->len > len || u->start > len - u->len || u->start < ahead || u->start - ahead < from)
+/* Where the next 00 00 01 of a stream lies at or after a place, found byte by byte; the stream's length if there is none. */
+static size_t next_code(const bytes *s, size_t from) {
+    for (; from < s->len; from++)
+        if (s->len - from >= 3 && !memcmp(s->at + from, "\0\0\1", 3))
+            return from;
+    return s->len;
+}
+
+/* The step over a stream as it must be: the bytes from one start code to the next without the zeros at their end, unless none are left. */
+static vvcc_unit plain_step(const bytes *s, size_t from) {
+    vvcc_unit none = {0, 0, 0, 0, 0};
+    for (size_t code = next_code(s, from); code < s->len; code = next_code(s, code + 3)) {
+        size_t start = code + 3, end = next_code(s, start);
+        while (end > start && !s->at[end - 1])
+            end--;
+        if (end > start)
+            return (vvcc_unit){0, 1, start, end - start, end};
+    }
+    return none;
+}
+
+/* Whether two steps are the same. */
+static bool same_step(const vvcc_unit *u, const vvcc_unit *v) {
+    return u->refusal == v->refusal && u->found == v->found && u->start == v->start && u->len == v->len && u->next == v->next;
+}
+
+/* A step over a stream is the one that a search byte by byte finds. */
+static void check_stream_step(const test_case *c, const vvcc_unit *u, size_t from) {
+    vvcc_unit right = plain_step(&c->first, from);
+    if (!same_step(u, &right))
+        fail(c, "a step differs from a search byte by byte");
+}
+
+/* A unit of an item lies inside, is not empty, and follows its length at the place that was asked for. */
+static void check_item_unit(const test_case *c, const vvcc_unit *u, size_t from) {
+    size_t ahead = c->length_size, len = c->first.len;
+    if (u->found != 1 || u->len == 0 || u->len > len || u->start > len - u->len)
         fail(c, "a unit that is empty or does not lie inside");
-    if (u->next < u->start + u->len || u->next > len)
-        fail(c, "a place to continue from that is not after the unit, or outside");
-    if (c->call == NEXT_UNIT ? s[u->start + u->len - 1] == 0 || memcmp(s + u->start - 3, "\0\0\1", 3)
-                             : u->start != from + ahead || u->next != u->start + u->len)
+    if (u->start < ahead || u->start - ahead != from || u->next != u->start + u->len)
         fail(c, "a unit that does not lie where it should");
 }
 
 /* One step at both placements. */
 static vvcc_unit check_step(const test_case *c, size_t from, uint8_t around) {
     vvcc_unit u = step(c, AT_THE_END, around, from), v = step(c, AT_THE_FRONT, (uint8_t)~around, from);
-    if (u.refusal != v.refusal || u.found != v.found || u.start != v.start || u.len != v.len || u.next != v.next)
+    if (!same_step(&u, &v))
         fail(c, "a step differs between the placements");
-    if (u.found)
-        check_unit(c, &u, from);
+    if (c->call == NEXT_ITEM_UNIT && u.found)
+        check_item_unit(c, &u, from);
+    if (c->call == NEXT_UNIT)
+        check_stream_step(c, &u, from);
     return u;
 }
 
@@ -216,10 +246,38 @@ static void check_walk(const test_case *c, counts *n) {
     n->answers[c->call][u.refusal]++;
 }
 
+/* Whether a unit may not have the bytes from a place on: 00 00 and one up to 02, or 00 00 03 and one above 03. */
+static bool is_forbidden(const uint8_t *at, size_t left) {
+    if (left < 3 || at[0] || at[1])
+        return false;
+    return at[2] < 3 || (at[2] == 3 && left > 3 && at[3] > 3);
+}
+
+/* The rule of the unit check (H.266 7.4.2), place by place. */
+static bool passes(const bytes *u) {
+    bool pass = u->len && u->at[u->len - 1];
+    for (size_t i = 0; i < u->len; i++)
+        pass = pass && !is_forbidden(u->at + i, u->len - i);
+    return pass;
+}
+
+/* The unit check at both placements. */
+static void check_asked(const test_case *c, counts *n) {
+    uint8_t around = (uint8_t)any_number();
+    vvcc_check u = ask(c, AT_THE_END, around), v = ask(c, AT_THE_FRONT, (uint8_t)~around);
+    uint32_t right = passes(&c->first);
+    if (u.passes != right || v.passes != right)
+        fail(c, "the unit check says something else than the rule");
+    n->pass += right;
+    n->answers[c->call][0]++;
+}
+
 /* One case, counted. */
 void check_case(const test_case *c, counts *n) {
     if (c->call < NEXT_UNIT)
         check_written(c, n);
+    else if (c->call == CHECK_UNIT)
+        check_asked(c, n);
     else
         check_walk(c, n);
 }

@@ -18,6 +18,14 @@ static void read_outside(enum side side) {
     vvcc_next_unit(side == AT_THE_END ? s : s - 1, 10, 0);
 }
 
+/* Lends a unit a byte longer than it is, first or last: the unit check goes by that byte, which must not be 00. */
+static void check_outside(enum side side) {
+    uint8_t *u = place_slice(FIRST, side, 9, 7);
+    memset(u, 5, 9);
+    u[0] = u[1] = 0;
+    vvcc_check_unit(side == AT_THE_END ? u : u - 1, 10);
+}
+
 /* Lends an output a byte longer than it is, for a record of 40 bytes. */
 static void write_outside(enum side side) {
     uint8_t *out = place_slice(OUT, side, 39, 7);
@@ -47,12 +55,12 @@ static bool is_ended(void (*wrong)(enum side), enum side side) {
 
 /* Each wrong length must end its process. */
 size_t check_faults(void) {
-    void (*const wrong[])(enum side) = {read_outside, write_outside, write_scratch_outside};
+    void (*const wrong[])(enum side) = {read_outside, check_outside, write_outside, write_scratch_outside};
     size_t n = 0;
-    for (size_t i = 0; i < 3; i++)
+    for (size_t i = 0; i < 4; i++)
         for (int side = AT_THE_END; side <= AT_THE_FRONT; side++, n++)
             if (!is_ended(wrong[i], (enum side)side)) {
-                fprintf(stderr, "guarded: a %s outside was not noticed\n", i ? "write" : "read");
+                fprintf(stderr, "guarded: a %s outside was not noticed\n", i < 2 ? "read" : "write");
                 exit(1);
             }
     return n;
@@ -81,6 +89,18 @@ static size_t check_long_walks(const uint8_t *s, size_t most) {
             exit(1);
         }
     return 4;
+}
+
+/* A unit that is too long is refused; one of the greatest length is checked, and ends in 00. */
+static size_t check_long_units(const uint8_t *s, size_t most) {
+    vvcc_check answers[] = {vvcc_check_unit(s, most + 1), vvcc_check_unit(s + 1, most)};
+    static const uint32_t refusals[] = {23, 0};
+    for (size_t i = 0; i < 2; i++)
+        if (answers[i].refusal != refusals[i] || answers[i].passes) {
+            fprintf(stderr, "guarded: a long unit: %lu\n", (unsigned long)answers[i].refusal);
+            exit(1);
+        }
+    return 2;
 }
 
 /* A record that is too long is refused before it is looked at; one of the greatest length is read, and its reserved bits are 0. */
@@ -119,5 +139,5 @@ size_t check_long_inputs(void) {
     n += must_refuse(23, vvcc_still_record(s, most + 1, 1, 8, 16, 8, out, 64), out);
     for (uint8_t codes = VVCC_FOUR_BYTES; codes <= VVCC_SHORT; codes++)
         n += check_long_streams(s, most, codes, scratch, out);
-    return n + check_long_records(s, most, scratch) + check_long_walks(s, most);
+    return n + check_long_records(s, most, scratch) + check_long_walks(s, most) + check_long_units(s, most);
 }

@@ -20,7 +20,7 @@ typedef struct bytes {
     size_t len;
 } bytes;
 
-enum call { STILL_RECORD, STILL_STREAM, ACCESS_UNIT, STRICT_RECORD, NEXT_UNIT, NEXT_ITEM_UNIT, CALLS };
+enum call { STILL_RECORD, STILL_STREAM, ACCESS_UNIT, STRICT_RECORD, NEXT_UNIT, NEXT_ITEM_UNIT, CHECK_UNIT, CALLS };
 
 /* The numbers of refusals are below this. */
 #define REFUSALS 27
@@ -28,7 +28,7 @@ enum call { STILL_RECORD, STILL_STREAM, ACCESS_UNIT, STRICT_RECORD, NEXT_UNIT, N
 /* What a call is given: its inputs and its numbers. */
 typedef struct test_case {
     enum call call;
-    bytes first;  /* the record, the stream or the item of a walk */
+    bytes first;  /* the record, the stream or the item of a walk, or the unit to check */
     bytes second; /* the stored bytes or the item */
     uint8_t chroma_format_idc, bit_depth;
     uint32_t width, height;
@@ -64,13 +64,14 @@ void opi_unit(bytes *b);
 void other_unit(bytes *b, unsigned type, size_t most);
 void picture_unit(bytes *b, size_t most);
 
-/* shapes.c: records, items and streams */
+/* shapes.c: records, items, streams, and units to check */
 void compact_record(bytes *b);
 void longest_compact(bytes *b, bool layers);
 void full_record(bytes *b);
 void change_reserved(bytes *b);
 void item(bytes *b, unsigned length_size, size_t most);
 void stream(bytes *b);
+void unit_to_check(bytes *b);
 
 /* pages.c: memory between two inaccessible pages */
 enum side { AT_THE_END, AT_THE_FRONT };
@@ -100,12 +101,14 @@ typedef struct run {
 bool is_listed(enum call call, uint32_t refusal);
 void perform(const test_case *c, run *r);
 vvcc_unit step(const test_case *c, enum side side, uint8_t around, size_t from);
+vvcc_check ask(const test_case *c, enum side side, uint8_t around);
 void fail(const test_case *c, const char *what);
 
 /* checks.c: a case at both placements, and its answers counted */
 typedef struct counts {
     size_t answers[CALLS][REFUSALS]; /* by refusal, 0 for accepted; a walk counts by how it ends */
     size_t short_streams, taken_out; /* streams with short codes, and the zeros that they do not have */
+    size_t pass;                     /* units that pass the unit check */
 } counts;
 
 size_t header_out(const test_case *c);

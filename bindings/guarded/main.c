@@ -91,7 +91,7 @@ static size_t print_counts(const counts *n) {
 
 int main(int argc, char **argv) {
     uint64_t seed = argc > 1 ? strtoull(argv[1], NULL, 10) : 1;
-    size_t cases = argc > 2 ? strtoull(argv[2], NULL, 10) : 360000;
+    size_t cases = argc > 2 ? strtoull(argv[2], NULL, 10) : 450000;
     seed_numbers(seed);
     open_places();
     size_t faults = check_faults(), long_inputs = check_long_inputs();
@@ -101,8 +101,8 @@ int main(int argc, char **argv) {
     print_refusals(&plain);
     printf("guarded, accepted + refused:");
     size_t all = print_counts(&plain);
-    printf(" %zu cases, nothing wrong\nshort codes: %zu streams, %zu zeros taken out\non 64 KiB of stack:", all, plain.short_streams,
-           plain.taken_out);
+    printf(" %zu cases, nothing wrong\nshort codes: %zu streams, %zu zeros taken out\n", all, plain.short_streams, plain.taken_out);
+    printf("unit check: %zu pass, %zu do not\non 64 KiB of stack:", plain.pass, plain.answers[CHECK_UNIT][0] - plain.pass);
     all = print_counts(&small);
     printf(" %zu cases, %zu bytes of stack; %zu long inputs; %zu faults noticed\n", all, deepest, long_inputs, faults);
     return 0;

@@ -1,4 +1,4 @@
-/* Records, items and streams. */
+/* Records, items, streams, and units to check. */
 #include "guarded.h"
 
 #include <string.h>
@@ -226,13 +226,19 @@ void item(bytes *b, unsigned length_size, size_t most) {
         add_number(b, 0, length_size);
 }
 
-/* A stream: units after start codes of three or four bytes with zeros between them, or small bytes alone. */
+/* Appends bytes that are 00, small or large. */
+static void add_small_bytes(bytes *b, size_t len) {
+    static const uint8_t some[] = {0x00, 0x00, 0x00, 0x00, 0x01, 0x01, 0x02, 0x03, 0x04, 0xFF};
+    for (size_t i = 0; i < len; i++)
+        add_byte(b, some[below(sizeof some)]);
+}
+
+/* A stream: units after start codes of three or four bytes with zeros between them, or bytes that are mostly small. */
 void stream(bytes *b) {
-    size_t n = below(8), small = below(60);
+    size_t n = below(8);
     b->len = 0;
     if (one_in(3)) {
-        for (size_t i = 0; i < small; i++)
-            add_byte(b, (unsigned)below(4) % 3);
+        add_small_bytes(b, below(one_in(4) ? 400 : 60));
         return;
     }
     for (size_t i = 0; i < n; i++) {
@@ -243,4 +249,28 @@ void stream(bytes *b) {
         for (size_t zeros = below(3); zeros > 0; zeros--)
             add_byte(b, 0);
     }
+}
+
+/* Puts 00 00, a byte up to 04 and one up to 05 over those from a place on, often one of the last four, as far as the unit has bytes. */
+static void put_over(bytes *b) {
+    const uint8_t four[] = {0, 0, (uint8_t)below(5), (uint8_t)below(6)};
+    size_t at = one_in(2) && b->len > 4 ? b->len - 1 - below(4) : below(b->len + 1);
+    for (size_t i = 0; i < 4 && at + i < b->len; i++)
+        b->at[at + i] = four[i];
+}
+
+/* A unit to check: short and of small bytes, or one in which 03 is inserted where it must be; a share of these have zeros put over some bytes. */
+void unit_to_check(bytes *b) {
+    b->len = unit.len = 0;
+    if (one_in(3)) {
+        add_small_bytes(b, below(12));
+        return;
+    }
+    if (one_in(2))
+        add_small_bytes(&unit, below(400));
+    else
+        add_any_bytes(&unit, below(400));
+    add_escaped(b, &unit);
+    if (one_in(2))
+        put_over(b);
 }

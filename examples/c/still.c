@@ -1,5 +1,5 @@
 /* Turns one still into its full record and its stream, with start codes of four bytes and with short ones, reads the record strictly, walks the
- * stream's units, and shows refusals. */
+ * stream's units, checks each, and shows refusals. */
 #include <stdio.h>
 #include <string.h>
 
@@ -10,12 +10,28 @@ static const uint8_t compact[] = {0x60, 11, 0x00, 0x79, 0x00, 0x0D, 0x02, 0x33, 
                                   3, 0x00, 0x81, 0x80};
 /* what the file stores for the picture */
 static const uint8_t stored[] = {0x9A, 0x80};
+/* a unit as no decoder should get it: it has 00 00 02 in it */
+static const uint8_t wrong[] = {0x00, 0x41, 0x9A, 0x00, 0x00, 0x02, 0x33};
 
 static void print_bytes(const char *what, const uint8_t *bytes, size_t len) {
     printf("%s:", what);
     for (size_t i = 0; i < len; i++)
         printf(" %02X", bytes[i]);
     printf("\n");
+}
+
+/* A unit, and whether it passes the unit check. */
+static void show_unit(const char *what, const uint8_t *unit, size_t len) {
+    vvcc_check c = vvcc_check_unit(unit, len);
+    print_bytes(what, unit, len);
+    printf("unit check: %s\n", c.passes ? "yes" : "no");
+}
+
+/* The units of a stream, and the wrong one. */
+static void show_units(const uint8_t *stream, size_t len) {
+    for (vvcc_unit u = vvcc_next_unit(stream, len, 0); u.found; u = vvcc_next_unit(stream, len, u.next))
+        show_unit("unit", stream + u.start, u.len);
+    show_unit("a unit with 00 00 02 in it", wrong, sizeof wrong);
 }
 
 /* Calls that are refused. `record` is left with a bit changed. */
@@ -51,8 +67,8 @@ int main(void) {
     print_bytes("stream", stream, w.len);
     size_t stream_len = w.len;
 
-    for (vvcc_unit u = vvcc_next_unit(stream, stream_len, 0); u.found; u = vvcc_next_unit(stream, stream_len, u.next))
-        print_bytes("unit", stream + u.start, u.len);
+    /* may a decoder get the stream? */
+    show_units(stream, stream_len);
 
     /* the same stream from the full record and the item */
     static const uint8_t item[] = {0, 0, 0, 4, 0x00, 0x41, 0x9A, 0x80};

@@ -24,6 +24,13 @@ pub struct Unit {
     pub next: usize,
 }
 
+#[repr(C)]
+#[derive(Clone, Copy)]
+pub struct Check {
+    pub refusal: u32,
+    pub passes: u32,
+}
+
 extern "C" {
     pub fn vvcc_still_record(
         record: *const u8,
@@ -72,4 +79,5 @@ extern "C" {
         length_size: u8,
         from: usize,
     ) -> Unit;
+    pub fn vvcc_check_unit(unit: *const u8, unit_len: usize) -> Check;
 }

@@ -3,7 +3,7 @@
 //! This crate passes slices to it and returns its answers as `Result`s.
 //!
 //! ```
-//! use vvcc::{still_stream, stream_units, Refusal, StartCodes};
+//! use vvcc::{check_unit, still_stream, stream_units, Refusal, StartCodes};
 //!
 //! // a still: a compact record of an SPS and a PPS, prefix size 4, and the stored bytes of its picture
 //! let compact = b"\x60\x0B\x00\x79\x00\x0D\x02\x33\x80\x00\x02\x22\x4C\x03\x00\x81\x80";
@@ -11,6 +11,11 @@
 //! let units: Vec<&[u8]> = stream_units(&stream).collect::<Result<_, _>>()?;
 //! assert_eq!(units.len(), 3);
 //! assert_eq!(units[2], [0x00, 0x41, 0x9A]);
+//!
+//! // before the stream goes to a decoder: the bytes of each unit are checked
+//! for unit in &units {
+//!     assert!(check_unit(unit)?);
+//! }
 //!
 //! // with short start codes the picture follows 00 00 01 instead of 00 00 00 01
 //! let short = still_stream(compact, &[0x9A], None, StartCodes::Short)?;
@@ -28,7 +33,7 @@ mod refusal;
 mod units;
 
 pub use refusal::Refusal;
-pub use units::{item_units, stream_units, ItemUnits, StreamUnits};
+pub use units::{check_unit, item_units, stream_units, ItemUnits, StreamUnits};
 
 use calls::{Read, Written};
 

@@ -1,10 +1,11 @@
-//! Compares the library with the original on the same bytes: made and damaged stills, records, items and streams.
+//! Compares the library with the original on the same bytes: made and damaged stills, records, items and streams, and streams with units that pass
+//! the unit check.
 //! The original's sources are found by the environment variable VVCC_ORIGINAL, the folder with vvcc.rs, hvcc.rs, boxes.rs and error.rs.
 #![cfg_attr(not(original), allow(unused))]
 use ::vvcc::StartCodes::{Four, Short};
 use ::vvcc::{
-    access_unit, item_units, still_record, still_stream, stream_units, strict_record, Picture,
-    Refusal, StartCodes,
+    access_unit, check_unit, item_units, still_record, still_stream, stream_units, strict_record,
+    Picture, Refusal, StartCodes,
 };
 
 #[cfg(original)]
@@ -436,5 +437,18 @@ beside_original! {
         let ours: Vec<_> = stream_units(&stream).map(Result::unwrap).collect();
         assert_eq!(ours, crate::hvcc::split_annex_b(&stream), "{stream:02X?}");
         !ours.is_empty()
+    }
+
+    // a unit that passes the unit check is found again between two others, by the library and by the original
+    fn checked_units(n, 20000) {
+        let k = n.below(30);
+        let unit: Vec<u8> = (0..k).map(|_| [0, 0, 1, 2, 3, 4, 0x80][n.below(7)]).collect();
+        let passes = check_unit(&unit).unwrap();
+        let units = [b"\x00\x81\x80".to_vec(), unit, b"\x00\x41\x9A".to_vec()];
+        let stream = annex_b(&units, Four);
+        let ours: Vec<_> = stream_units(&stream).map(Result::unwrap).collect();
+        assert_eq!(ours, crate::hvcc::split_annex_b(&stream), "{stream:02X?}");
+        assert!(!passes || ours == units, "{stream:02X?}");
+        passes
     }
 }

@@ -369,6 +369,7 @@ fn inputs_above_2_to_the_30() {
         item_units(long, 0).collect::<Vec<_>>(),
         [Err(Refusal::InputTooLong)]
     );
+    assert_eq!(check_unit(long), Err(Refusal::InputTooLong));
     // one byte less is taken
     assert_eq!(
         strict_record_into(&long[1..], &mut [0; 8]),
@@ -379,4 +380,5 @@ fn inputs_above_2_to_the_30() {
         item_units(&long[1..], 4).next(),
         Some(Err(Refusal::ZeroLengthUnit))
     );
+    assert_eq!(check_unit(&long[1..]), Ok(false));
 }

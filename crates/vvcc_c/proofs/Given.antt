@@ -5,12 +5,13 @@ use mathlib.Core.List.{List}
 use mathlib.Core.Option.{Option, none, some}
 use borrow.Author.Tests.{eq-eqb, ne-eqb}
 use Rattle.parse.specs.Outcome.{Outcome, refuse, lentOutput, counted}
-use Rattle.vvcc_c.specs.Exports.{writtenAnswer, writtenGiven, readAnswer, unitAnswer, targetFrom, codesFrom}
+use Rattle.vvcc_c.specs.Exports.{writtenAnswer, writtenGiven, readAnswer, unitAnswer, checkAnswer, targetFrom, codesFrom}
 use Rattle.access_unit.specs.declared.StartCodes.{StartCodes}
 use Rattle.access_unit.specs.declared.StartCodes.the-variants.{Four, Short}
 use Rattle.vvcc_c.specs.declared.VvccWritten.{VvccWritten}
 use Rattle.vvcc_c.specs.declared.VvccRead.{VvccRead}
 use Rattle.vvcc_c.specs.declared.VvccUnit.{VvccUnit}
+use Rattle.vvcc_c.specs.declared.VvccCheck.{VvccCheck}
 
 pub written-number : {n e : ℕ} → n ≡ e → _≡_ {A = VvccWritten} (record { refusal = n; len = 0 }) (writtenAnswer (refuse e))
 written-number h = rw h
@@ -20,6 +21,9 @@ read-number h = rw h
 
 pub unit-number : {n e : ℕ} → n ≡ e → _≡_ {A = VvccUnit} (record { refusal = n; found = 0; start = 0; len = 0; next = 0 }) (unitAnswer (refuse e))
 unit-number h = rw h
+
+pub check-number : {n e : ℕ} → n ≡ e → _≡_ {A = VvccCheck} (record { refusal = n; passes = 0 }) (checkAnswer (refuse e))
+check-number h = rw h
 
 pub no-target : (h t : ℕ) → h ≡ 0 → none ≡ targetFrom h t
 no-target h t e = rw (eq-eqb h 0 e)

@@ -1,6 +1,7 @@
 -- What the exported functions return to C: structs of numbers, made from the outcomes of the called functions. A refusal is its number and zeros;
 -- 0 is no refusal.
 use Prim.Native.Nat.{ℕ}
+use mathlib.Core.Bool.{Bool, true, false}
 use mathlib.Core.List.{List}
 use mathlib.Core.Option.{Option, none, some}
 use lib.Dec.{eqb, leb}
@@ -16,6 +17,7 @@ use Rattle.access_unit.specs.declared.StartCodes.the-variants.{Four, Short}
 use Rattle.vvcc_c.specs.declared.VvccWritten.{VvccWritten}
 use Rattle.vvcc_c.specs.declared.VvccRead.{VvccRead}
 use Rattle.vvcc_c.specs.declared.VvccUnit.{VvccUnit}
+use Rattle.vvcc_c.specs.declared.VvccCheck.{VvccCheck}
 
 -- how many bytes were written
 abbrev pub writtenAnswer : Outcome ℕ → VvccWritten
@@ -40,6 +42,12 @@ abbrev pub unitAnswer : Outcome (Option Next) → VvccUnit
 unitAnswer (accept (some n)) = record { refusal = 0; found = 1; start = n .unit .start; len = n .unit .len; next = n .next }
 unitAnswer (accept none) = record { refusal = 0; found = 0; start = 0; len = 0; next = 0 }
 unitAnswer (refuse e) = record { refusal = e; found = 0; start = 0; len = 0; next = 0 }
+
+-- whether a unit passes the unit check
+abbrev pub checkAnswer : Outcome Bool → VvccCheck
+checkAnswer (accept true) = record { refusal = 0; passes = 1 }
+checkAnswer (accept false) = record { refusal = 0; passes = 0 }
+checkAnswer (refuse e) = record { refusal = e; passes = 0 }
 
 -- the operating point that a caller asks for: none if the first number is 0
 abbrev pub targetFrom : ℕ → ℕ → Option ℕ

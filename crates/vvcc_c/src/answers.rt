@@ -1,4 +1,5 @@
 // Internal: turns the answers of the called crates into structs of numbers.
+use super::VvccCheck;
 use super::VvccRead;
 use super::VvccUnit;
 use super::VvccWritten;
@@ -9,16 +10,18 @@ use error::Written;
 use error::number;
 use full_read::FullAnswer;
 use full_read::FullRead;
+use nal::UnitCheck;
 use split::NextUnit;
 ghost use mathlib.Core.Path.{_≡_};
 ghost use mathlib.Core.Option.{none, some};
 ghost use Rattle.error.specs.Refusals.{numberOf};
 ghost use Rattle.parse.specs.Outcome.{accept, refuse};
 ghost use Rattle.parse.specs.Answers.{writtenOf};
+ghost use Rattle.nal.specs.Answers.{checkOf};
 ghost use Rattle.split.specs.Answers.{nextOf};
 ghost use Rattle.full_read.specs.Answers.{fullOf};
 ghost use Rattle.access_unit.specs.Answers.{tolsOf};
-ghost use Rattle.vvcc_c.specs.Exports.{writtenAnswer, readAnswer, unitAnswer, targetFrom, codesFrom};
+ghost use Rattle.vvcc_c.specs.Exports.{writtenAnswer, readAnswer, unitAnswer, checkAnswer, targetFrom, codesFrom};
 
 // A refusal of a call that writes.
 pub fn refused(e: Refusal) -> VvccWritten
@@ -124,5 +127,25 @@ pub fn next(n: NextUnit) -> VvccUnit
         NextUnit::Unit(a, next) => unit(a.start, a.len, next),
         NextUnit::End => end(),
         NextUnit::Refused(e) => no_unit(e),
+    }
+}
+
+// The answer of the unit check.
+pub fn check(c: UnitCheck) -> VvccCheck
+    ensures { λ r. ⌜ r ≡ checkAnswer (checkOf c) ⌝ }
+{
+    match c {
+        UnitCheck::Yes => VvccCheck {
+            refusal: 0,
+            passes: 1,
+        },
+        UnitCheck::No => VvccCheck {
+            refusal: 0,
+            passes: 0,
+        },
+        UnitCheck::Refused(e) => VvccCheck {
+            refusal: number(e),
+            passes: 0,
+        },
     }
 }

@@ -1,4 +1,4 @@
-// The library for C and Rust: the calls on one still, assembly, and the walks over units. Every answer is a struct of numbers.
+// The library for C and Rust: the calls on one still, assembly, the walks over units, and the unit check. Every answer is a struct of numbers.
 pub mod answers;
 
 use access_unit_annex_b::access_unit_annex_b;
@@ -7,10 +7,20 @@ use error::Refusal;
 use expand::Picture;
 use full_read::FullAnswer;
 ghost use mathlib.Core.Path.{_≡_};
+ghost use Rattle.nal.specs.Answers.{checked};
 ghost use Rattle.split.specs.Answers.{nextItemUnit, nextGiven};
 ghost use Rattle.full.specs.Strict.{parseStrict};
 ghost use Rattle.still.specs.Stills.{stillRecord, stillStream};
-ghost use Rattle.vvcc_c.specs.Exports.{writtenGiven, readGiven, unitAnswer, targetFrom, codesFrom, scratchFilled, streamBeside};
+ghost use Rattle.vvcc_c.specs.Exports.{
+  writtenGiven,
+  readGiven,
+  unitAnswer,
+  checkAnswer,
+  targetFrom,
+  codesFrom,
+  scratchFilled,
+  streamBeside,
+};
 
 // The answer of a call that writes: 0 and how many bytes are now at the front of the output, or a refusal's number and 0.
 #[repr(C)]
@@ -35,6 +45,13 @@ pub struct VvccUnit {
     pub start: usize,
     pub len: usize,
     pub next: usize,
+}
+
+// The answer of the unit check: 0, and 1 if the unit passes, else 0; or a refusal's number and 0.
+#[repr(C)]
+pub struct VvccCheck {
+    pub refusal: u32,
+    pub passes: u32,
 }
 
 // The full record of a still. Refusals: those of `still_record`.
@@ -138,4 +155,12 @@ pub extern "C" fn vvcc_next_item_unit(item: &[u8], length_size: u8, from: usize)
     ensures { λ r. ⌜ r ≡ unitAnswer (nextItemUnit «length_size» (now (item .entry)) from) ⌝ }
 {
     answers::next(split::next_item_unit(item, length_size, from))
+}
+
+// Whether a unit has only bytes that H.266 allows in one. Refusal: 23.
+#[no_mangle]
+pub extern "C" fn vvcc_check_unit(unit: &[u8]) -> VvccCheck
+    ensures { λ r. ⌜ r ≡ checkAnswer (checked (now (unit .entry))) ⌝ }
+{
+    answers::check(nal::check_unit(unit))
 }

@@ -4,7 +4,7 @@ use crate::answers::{answer, head_of, hevc_head_of, line};
 use crate::case::{hex_onto, Case};
 use crate::longest;
 use crate::reading::{list, list_bytes, list_with_reserved, without_reserved, LARGEST};
-use original::hvcc::{HevcConfig, NalArray};
+use original::hvcc::{self, HevcConfig, NalArray};
 use original::vvcc::{self, CompactVvcConfig, VvcConfig, VvcNalArray};
 use std::io::{BufRead, BufReader, Write};
 use std::process::{Command, Stdio};
@@ -267,6 +267,52 @@ fn of_the_standards() -> Vec<(&'static str, Case, String)> {
         .collect()
 }
 
+/// Units that calls of the original make and the unit check refuses: the call, the unit as the case of `check_unit`, and the unit in words.
+fn refused_units() -> Vec<(&'static str, Case, String)> {
+    let in_stream = |bytes: &'static [u8]| hvcc::split_annex_b(bytes)[0].to_vec();
+    let config = CompactVvcConfig::parse(&[0x40, 0, 0]).expect("the record reads");
+    let plain = CompactVvcConfig::new(false, 1, vec![]);
+    let item = plain.item_data(&[0]).expect("the bytes fit their prefix");
+    let item_unit = hvcc::split_length_prefixed(&item, 1).expect("the item reads")[0].to_vec();
+    let one_zero = hvcc::split_length_prefixed(&[1, 0], 1).expect("the item reads")[0].to_vec();
+    let list = vec![
+        (
+            "`split_annex_b` of 00 00 01 00 00 02",
+            in_stream(&[0, 0, 1, 0, 0, 2]),
+        ),
+        (
+            "`split_annex_b` of 00 00 01 09 00 00 00 05",
+            in_stream(&[0, 0, 1, 9, 0, 0, 0, 5]),
+        ),
+        (
+            "`split_annex_b` of 00 00 01 00 00 03 04",
+            in_stream(&[0, 0, 1, 0, 0, 3, 4]),
+        ),
+        ("`split_length_prefixed` of 01 00", one_zero),
+        (
+            "`CompactVvcConfig::parse` of 40 00 00",
+            config.nal_units[0].clone(),
+        ),
+        ("`item_data` of 00", item_unit),
+    ];
+    list.into_iter()
+        .map(|(what, unit)| {
+            let said = format!("makes the unit {}", hex(&unit));
+            (what, Case::new(9, vec![], unit), said)
+        })
+        .chain([lost_unit()])
+        .collect()
+}
+
+/// A stream of the original in which such a unit is lost; the case counts its units.
+fn lost_unit() -> (&'static str, Case, String) {
+    let head = VvcConfig::parse(&[0xf8, 0]).expect("the record reads");
+    let stream = vvcc::access_unit_annex_b(&head, &[1, 0], None).expect("the item reads");
+    let said = format!("writes {}", hex(&stream));
+    let what = "`access_unit_annex_b` of the record F8 00 and the item 01 00; its units counted";
+    (what, Case::new(25, vec![], stream), said)
+}
+
 /// Prints the tables.
 pub fn print(replay: &str) -> bool {
     std::panic::set_hook(Box::new(|_| {}));
@@ -282,7 +328,9 @@ pub fn print(replay: &str) -> bool {
     let second = table(replay, hevc_entries());
     println!();
     let third = table(replay, of_the_standards());
-    first && second && third
+    println!();
+    let fourth = table(replay, refused_units());
+    first && second && third && fourth
 }
 
 fn table(replay: &str, entries: Vec<(&'static str, Case, String)>) -> bool {

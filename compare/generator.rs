@@ -59,7 +59,7 @@ pub fn size_and_k(size: u8, k: u64) -> Vec<u8> {
 }
 
 /// Runs over every string over an alphabet up to a length.
-fn strings(alphabet: &[u8], longest: usize, f: &mut dyn FnMut(&[u8])) {
+pub fn strings(alphabet: &[u8], longest: usize, f: &mut dyn FnMut(&[u8])) {
     let mut digits: Vec<usize> = Vec::new();
     loop {
         let s: Vec<u8> = digits.iter().map(|&d| alphabet[d]).collect();
@@ -160,15 +160,21 @@ pub fn short_strings(longest: usize, emit: Emit) {
     }
 }
 
+/// The calls for every unit of a stream: each by its number, and one more; the next unit from every place.
+pub fn unit_calls(stream: &[u8]) -> Vec<(u8, Vec<u8>)> {
+    let n = original::hvcc::split_annex_b(stream).len() as u64;
+    let units = (0..=n).flat_map(|k| [26, 43].map(|op| (op, size_and_k(0, k))));
+    let places = if n > 0 { stream.len() as u64 } else { 1 };
+    let next = (0..places).map(|p| (27, size_and_k(0, p)));
+    units.chain(next).collect()
+}
+
 /// Every string over 00, 01, 02 and 03 up to `longest` bytes, for RBSP, streams and the unit check.
 pub fn zero_strings(longest: usize, emit: Emit) {
     let mut i = 0;
     strings(&[0, 1, 2, 3], longest, &mut |s| {
-        let n = original::hvcc::split_annex_b(s).len() as u64;
         let mut calls = vec![(18, vec![]), (25, vec![]), (9, vec![])];
-        calls.extend((0..=n).flat_map(|k| [26, 43].map(|op| (op, size_and_k(0, k)))));
-        let places = if n > 0 { s.len() as u64 } else { 1 };
-        calls.extend((0..places).map(|p| (27, size_and_k(0, p))));
+        calls.extend(unit_calls(s));
         for (op, numbers) in calls {
             i += 1;
             emit(with_room_by(i, Case::new(op, numbers, s.to_vec())));

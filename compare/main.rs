@@ -20,6 +20,7 @@ mod rng;
 mod shapes;
 mod start_codes;
 mod strict;
+mod unit_check;
 mod version_cases;
 mod versions;
 
@@ -40,7 +41,7 @@ type Expected = (String, String, u8, u32, HeldTo);
 
 /// What an answer is held to besides the expected one: for strict reading what the original's writer gives for the record, for an HEVC record that is
 /// written again the bytes that must come, for short start codes the original's stream, for a directory the original's units, for a list that is
-/// written in a version the original's arrays.
+/// written in a version the original's arrays, for the unit check the unit.
 enum HeldTo {
     Nothing,
     Writer(strict::Asked),
@@ -48,6 +49,7 @@ enum HeldTo {
     Stream(start_codes::Asked),
     Units(directory::Asked),
     Arrays(versions::Asked),
+    Unit(Vec<u8>),
 }
 
 /// The answers that are held to more than the expected ones.
@@ -58,6 +60,7 @@ struct AllHeld {
     streams: start_codes::Held,
     directories: directory::Held,
     lists: versions::Held,
+    checks: unit_check::Held,
 }
 
 impl AllHeld {
@@ -85,6 +88,10 @@ impl AllHeld {
                 let agrees = self.lists.agrees(got, &asked);
                 (agrees, self.lists.disagree, "the original's arrays")
             }
+            HeldTo::Unit(unit) => {
+                let agrees = self.checks.agrees(got, &unit);
+                (agrees, self.checks.disagree, "the original's RBSP or split")
+            }
         };
         (!agrees && so_far <= 10).then_some(with)
     }
@@ -96,8 +103,10 @@ impl AllHeld {
         self.streams.print();
         self.directories.print();
         self.lists.print();
+        self.checks.print();
         let records = self.strict.disagree + self.hevc.disagree;
-        records + self.streams.disagree + self.directories.disagree + self.lists.disagree
+        let lists = self.directories.disagree + self.lists.disagree;
+        records + lists + self.streams.disagree + self.checks.disagree
     }
 }
 
@@ -115,6 +124,7 @@ fn fixed_cases(emit: generator::Emit) {
     generator::numbers(emit);
     limits::limits(emit);
     start_codes::fixed(emit);
+    unit_check::fixed(emit);
     codes::codes(emit);
     strict::short(emit);
     strict::fixed(emit);
@@ -127,8 +137,8 @@ fn fixed_cases(emit: generator::Emit) {
     generator::large(emit);
 }
 
-/// Every case of a run: the fixed lists first, then as many of any shape as are asked for. An HEVC record that reads is written again; a stream is
-/// assembled with both choices of start codes.
+/// Every case of a run: the fixed lists first, then as many of any shape as are asked for, and as many units. An HEVC record that reads is written
+/// again; a stream is assembled with both choices of start codes.
 fn all_cases(seed: u64, count: usize, emit: generator::Emit) {
     let emit: generator::Emit = &mut |c| {
         let further = hevc::written_again(&c).or_else(|| start_codes::shortened(&c));
@@ -138,6 +148,7 @@ fn all_cases(seed: u64, count: usize, emit: generator::Emit) {
     fixed_cases(emit);
     generator::short_strings(2, emit);
     generator::zero_strings(8, emit);
+    unit_check::short(emit);
     let mut r = rng::Rng(seed);
     generator::fronts(&mut r, count / 5000, emit);
     strict::reserved_bits(&mut r, count / 50, emit);
@@ -145,6 +156,7 @@ fn all_cases(seed: u64, count: usize, emit: generator::Emit) {
     for _ in 0..count {
         emit(generator::any(&mut r));
     }
+    unit_check::units(&mut r, count, emit);
 }
 
 /// What the answer to a case is held to besides.
@@ -158,6 +170,7 @@ fn held_to(c: &Case) -> HeldTo {
         (versions::NARROW | versions::WIDEN, _) => {
             versions::asked(c).map_or(HeldTo::Nothing, HeldTo::Arrays)
         }
+        (unit_check::CALL, _) => HeldTo::Unit(c.first.clone()),
         (_, Some(bytes)) => HeldTo::Record(bytes.clone()),
         _ => HeldTo::Nothing,
     }

@@ -176,9 +176,16 @@ pub fn widen(s: &[u8]) -> Result<Vec<u8>, Refusal> {
     Ok(list_with_reserved(&list(s)?))
 }
 
-/// The unit check: not empty, no 00 00 01, no 00 at the end.
-pub fn check_unit(u: &[u8]) -> bool {
+/// Whether a unit is split off a stream as it is: not empty, no 00 00 01, no 00 at the end.
+pub fn splittable(u: &[u8]) -> bool {
     !u.is_empty() && !u.windows(3).any(|w| w == [0, 0, 1]) && u[u.len() - 1] != 0
+}
+
+/// The unit check: splittable, no 00 00 00 and no 00 00 02, and no 00 00 03 before a byte above 03.
+pub fn check_unit(u: &[u8]) -> bool {
+    let forbidden = |w: &[u8]| w == [0, 0, 0] || w == [0, 0, 2];
+    let before_more = |w: &[u8]| w[..3] == [0, 0, 3] && w[3] > 3;
+    splittable(u) && !u.windows(3).any(forbidden) && !u.windows(4).any(before_more)
 }
 
 /// The kinds of units, numbered as `replay` does: picture data and record kinds with their type, AUD, others.

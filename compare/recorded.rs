@@ -14,6 +14,7 @@ use crate::rng::Rng;
 use crate::shapes;
 use crate::start_codes;
 use crate::strict;
+use crate::unit_check;
 use crate::version_cases;
 use crate::versions;
 use original::vvcc::VvcNalArray;
@@ -138,6 +139,7 @@ pub fn write(folder: &str, seed: u64) -> bool {
     generator::worked(&mut |c| list.take(&c, &answers::answer(&c)));
     limits::limits(&mut |c| list.take_both(c));
     start_codes::fixed(&mut |c| list.take_both(c));
+    unit_check::fixed(&mut |c| list.take(&c, &answers::answer(&c)));
     strict::short(&mut |c| list.take(&c, &answers::answer(&c)));
     hevc::short(&mut |c| list.take(&c, &answers::answer(&c)));
     directory_cases::fixed(&mut |c| list.take(&c, &answers::answer(&c)));

@@ -1,5 +1,5 @@
 //! Start codes of an assembled stream: the cases of both choices, and what the short one is held to. What `replay` writes with short start codes is
-//! the original's stream once each of them is put back to four bytes, and the original splits it into the units if they pass the unit check.
+//! the original's stream once each of them is put back to four bytes, and the original splits it into the units if they are splittable.
 
 use crate::answers;
 use crate::case::Case;
@@ -107,9 +107,9 @@ impl Held {
         back == asked.stream
     }
 
-    /// Only units that pass the unit check are recovered from a stream.
+    /// Only splittable units are recovered from a stream.
     fn is_split(&mut self, stream: &[u8], asked: &Asked) -> bool {
-        if !asked.units.iter().all(|u| reading::check_unit(u)) {
+        if !asked.units.iter().all(|u| reading::splittable(u)) {
             return true;
         }
         self.split += 1;

@@ -1,13 +1,15 @@
 //! A directory measured together with walks over the list and with the original: the first SPS of a record of 33 units, asked for 36 times. In every
 //! round the sides take turns, and the medians of their times are printed.
 mod records;
+mod table;
 mod timing;
 mod walks;
 
 use original::vvcc::VvcConfig;
 use std::hint::black_box;
+use table::Table;
 use walks::{full_of, list_of, long_record, original, part, walk};
-use walks::{Table, UnitNumbers, SPS, UNITS, WIDE};
+use walks::{UnitNumbers, PASSES, SPS, UNITS, WIDE};
 
 #[repr(C)]
 #[derive(Clone, Copy)]
@@ -89,12 +91,13 @@ fn config_of(sps_last: bool) -> VvcConfig {
     full_of(&c)
 }
 
-/// One row: the directory's time, the other sides' times, and the directory's in parts of each.
+/// One row: the directory's time, the other sides' times, and the directory's in parts of each. A side's pass does what is measured `count` times.
 fn row(t: &Table, name: &str, count: usize, sides: &mut [&mut dyn FnMut()]) {
     if !t.wants(name) {
         return;
     }
-    let ns = t.medians(count, sides);
+    let mut ns = t.medians(PASSES, sides);
+    ns.iter_mut().for_each(|t| *t /= count as f64);
     let others = &ns[1..];
     let mut columns: Vec<String> = ns.iter().map(|t| format!("{t:.1}")).collect();
     columns.resize(3, "-".into());

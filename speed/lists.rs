@@ -1,14 +1,16 @@
 //! Narrow unit lists beside wide ones: how many bytes the lists of a still's records have in both versions, and how long a walk over each takes. In
 //! every round the sides take turns, and the medians of their times are printed.
 mod records;
+mod table;
 mod timing;
 mod walks;
 
 use original::vvcc::{CompactVvcConfig, VvcNalArray};
 use records::COMPACT;
 use std::hint::black_box;
+use table::Table;
 use walks::{full_of, list_of, long_record, original, part, walk};
-use walks::{Table, Version, UNITS, WIDE};
+use walks::{Version, PASSES, UNITS, WIDE};
 
 const NARROW: Version = Version { byte: 2, width: 2 };
 
@@ -87,7 +89,7 @@ fn walk_row(t: &Table, c: &CompactVvcConfig) {
         }
     });
     let [a, b] = &mut walks;
-    let ns = t.medians(1, &mut [a, b]);
+    let ns = t.medians(PASSES, &mut [a, b]);
     println!(
         "| {name} | {:.1} | {:.1} | {:.2} |",
         ns[0],

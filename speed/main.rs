@@ -1,6 +1,7 @@
 //! The library measured together with the original: every row runs both on the same bytes, in turn, and prints the medians of their times. Two
 //! more tables have short start codes beside those of four bytes: their times, and the bytes that they save.
 mod records;
+mod streams;
 mod timing;
 
 use original::hvcc::{split_annex_b, split_length_prefixed};
@@ -8,6 +9,7 @@ use original::vvcc::{access_unit_annex_b, nal_unit_type, CompactVvcConfig, VvcCo
 use records::{compact_of, Bytes, COMPACT};
 use std::cell::RefCell;
 use std::hint::black_box;
+use streams::{original_stream, stream_units, units_of, Unit};
 use timing::{clock, median};
 
 #[repr(C)]
@@ -22,16 +24,6 @@ struct Written {
 struct Read {
     refusal: u32,
     consumed: usize,
-}
-
-#[repr(C)]
-#[derive(Clone, Copy)]
-struct Unit {
-    refusal: u32,
-    found: u32,
-    start: usize,
-    len: usize,
-    next: usize,
 }
 
 extern "C" {
@@ -65,7 +57,6 @@ extern "C" {
         scratch: *mut u8,
         scratch_len: usize,
     ) -> Read;
-    fn vvcc_next_unit(stream: *const u8, len: usize, from: usize) -> Unit;
     fn vvcc_next_item_unit(item: *const u8, len: usize, length_size: u8, from: usize) -> Unit;
 }
 
@@ -133,27 +124,6 @@ fn strict_record(record: &[u8], scratch: &mut [u8]) -> usize {
     r.consumed
 }
 
-/// The units of a stream or an item in a `Vec`, as the original returns them; `next` is one step.
-fn units_of<'a>(s: &'a [u8], next: impl Fn(usize) -> Unit) -> Vec<&'a [u8]> {
-    let mut units = Vec::new();
-    let mut at = 0;
-    loop {
-        let u = next(at);
-        assert_eq!(u.refusal, 0);
-        if u.found == 0 {
-            return units;
-        }
-        units.push(&s[u.start..u.start + u.len]);
-        at = u.next;
-    }
-}
-
-fn stream_units(stream: &[u8]) -> Vec<&[u8]> {
-    units_of(stream, |at| unsafe {
-        vvcc_next_unit(stream.as_ptr(), stream.len(), at)
-    })
-}
-
 fn item_units(item: &[u8], size: u8) -> Vec<&[u8]> {
     units_of(item, |at| unsafe {
         vvcc_next_item_unit(item.as_ptr(), item.len(), size, at)
@@ -163,13 +133,6 @@ fn item_units(item: &[u8], size: u8) -> Vec<&[u8]> {
 /// The original's way from a record and an item to the stream.
 fn original_assembly(record: &[u8], item: &[u8]) -> Vec<u8> {
     access_unit_annex_b(&VvcConfig::parse(record).unwrap(), item, None).unwrap()
-}
-
-/// The original's shortest way from a still to its stream.
-fn original_stream(compact: &[u8], stored: &[u8]) -> Vec<u8> {
-    let c = CompactVvcConfig::parse(compact).unwrap();
-    let full = c.to_full(1, 8, 0, 0).unwrap();
-    access_unit_annex_b(&full, &c.item_data(stored).unwrap(), None).unwrap()
 }
 
 /// An item of units after prefixes of `size` bytes.

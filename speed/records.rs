@@ -1,18 +1,23 @@
-//! What two measuring programs share: units, and the compact record of a still.
+//! What the measuring programs share: units, and the compact record of a still.
 
-/// Numbers that look like picture data: no start code, no zero at a unit's end, and the same in every run.
+/// Numbers, the same in every run. A unit of them looks like picture data: no start code, and no zero at its end.
 pub struct Bytes(pub u64);
 
 impl Bytes {
+    /// The next number, any byte.
+    pub fn byte(&mut self) -> u8 {
+        self.0 = self
+            .0
+            .wrapping_mul(6364136223846793005)
+            .wrapping_add(1442695040888963407);
+        (self.0 >> 56) as u8
+    }
+
     pub fn unit(&mut self, header: [u8; 2], len: usize) -> Vec<u8> {
         let mut u = Vec::with_capacity(len);
         u.extend_from_slice(&header);
         while u.len() < len {
-            self.0 = self
-                .0
-                .wrapping_mul(6364136223846793005)
-                .wrapping_add(1442695040888963407);
-            let b = (self.0 >> 56) as u8;
+            let b = self.byte();
             let n = u.len();
             let zeros = u[n - 1] == 0 && u[n - 2] == 0;
             u.push(if (zeros && b < 4) || (n + 1 == len && b == 0) {

@@ -1,6 +1,5 @@
-//! What the measuring programs of unit lists share: a record and its list, the walk over a list, and sides that take turns.
+//! What the measuring programs of unit lists share: a record and its list, and the walk over a list.
 use crate::records::compact_of;
-use crate::timing::{clock, median};
 use original::vvcc::{CompactVvcConfig, VvcConfig, VvcNalArray};
 
 #[repr(C)]
@@ -23,7 +22,7 @@ pub const SPS: u8 = 15;
 pub const UNITS: usize = 33;
 
 /// How many passes are made between two readings of the clock.
-const PASSES: usize = 500;
+pub const PASSES: usize = 500;
 
 /// The first SPS, by a walk over the list.
 pub fn walk(list: &[u8]) -> UnitNumbers {
@@ -74,41 +73,4 @@ pub fn list_of(arrays: &[VvcNalArray], version: Version) -> Vec<u8> {
         list.extend(rest);
     }
     list
-}
-
-/// The table's rows, as they are measured.
-pub struct Table {
-    rounds: usize,
-    word: String,
-}
-
-impl Table {
-    /// The table that the program's arguments ask for.
-    pub fn asked() -> Table {
-        let args: Vec<String> = std::env::args().collect();
-        let rounds = args
-            .get(1)
-            .map_or(201, |n| n.parse().expect("ROUNDS is a number"));
-        Table {
-            rounds,
-            word: args.get(2).cloned().unwrap_or_default(),
-        }
-    }
-
-    pub fn wants(&self, name: &str) -> bool {
-        name.contains(&self.word)
-    }
-
-    /// The medians of all sides, one after another in every round; they take turns in being first. A side's pass does what is measured `count`
-    /// times.
-    pub fn medians(&self, count: usize, sides: &mut [&mut dyn FnMut()]) -> Vec<f64> {
-        let mut times = vec![vec![]; sides.len()];
-        for round in 0..self.rounds {
-            for k in 0..sides.len() {
-                let i = (round + k) % sides.len();
-                times[i].push(clock(PASSES, &mut *sides[i]) / count as f64);
-            }
-        }
-        times.into_iter().map(median).collect()
-    }
 }

@@ -1,4 +1,6 @@
 // Assemble: the access unit of a still as an Annex B stream (SCOPE 3.12).
+#![tactic(auto)]
+
 pub mod stream;
 
 ghost use Rattle.std.specs.Prelude.{◌≡◌};

@@ -18,7 +18,7 @@ use split::{NextUnit, walk as items};
 use unit_list::{ListCursor, ListStart, ListStep, walk};
 
 // The places after the units that were stored: in the item and in the output.
-#[derive(Drop)]
+#[derive(Clone, Copy)]
 pub struct Places {
     pub item: usize,
     pub out: usize,

@@ -1,4 +1,6 @@
 // Unit k of the access unit of a still: its place, and the part of the list or item where it lies (SCOPE 3.12).
+#![tactic(auto)]
+
 pub mod source;
 
 ghost use Rattle.std.specs.Prelude.{◌≡◌};

@@ -15,7 +15,7 @@ use boxes::{Span, UnitPlace, place};
 use split::{NextUnit, walk};
 
 // A unit by its number: a kept unit of the item, a unit of the list, or past the last.
-#[derive(Drop)]
+#[derive(Clone, Copy)]
 pub enum UnitNumber {
     Kept(usize),
     Listed(usize),

@@ -1,4 +1,6 @@
 // How many units the access unit of a still has, and how long its stream is (SCOPE 3.12).
+#![tactic(auto)]
+
 pub mod lengths;
 pub mod sizes;
 

@@ -22,7 +22,7 @@ use unit_list::{ListCursor, ListStart, ListStep, walk};
 
 // A sum over units: how many, how many of them lead, and the sum of their lengths. For short codes also how many bytes these save where none of the
 // units is the first of the stream, and the zero byte of the first unit, which is not saved where it is.
-#[derive(Drop)]
+#[derive(Clone, Copy)]
 pub struct UnitSum {
     pub count: usize,
     pub lead: usize,
@@ -32,7 +32,7 @@ pub struct UnitSum {
 }
 
 // The sum over all units of an item or of a list, or the refusal.
-#[derive(Drop)]
+#[derive(Clone, Copy)]
 pub enum Summed {
     Sum(UnitSum),
     Refused(Refusal),
@@ -40,7 +40,7 @@ pub enum Summed {
 
 // The sizes of an access unit: units of the list, kept units of the item, how many of these lead, the zero byte of the first unit's start code (0 if
 // its type has four bytes anyway, else 1), and the length of the stream.
-#[derive(Drop)]
+#[derive(Clone, Copy)]
 pub struct Sizes {
     pub listed: usize,
     pub kept: usize,
@@ -50,7 +50,7 @@ pub struct Sizes {
 }
 
 // The sizes of an access unit, or the refusal.
-#[derive(Drop)]
+#[derive(Clone, Copy)]
 pub enum SizesAnswer {
     Sized(Sizes),
     Refused(Refusal),

@@ -1,4 +1,6 @@
 // Splits streams into their units (SCOPE 3.13).
+#![tactic(auto)]
+
 pub mod walk;
 
 ghost use Rattle.std.specs.Prelude.{◌≡◌, []};

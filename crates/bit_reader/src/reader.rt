@@ -7,14 +7,14 @@ ghost use Rattle.bit_reader.specs.inner.Reader.{skipping, reader_place_after, St
 use super::{BitPosition, BitsRead, FIRST_BIT, bits};
 
 // An RBSP, and the position in it of the next bit.
-#[derive(Drop)]
+#[derive(Clone, Copy)]
 pub struct BitReader<'a> {
     pub src: &'a [u8],
     pub pos: BitPosition,
 }
 
 // The answer of a read, and the reader at its next position.
-#[derive(Drop)]
+#[derive(Clone, Copy)]
 pub struct ReaderStep<'a> {
     pub answer: BitsRead,
     pub reader: BitReader<'a>,

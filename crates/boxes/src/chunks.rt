@@ -8,7 +8,7 @@ ghost use Rattle.boxes.specs.inner.Chunks.{chunk_stepped};
 use super::{Span, place};
 
 // A length and that many bytes: where the bytes lie, or that they are not all there.
-#[derive(Drop)]
+#[derive(Clone, Copy)]
 pub enum ChunkRead {
     Bytes(Span),
     Short,

@@ -1,4 +1,6 @@
 // Big-endian fields at a place of lent bytes (the original's `Reader`); spans and places of units in lent memory.
+#![tactic(auto)]
+
 pub mod chunks;
 pub mod place;
 pub mod reader;
@@ -9,7 +11,7 @@ ghost use Rattle.boxes.specs.Answers.{field_of, field_at};
 use error::Refusal;
 
 // Where bytes lie in a slice: `len` bytes from place `start` on.
-#[derive(Drop)]
+#[derive(Clone, Copy)]
 pub struct Span {
     pub start: usize,
     pub len: usize,
@@ -17,7 +19,7 @@ pub struct Span {
 
 // Where unit k of a list, an item, a stream or an access unit lies: at a span of the first or of the second slice that the call was lent;
 // that k is past the last unit; or a refusal.
-#[derive(Drop)]
+#[derive(Clone, Copy)]
 pub enum UnitPlace {
     First(Span),
     Second(Span),
@@ -26,7 +28,7 @@ pub enum UnitPlace {
 }
 
 // A field's number and the place after it, or a refusal.
-#[derive(Drop)]
+#[derive(Clone, Copy)]
 pub enum Field {
     Value(u32, usize),
     Refused(Refusal),

@@ -126,8 +126,9 @@ fn copy_block(src: &[u8], out: &mut [u8], at: usize)
     ensures { out.new ≡ sets out.old at src.now }
 {
     let mut block = [0u8; BLOCK];
-    let n = bytes::copy(src, &mut block);
-    bytes::copy(&block[0..n], &mut out[at..]);
+    let n = src.len();
+    block[0..n].copy_from_slice(src);
+    out[at..at + n].copy_from_slice(&block[0..n]);
 }
 
 // Copies all of a slice to a place of lent memory.

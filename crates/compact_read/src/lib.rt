@@ -1,4 +1,6 @@
 // Compact read: a compact record read into its configuration and a unit list (SCOPE 3.2).
+#![tactic(auto)]
+
 pub mod record_units;
 
 ghost use Rattle.std.specs.Prelude.{◌≡◌};

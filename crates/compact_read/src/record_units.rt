@@ -18,7 +18,7 @@ use unit_list::{LIST_WIDTH, write};
 pub const UNITS_AT: usize = 7;
 
 // The unit count of a record and the bytes that its units take in a list; or the refusal.
-#[derive(Drop)]
+#[derive(Clone, Copy)]
 pub enum RecordRoom {
     Room(usize, usize),
     Refused(Refusal),

@@ -1,4 +1,6 @@
 // Compact write: a compact record from a configuration and a unit list (SCOPE 4.2).
+#![tactic(auto)]
+
 pub mod list_units;
 
 ghost use Rattle.std.specs.Prelude.{◌≡◌};

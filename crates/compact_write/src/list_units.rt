@@ -16,7 +16,7 @@ use error::{Counted, Refusal, Written};
 use unit_list::{ListCursor, ListStep, walk};
 
 // The units so far: their count, the bytes that they take after lengths of one byte, and whether each length fits one byte.
-#[derive(Drop)]
+#[derive(Clone, Copy)]
 pub struct RecordSum {
     pub count: usize,
     pub room: usize,
@@ -24,7 +24,7 @@ pub struct RecordSum {
 }
 
 // The sum over all units of a list, or that the list is malformed.
-#[derive(Drop)]
+#[derive(Clone, Copy)]
 pub enum ListSum {
     Sum(RecordSum),
     Malformed,

@@ -1,4 +1,6 @@
 // The size of a picture inside the conformance window of its SPS (SCOPE 4.4).
+#![tactic(auto)]
+
 pub mod cropped;
 
 ghost use Rattle.std.specs.Prelude.{◌≡◌};
@@ -7,7 +9,7 @@ ghost use Rattle.cropped_size.specs.Cropped.{cropped_size};
 use sps::SpsHead;
 
 // A picture's size in luma samples.
-#[derive(Drop)]
+#[derive(Clone, Copy)]
 pub struct PictureSize {
     pub width: u32,
     pub height: u32,

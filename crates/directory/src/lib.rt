@@ -1,5 +1,7 @@
 // A directory of the units of a list (SCOPE 4.12): one entry for each unit, and the number of units of each type. It is filled once
 // (`directory_fill`), in memory that the caller lends, and answers what a walk over the list would find (`directory_ask`).
+#![tactic(auto)]
+
 pub mod entries;
 
 // How many types there are, 0 to 63: the totals have one count for each.
@@ -8,7 +10,7 @@ pub const TYPES: usize = 64;
 // One unit of a list: the type of its array, where its first byte lies in the list, its length. The layout is C's, so that a caller in C or
 // Rust can lend a directory.
 #[repr(C)]
-#[derive(Drop)]
+#[derive(Clone, Copy)]
 pub struct Entry {
     pub unit_type: u8,
     pub offset: usize,
@@ -16,7 +18,7 @@ pub struct Entry {
 }
 
 // Which unit is asked for: the first of a type, or number k, counted from 0.
-#[derive(Drop)]
+#[derive(Clone, Copy)]
 pub enum Asked {
     FirstOfType(u8),
     Number(usize),

@@ -1,4 +1,6 @@
 // Asks a directory of the units of a list (SCOPE 4.12) for what a walk over the list would find; `directory_fill` fills it.
+#![tactic(auto)]
+
 pub mod question;
 pub mod slots;
 

@@ -13,7 +13,7 @@ use directory::{Asked, Entry, TYPES};
 use error::{Counted, LARGEST_INPUT, Refusal};
 
 // A search among the entries in use: those from `at` up to `end` are left to be looked at; whether an entry was found, and that entry.
-#[derive(Drop)]
+#[derive(Clone, Copy)]
 pub struct Search {
     pub at: usize,
     pub end: usize,

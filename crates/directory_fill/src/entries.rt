@@ -12,7 +12,7 @@ use error::{Counted, Refusal};
 use unit_list::{ListCursor, ListStart, ListStep, walk};
 
 // A unit's entry, and the cursor after the unit.
-#[derive(Drop)]
+#[derive(Clone, Copy)]
 pub struct EntryStep {
     pub entry: Entry,
     pub next: ListCursor,

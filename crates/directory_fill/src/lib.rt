@@ -1,4 +1,6 @@
 // Fills a directory of the units of a list (SCOPE 4.12), in memory that the caller lends; `directory_ask` asks it.
+#![tactic(auto)]
+
 pub mod entries;
 pub mod slots;
 

@@ -1,4 +1,6 @@
 // Refusals: the grounds on which a call is refused, with their numbers (SCOPE 6.2); the answers of calls that count and of calls that write.
+#![tactic(auto)]
+
 ghost use Rattle.std.specs.Prelude.{◌≡◌};
 ghost use Rattle.error.specs.Refusals.{number_of};
 
@@ -6,7 +8,7 @@ ghost use Rattle.error.specs.Refusals.{number_of};
 pub const LARGEST_INPUT: usize = 0x4000_0000;
 
 // One variant for each ground, with its number in SCOPE 6.2.
-#[derive(Drop)]
+#[derive(Clone, Copy)]
 pub enum Refusal {
     // a field, a length or the bytes that it announces run past the end, or more entries are in use than a directory has (SCOPE 4.12)
     Truncated = 1,
@@ -76,14 +78,14 @@ pub fn number(r: Refusal) -> u32
 }
 
 // The answer of a call that counts: the count, or the refusal.
-#[derive(Drop)]
+#[derive(Clone, Copy)]
 pub enum Counted {
     Count(usize),
     Refused(Refusal),
 }
 
 // The answer of a call that writes: how many bytes are now at the front of the output, or the refusal.
-#[derive(Drop)]
+#[derive(Clone, Copy)]
 pub enum Written {
     Bytes(usize),
     Refused(Refusal),

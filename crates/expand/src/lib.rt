@@ -1,4 +1,6 @@
 // Expand: the head and unit list of the full record that a compact record expands to (SCOPE 3.8).
+#![tactic(auto)]
+
 pub mod head;
 pub mod parameter_sets;
 
@@ -19,7 +21,7 @@ use params::ParamsAnswer;
 use unit_list::{ListCursor, ListStart};
 
 // What the caller knows of the picture.
-#[derive(Drop)]
+#[derive(Clone, Copy)]
 pub struct Picture {
     pub chroma_format_idc: u8,
     pub bit_depth: u8,
@@ -28,14 +30,14 @@ pub struct Picture {
 }
 
 // The length of the unit list in the output, or the refusal.
-#[derive(Drop)]
+#[derive(Clone, Copy)]
 pub enum ExpandAnswer {
     List(usize),
     Refused(Refusal),
 }
 
 // The answer with the head, all zeros on a refusal.
-#[derive(Drop)]
+#[derive(Clone, Copy)]
 pub struct Expanded {
     pub answer: ExpandAnswer,
     pub head: VvcConfig,

@@ -1,4 +1,6 @@
 // The full record: its head, and the definitions of its bytes (SCOPE 3.9, 3.10 and 4.3).
+#![tactic(auto)]
+
 ghost use Rattle.std.specs.Prelude.{◌≡◌, []};
 ghost use Rattle.boxes.specs.Parts.{PartOf};
 ghost use Rattle.boxes.specs.Places.{place_of, PlaceFits};
@@ -11,7 +13,7 @@ use ptl::{VvcPtlRecord, zeros};
 
 // The head of a full record: VvcDecoderConfigurationRecord (ISO/IEC 14496-15:2024 11.2.4) without its arrays, which are in a unit list.
 // Without the PTL flag the fields under it are 0.
-#[derive(Drop)]
+#[derive(Clone, Copy)]
 pub struct VvcConfig {
     pub length_size: u8,
     pub ptl_present_flag: bool,
@@ -27,7 +29,7 @@ pub struct VvcConfig {
 }
 
 // A bit depth, or a refusal.
-#[derive(Drop)]
+#[derive(Clone, Copy)]
 pub enum BitDepth {
     Bits(u8),
     Refused(Refusal),

@@ -15,7 +15,7 @@ use ptl_record::PtlRecordAnswer;
 use record_arrays_read::HeadAnswer;
 
 // The answer with the head, which is all zeros on a refusal.
-#[derive(Drop)]
+#[derive(Clone, Copy)]
 pub struct HeadRead {
     pub answer: HeadAnswer,
     pub head: VvcConfig,

@@ -1,4 +1,6 @@
 // Full read: a full record read into a head and a unit list (SCOPE 3.10), and the same strictly (SCOPE 4.10).
+#![tactic(auto)]
+
 pub mod head;
 
 ghost use Rattle.std.specs.Prelude.{◌≡◌};
@@ -17,14 +19,14 @@ use record_arrays_read::{HeadAnswer, ListRead};
 use record_rules::RulesTest;
 
 // A full record that was read: how many bytes were consumed, and the length of the list in the output.
-#[derive(Drop)]
+#[derive(Clone, Copy)]
 pub enum FullAnswer {
     Read(usize, usize),
     Refused(Refusal),
 }
 
 // The answer with the head, all zeros on a refusal.
-#[derive(Drop)]
+#[derive(Clone, Copy)]
 pub struct FullRead {
     pub answer: FullAnswer,
     pub head: VvcConfig,

@@ -1,4 +1,6 @@
 // Full write: a full record from a head and a unit list, and its length without writing it (SCOPE 3.9).
+#![tactic(auto)]
+
 pub mod head;
 
 ghost use Rattle.std.specs.Prelude.{◌≡◌};

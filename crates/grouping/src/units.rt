@@ -16,14 +16,14 @@ use nal::header;
 use unit_list::{ListCursor, ListStart, ListStep, walk};
 
 // A step of a walk over units that read: where the unit lies, its type, and the cursor after it; or the end.
-#[derive(Drop)]
+#[derive(Clone, Copy)]
 pub enum UnitStep {
     Unit(Span, u8, ListCursor),
     End,
 }
 
 // Where the first unit of a type lies, or that there is none.
-#[derive(Drop)]
+#[derive(Clone, Copy)]
 pub enum FirstUnit {
     At(Span),
     Missing,

@@ -1,8 +1,10 @@
 // The HEVC record: its head, and the definitions of its bytes (SCOPE 4.11). Reading is in `hvcc_read`, writing in `hvcc_write`.
 
+#![tactic(auto)]
+
 // The head of an HEVC record: HEVCDecoderConfigurationRecord (ISO/IEC 14496-15 8.3.3.1) without its version, which is 1, and without its
 // arrays, which are in a unit list.
-#[derive(Drop)]
+#[derive(Clone, Copy)]
 pub struct HevcConfig {
     pub general_profile_space: u8,
     pub general_tier_flag: bool,

@@ -14,7 +14,7 @@ use hvcc::{HEAD_LEN, HevcConfig, LOW_FLAGS_END};
 use record_arrays_read::HeadAnswer;
 
 // The answer with the head, which is all zeros on a refusal.
-#[derive(Drop)]
+#[derive(Clone, Copy)]
 pub struct HeadRead {
     pub answer: HeadAnswer,
     pub head: HevcConfig,

@@ -1,4 +1,6 @@
 // HEVC read: an HEVC record read into a head and a unit list (SCOPE 4.11).
+#![tactic(auto)]
+
 pub mod head;
 
 ghost use Rattle.std.specs.Prelude.{◌≡◌};
@@ -14,14 +16,14 @@ use record_arrays::Codec;
 use record_arrays_read::{HeadAnswer, ListRead};
 
 // An HEVC record that was read: how many bytes were consumed, and the length of the list in the output.
-#[derive(Drop)]
+#[derive(Clone, Copy)]
 pub enum HevcAnswer {
     Read(usize, usize),
     Refused(Refusal),
 }
 
 // The answer with the head, all zeros on a refusal.
-#[derive(Drop)]
+#[derive(Clone, Copy)]
 pub struct HevcRead {
     pub answer: HevcAnswer,
     pub head: HevcConfig,

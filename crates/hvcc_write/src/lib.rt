@@ -1,4 +1,6 @@
 // HEVC write: an HEVC record from a head and a unit list (SCOPE 4.11).
+#![tactic(auto)]
+
 pub mod head;
 
 ghost use Rattle.std.specs.Prelude.{◌≡◌};

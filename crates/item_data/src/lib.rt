@@ -1,4 +1,6 @@
 // Item data restored from the stored bytes of a still and stripped to them again (SCOPE 3.11 and 4.1).
+#![tactic(auto)]
+
 pub mod copied;
 pub mod still;
 

@@ -13,7 +13,7 @@ use nal::{NAL_IDR_N_LP, header};
 use split::{NextUnit, walk};
 
 // Where the payload of the one unit lies, or that the item is not one such unit.
-#[derive(Drop)]
+#[derive(Clone, Copy)]
 pub enum Still {
     Payload(Span),
     Other,

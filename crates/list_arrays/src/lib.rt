@@ -1,12 +1,14 @@
 // Internal to the calls that write arrays: the arrays of a unit list, measured and stored as those of a full record (SCOPE 3.9 and 4.11) or as those
 // of a unit list of either version (SCOPE 2).
+#![tactic(auto)]
+
 pub mod measure;
 pub mod put;
 
 use record_arrays::Codec;
 
 // How arrays are written: as those of a full record, or as those of a unit list whose lengths have so many bytes.
-#[derive(Drop)]
+#[derive(Clone, Copy)]
 pub enum Layout {
     Record(Codec),
     List(usize),

@@ -10,7 +10,7 @@ use record_arrays::{Codec, array};
 use unit_list::{ArrayStep, ListCursor, ListStep, walk};
 
 // Units or arrays as they are written: how many, the bytes that they take, and whether every value fits its field.
-#[derive(Drop)]
+#[derive(Clone, Copy)]
 pub struct Measure {
     pub count: usize,
     pub len: usize,
@@ -18,14 +18,14 @@ pub struct Measure {
 }
 
 // The measure of units or arrays of a list, or that the list is malformed.
-#[derive(Drop)]
+#[derive(Clone, Copy)]
 pub enum Measured {
     Is(Measure),
     Malformed,
 }
 
 // One array and the cursor whose end is after it; the end; or that the list is malformed.
-#[derive(Drop)]
+#[derive(Clone, Copy)]
 pub enum ArrayMeasured {
     Array(Measure, ListCursor),
     End,

@@ -10,7 +10,7 @@ use error::{Counted, Refusal};
 use unit_list::{ListCursor, ListStart, ListStep, walk};
 
 // The wanted units passed so far: how many, and the span of number k.
-#[derive(Drop)]
+#[derive(Clone, Copy)]
 pub struct Seen {
     pub count: usize,
     pub unit: Span,

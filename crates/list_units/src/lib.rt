@@ -1,4 +1,6 @@
 // Counts and finds the units of a unit list (SCOPE 4.5): all of them, or those of a type.
+#![tactic(auto)]
+
 pub mod find;
 
 ghost use Rattle.std.specs.Prelude.{◌≡◌, []};
@@ -12,14 +14,14 @@ use boxes::{Span, UnitPlace, place};
 use error::Counted;
 
 // Which units of a list a call is about.
-#[derive(Drop)]
+#[derive(Clone, Copy)]
 pub enum Wanted {
     Every,
     OfType(u8),
 }
 
 // What a walk over the wanted units finds: how many there are, and where number k lies (the empty part past the last and on a refusal).
-#[derive(Drop)]
+#[derive(Clone, Copy)]
 pub struct Found {
     pub counted: Counted,
     pub unit: Span,

@@ -1,4 +1,6 @@
 // A unit's header and the kinds of units (SCOPE 3.3).
+#![tactic(auto)]
+
 pub mod header;
 
 ghost use Rattle.std.specs.Prelude.{◌≡◌};
@@ -49,7 +51,7 @@ pub const LARGEST_UNIT_TYPE: u8 = 31;
 pub const UNIT_TYPES: usize = 32;
 
 // A field of a unit's header, or that it is absent (the original's `Option`).
-#[derive(Drop)]
+#[derive(Clone, Copy)]
 pub enum HeaderField {
     Present(u8),
     Absent,
@@ -57,7 +59,7 @@ pub enum HeaderField {
 }
 
 // The kind of a unit; picture data and record kinds with their type.
-#[derive(Drop)]
+#[derive(Clone, Copy)]
 pub enum UnitKind {
     PictureData(u8),
     Record(u8),

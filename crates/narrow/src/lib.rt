@@ -1,4 +1,6 @@
 // Conversion of unit lists between the versions (SCOPE 4.13): lengths have 4 bytes in version 01 and 2 bytes in version 02.
+#![tactic(auto)]
+
 pub mod list;
 
 ghost use Rattle.std.specs.Prelude.{◌≡◌};

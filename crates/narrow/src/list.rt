@@ -13,7 +13,7 @@ use list_arrays::{Layout, measure, put as arrays};
 use unit_list::{ListCursor, ListStart, walk};
 
 // A list as it is written: the cursor before its arrays, its length, and whether no length in it is above 65,535.
-#[derive(Drop)]
+#[derive(Clone, Copy)]
 pub struct ListLayout {
     pub arrays: ListCursor,
     pub len: usize,
@@ -21,7 +21,7 @@ pub struct ListLayout {
 }
 
 // The layout of a list, or the refusal.
-#[derive(Drop)]
+#[derive(Clone, Copy)]
 pub enum ListSize {
     Is(ListLayout),
     Refused(Refusal),

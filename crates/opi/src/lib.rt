@@ -1,4 +1,6 @@
 // Reads the operating point of an OPI (SCOPE 3.12).
+#![tactic(auto)]
+
 pub mod point;
 
 ghost use Rattle.std.specs.Prelude.{◌≡◌};
@@ -7,7 +9,7 @@ ghost use Rattle.opi.specs.Answers.{ols_idx_of, ols_idx_given};
 use error::{LARGEST_INPUT, Refusal};
 
 // The operating point of an OPI, or that it does not read.
-#[derive(Drop)]
+#[derive(Clone, Copy)]
 pub enum OlsIdx {
     Present(u32),
     Absent,

@@ -7,4 +7,3 @@ pub mod Writes
 pub mod Zeros
 pub mod Gives
 pub mod Stores
-pub mod Walking

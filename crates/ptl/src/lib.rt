@@ -1,4 +1,6 @@
 // Profile, tier and level: `VvcPtlRecord`, its counts, and its definition in the bits of a parameter set (SCOPE 3.6).
+#![tactic(auto)]
+
 pub mod zeros;
 
 ghost use Rattle.std.specs.Prelude.{◌≡◌};
@@ -6,7 +8,7 @@ ghost use Rattle.ptl.specs.Answers.{num_sublayers_of, num_bytes_constraint_info_
 
 // VvcPTLRecord (ISO/IEC 14496-15 11.2.4.1) with the original's fields. Its vectors are arrays with counts: 0 past a count and for an absent
 // level.
-#[derive(Drop)]
+#[derive(Clone, Copy)]
 pub struct VvcPtlRecord {
     pub general_profile_idc: u8,
     pub general_tier_flag: bool,

@@ -15,7 +15,7 @@ use bit_reader::{BitsRead, then};
 use ptl::{VvcPtlRecord, zeros};
 
 // Profile, tier and level of the whole stream.
-#[derive(Drop)]
+#[derive(Clone, Copy)]
 pub struct General {
     pub general_profile_idc: u8,
     pub general_tier_flag: bool,
@@ -23,7 +23,7 @@ pub struct General {
 }
 
 // The section's last read, which is refused where one of its reads is, and what was read.
-#[derive(Drop)]
+#[derive(Clone, Copy)]
 pub struct GeneralRead {
     pub answer: BitsRead,
     pub part: General,

@@ -10,7 +10,7 @@ ghost use Rattle.ptl_bits.specs.inner.Sections.{constraints};
 use bit_reader::{BitsRead, ByteOffset, bits, then};
 
 // The two flags before the constraint information, and the constraint bytes.
-#[derive(Drop)]
+#[derive(Clone, Copy)]
 pub struct Constraints {
     pub ptl_frame_only_constraint_flag: bool,
     pub ptl_multilayer_enabled_flag: bool,
@@ -19,7 +19,7 @@ pub struct Constraints {
 }
 
 // The section's last read, which is refused where one of its reads is, and what was read.
-#[derive(Drop)]
+#[derive(Clone, Copy)]
 pub struct ConstraintsRead {
     pub answer: BitsRead,
     pub part: Constraints,

@@ -1,4 +1,6 @@
 // Reads a PTL from the bits of a parameter set (SCOPE 3.6).
+#![tactic(auto)]
+
 pub mod bits;
 pub mod constraints;
 pub mod sub_profiles;
@@ -8,7 +10,7 @@ use bit_reader::BitsRead;
 use ptl::VvcPtlRecord;
 
 // A PTL and its last read, which is refused where one of its reads is; the PTL is then all zeros.
-#[derive(Drop)]
+#[derive(Clone, Copy)]
 pub struct PtlBits {
     pub answer: BitsRead,
     pub ptl: VvcPtlRecord,

@@ -9,14 +9,14 @@ ghost use Rattle.ptl_bits.specs.inner.Sections.{sub_profiles};
 use bit_reader::{BitsRead, then};
 
 // The number of sub-profiles, and the sub-profiles.
-#[derive(Drop)]
+#[derive(Clone, Copy)]
 pub struct SubProfiles {
     pub num_sub_profiles: usize,
     pub general_sub_profile_idc: [u32; 255],
 }
 
 // The section's last read, which is refused where one of its reads is, and what was read.
-#[derive(Drop)]
+#[derive(Clone, Copy)]
 pub struct SubProfilesRead {
     pub answer: BitsRead,
     pub part: SubProfiles,

@@ -9,21 +9,21 @@ ghost use Rattle.ptl_bits.specs.inner.Sections.{sublayers};
 use bit_reader::{BitsRead, then};
 
 // The present flags and the levels of the sublayers.
-#[derive(Drop)]
+#[derive(Clone, Copy)]
 pub struct Sublayers {
     pub sublayer_level_present_flag: [bool; 7],
     pub sublayer_level_idc: [u8; 7],
 }
 
 // The section's last read, which is refused where one of its reads is, and what was read.
-#[derive(Drop)]
+#[derive(Clone, Copy)]
 pub struct SublayersRead {
     pub answer: BitsRead,
     pub part: Sublayers,
 }
 
 // The last read of the levels, which is refused where one of its reads is, and the levels.
-#[derive(Drop)]
+#[derive(Clone, Copy)]
 pub struct LevelsRead {
     pub answer: BitsRead,
     pub part: [u8; 7],

@@ -14,7 +14,7 @@ use ptl::{VvcPtlRecord, zeros};
 use ptl_record::{PtlRecordAnswer, PtlRecordRead};
 
 // The levels of the sublayers with their flags, and the place after them.
-#[derive(Drop)]
+#[derive(Clone, Copy)]
 pub struct SublayerLevels {
     pub next: usize,
     pub present: [bool; 7],

@@ -1,2 +1,4 @@
 // Measures and writes VvcPTLRecord (ISO/IEC 14496-15 11.2.4.1) of a full record.
+#![tactic(auto)]
+
 pub mod write;

@@ -1,4 +1,6 @@
 // Removes emulation prevention from a payload (SCOPE 3.4).
+#![tactic(auto)]
+
 pub mod fill;
 
 ghost use Rattle.std.specs.Prelude.{◌≡◌};

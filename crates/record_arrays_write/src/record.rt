@@ -12,14 +12,14 @@ use record_arrays::Codec;
 use unit_list::{ListCursor, ListStart, walk};
 
 // What a head says before its record is measured: its length, or the refusal that comes after 21.
-#[derive(Drop)]
+#[derive(Clone, Copy)]
 pub enum HeadSize {
     Len(usize),
     Refused(Refusal),
 }
 
 // A record that fits its fields: the length of its head, the cursor before its arrays, their number, and the length of the record.
-#[derive(Drop)]
+#[derive(Clone, Copy)]
 pub struct RecordLayout {
     pub head_len: usize,
     pub arrays: ListCursor,
@@ -28,7 +28,7 @@ pub struct RecordLayout {
 }
 
 // The layout of a record, or the refusal.
-#[derive(Drop)]
+#[derive(Clone, Copy)]
 pub enum RecordSize {
     Is(RecordLayout),
     Refused(Refusal),

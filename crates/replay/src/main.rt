@@ -1,5 +1,7 @@
 // Answers cases from standard input: each case is one public call on given input, each answer one line. The form of cases and answers is in the
 // README.md beside src/.
+#![tactic(auto)]
+
 ghost use Rattle.std.specs.Prelude.{◌≡◌, length};
 
 use replay_text::{fields, text};

@@ -1,4 +1,6 @@
 // A case of `replay` taken apart, the call that it names, and the whole answer line; the calls on parameter sets, records and access units.
+#![tactic(auto)]
+
 mod access_calls;
 mod compact_calls;
 mod full_calls;

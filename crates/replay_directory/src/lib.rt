@@ -1,5 +1,7 @@
 // The calls on a directory of units that `replay` makes. A directory and its totals come from the bytes of the case, and after
 // filling they are shown as text.
+#![tactic(auto)]
+
 use boxes::{UnitPlace, place};
 use directory::{Asked, Entry, TYPES};
 use error::Counted;
@@ -10,14 +12,14 @@ use replay_text::{fields, shown, text};
 const ENTRIES: usize = 8;
 
 // What filling returned, and the directory after it.
-#[derive(Drop)]
+#[derive(Clone, Copy)]
 struct Filled {
     counted: Counted,
     after: [Entry; ENTRIES],
 }
 
 // Where the unit lies that is asked for, and how many units of a type there are.
-#[derive(Drop)]
+#[derive(Clone, Copy)]
 struct Answers {
     place: UnitPlace,
     count: Counted,

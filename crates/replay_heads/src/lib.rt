@@ -1,5 +1,7 @@
 // The heads of records and parameter sets in `replay`: from the bytes of a case, and as the numbers of an answer. Array entries past a count are set
 // to the fill byte of the case, which no call may use.
+#![tactic(auto)]
+
 use boxes::place;
 use compact::CompactVvcConfig;
 use full::VvcConfig;

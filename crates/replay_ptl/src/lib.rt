@@ -1,11 +1,13 @@
 // A PTL in the answers of `replay`, as text. An array is shown up to its count; later entries are shown if they are not 0.
+#![tactic(auto)]
+
 use boxes::place;
 use ptl::VvcPtlRecord;
 use replay_text::shown::Shown;
 use replay_text::{shown, text};
 
 // An answer with a PTL, and the numbers before and after it: as many of each as their counts say.
-#[derive(Drop)]
+#[derive(Clone, Copy)]
 pub struct WithPtl {
     pub answer: Shown,
     pub count_before: usize,

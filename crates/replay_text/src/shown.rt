@@ -4,7 +4,7 @@ use boxes::{Field, UnitPlace};
 use error::{Counted, Refusal, Written};
 
 // An answer that is numbers alone: the refusal and up to four fields. The first `count` of these five are shown.
-#[derive(Drop)]
+#[derive(Clone, Copy)]
 pub struct Shown {
     pub count: usize,
     pub refusal: usize,

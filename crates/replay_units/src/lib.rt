@@ -1,4 +1,6 @@
 // The calls on bytes and units that `replay` makes: those of `error`, `boxes`, `nal`, `unit_list` and `split`.
+#![tactic(auto)]
+
 pub mod boxes_calls;
 pub mod list_calls;
 pub mod nal_calls;

@@ -1,4 +1,6 @@
 // The chroma format and bit depth of a full record (SCOPE 4.3).
+#![tactic(auto)]
+
 ghost use Rattle.std.specs.Prelude.{◌≡◌};
 ghost use Rattle.sample_format.specs.Format.{sample_format, head_format, sps_format_of};
 ghost use Rattle.sample_format.specs.Answers.{format_of};
@@ -10,7 +12,7 @@ use params::ParamsAnswer;
 use sps::SpsHead;
 
 // Chroma format and bit depth, or the refusal.
-#[derive(Drop)]
+#[derive(Clone, Copy)]
 pub enum SampleFormat {
     Format(u8, u8),
     Refused(Refusal),

@@ -1,4 +1,6 @@
 // For speed/run alone: filling a directory, asking it for the first unit of a type, and walking over the list for it, as calls for C.
+#![tactic(auto)]
+
 ghost use Rattle.std.specs.Prelude.{◌≡◌};
 ghost use Rattle.parse.specs.Answers.{count_of};
 ghost use Rattle.boxes.specs.Places.{in_first, place_of, place_found};
@@ -13,7 +15,7 @@ use error::{Counted, number};
 
 // 0, and 1 and where the unit lies if there is one; or a refusal's number and zeros.
 #[repr(C)]
-#[derive(Drop)]
+#[derive(Clone, Copy)]
 pub struct UnitNumbers {
     pub refusal: u32,
     pub is_there: u32,

@@ -1,4 +1,6 @@
 // For speed/run alone: SPS reading as a call for C.
+#![tactic(auto)]
+
 ghost use Rattle.std.specs.Prelude.{◌≡◌};
 ghost use Rattle.sps.specs.Answers.{sps_rbsp_given};
 ghost use Rattle.speed_sps.specs.Numbers.{numbers_of};
@@ -9,7 +11,7 @@ use sps::SpsHead;
 
 // 0 and the numbers of a head, or a refusal's number and zeros.
 #[repr(C)]
-#[derive(Drop)]
+#[derive(Clone, Copy)]
 pub struct SpsNumbers {
     pub refusal: u32,
     pub pic_width: u32,

@@ -1,4 +1,6 @@
 // Splits items into their units (SCOPE 3.12).
+#![tactic(auto)]
+
 pub mod walk;
 
 ghost use Rattle.std.specs.Prelude.{◌≡◌, []};
@@ -13,7 +15,7 @@ use boxes::{Span, UnitPlace, place};
 use error::{Counted, LARGEST_INPUT, Refusal};
 
 // The next unit of an item or a stream and the place to continue from; the end; or a refusal.
-#[derive(Drop)]
+#[derive(Clone, Copy)]
 pub enum NextUnit {
     Unit(Span, usize),
     End,

@@ -1,4 +1,6 @@
 // Reads the head of an SPS: its fields up to the bit depth (SCOPE 3.7).
+#![tactic(auto)]
+
 pub mod sections;
 
 ghost use Rattle.std.specs.Prelude.{◌≡◌};
@@ -10,7 +12,7 @@ use params::{ParamsAnswer, RBSP_FRONT};
 use ptl::VvcPtlRecord;
 
 // An SPS up to its bit depth (H.266 7.3.2.4). Without the window flag the four offsets are 0, without a PTL the PTL is all zeros.
-#[derive(Drop)]
+#[derive(Clone, Copy)]
 pub struct SpsHead {
     pub sps_id: u8,
     pub vps_id: u8,
@@ -30,7 +32,7 @@ pub struct SpsHead {
 }
 
 // Whether an SPS was read, and its head, all zeros on a refusal.
-#[derive(Drop)]
+#[derive(Clone, Copy)]
 pub struct SpsRead {
     pub answer: ParamsAnswer,
     pub head: SpsHead,

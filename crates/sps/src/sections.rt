@@ -18,7 +18,7 @@ use params::{ParamsAnswer, RBSP_FRONT};
 use ptl_bits::PtlBits;
 
 // The fields before the PTL.
-#[derive(Drop)]
+#[derive(Clone, Copy)]
 pub struct SpsIds {
     pub sps_id: u8,
     pub vps_id: u8,
@@ -29,14 +29,14 @@ pub struct SpsIds {
 }
 
 // The section's last read, which is refused where one of its reads is, and what was read.
-#[derive(Drop)]
+#[derive(Clone, Copy)]
 pub struct SpsIdsRead {
     pub answer: BitsRead,
     pub part: SpsIds,
 }
 
 // The picture's size, and whether a window follows.
-#[derive(Drop)]
+#[derive(Clone, Copy)]
 pub struct SpsSize {
     pub pic_width: u32,
     pub pic_height: u32,
@@ -44,14 +44,14 @@ pub struct SpsSize {
 }
 
 // The last read of the picture's size, which is refused where one of its reads is, and the size.
-#[derive(Drop)]
+#[derive(Clone, Copy)]
 pub struct SpsSizeRead {
     pub answer: BitsRead,
     pub part: SpsSize,
 }
 
 // The offsets of the conformance window.
-#[derive(Drop)]
+#[derive(Clone, Copy)]
 pub struct ConfWindow {
     pub left: u32,
     pub right: u32,
@@ -60,7 +60,7 @@ pub struct ConfWindow {
 }
 
 // The last read of the window, which is refused where one of its reads is, and the window.
-#[derive(Drop)]
+#[derive(Clone, Copy)]
 pub struct ConfWindowRead {
     pub answer: BitsRead,
     pub part: ConfWindow,

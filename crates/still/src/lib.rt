@@ -1,5 +1,7 @@
 // One still, from compact record to stream (SCOPE 4.7): definitions and theorems, the lengths of its lists, and the length of its item. The calls are
 // in `still_record` and `still_stream`.
+#![tactic(auto)]
+
 pub mod item;
 
 use expand::Picture;

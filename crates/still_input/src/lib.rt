@@ -1,5 +1,7 @@
 // Internal to the program `still_main`: its answer to standard input, which is the length of a compact record in two bytes, the record, and the stored
 // bytes.
+#![tactic(auto)]
+
 ghost use Rattle.std.specs.Prelude.{◌≡◌};
 ghost use Rattle.parse.specs.Outcome.{lent_output, counted};
 ghost use Rattle.parse.specs.Answers.{written_of};

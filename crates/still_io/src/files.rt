@@ -4,7 +4,7 @@ ghost use Rattle.io.specs.Counts.{IsPrefixLen};
 use crate::say;
 
 // Whether a file was read to its end, and how many bytes of it now are at the front of the buffer.
-#[derive(Drop)]
+#[derive(Clone, Copy)]
 pub struct FileRead {
     pub whole: bool,
     pub len: usize,

@@ -7,6 +7,8 @@
 // alone on a line, and to standard error in words; the file OUT is then neither created nor changed. Whatever else fails is reported on
 // standard error: a file that cannot be opened, read or written in full, one that is too long, a wrong number of arguments. The exit status
 // is always 0, as for every Rattle program.
+#![tactic(auto)]
+
 use access_unit::{StartCodes, Target};
 use error::{Refusal, Written};
 use libc::{STDIN_FILENO, STDOUT_FILENO};

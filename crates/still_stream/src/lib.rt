@@ -1,4 +1,6 @@
 // The Annex B stream of a still in one call (SCOPE 4.7). Intermediate results are in local arrays, so only the output is lent.
+#![tactic(auto)]
+
 ghost use Rattle.std.specs.Prelude.{◌≡◌, ◌≤◌, ◌^◌, length};
 ghost use Rattle.parse.specs.Outcome.{lent_output, counted};
 ghost use Rattle.parse.specs.Answers.{written_of};

@@ -1,4 +1,6 @@
 // The unit check (SCOPE 4.6): whether a unit has only bytes that a decoder takes.
+#![tactic(auto)]
+
 pub mod forbidden;
 
 ghost use Rattle.std.specs.Prelude.{◌≡◌};
@@ -7,7 +9,7 @@ ghost use Rattle.unit_check.specs.Answers.{check_of, checked};
 use error::{LARGEST_INPUT, Refusal};
 
 // The unit check: whether a unit has only bytes that a decoder takes.
-#[derive(Drop)]
+#[derive(Clone, Copy)]
 pub enum UnitCheck {
     Yes,
     No,

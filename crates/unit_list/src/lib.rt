@@ -1,4 +1,6 @@
 // Internal to the calls that take or write a unit list (SCOPE 2): the walk over the units of a list, and the writing of one.
+#![tactic(auto)]
+
 pub mod length;
 pub mod walk;
 pub mod write;
@@ -17,7 +19,7 @@ pub const ARRAY_HEAD: usize = 6;
 
 // Where a walk over a list is: from place `at` on come the units that are left of the array that ends at `end` and has type `unit_type`; from
 // `end` on come the next arrays. Lengths have `width` bytes.
-#[derive(Drop)]
+#[derive(Clone, Copy)]
 pub struct ListCursor {
     pub at: usize,
     pub end: usize,
@@ -26,14 +28,14 @@ pub struct ListCursor {
 }
 
 // Where a walk over a list starts, or the refusal.
-#[derive(Drop)]
+#[derive(Clone, Copy)]
 pub enum ListStart {
     At(ListCursor),
     Refused(Refusal),
 }
 
 // One step of the walk: a unit and the cursor after it, which has the type of the unit's array; the end; or that the list is malformed.
-#[derive(Drop)]
+#[derive(Clone, Copy)]
 pub enum ListStep {
     Unit(Span, ListCursor),
     End,
@@ -41,7 +43,7 @@ pub enum ListStep {
 }
 
 // One step over whole arrays: the complete byte of an array and the cursor before its units; the end; or that the list is malformed.
-#[derive(Drop)]
+#[derive(Clone, Copy)]
 pub enum ArrayStep {
     Array(u8, ListCursor),
     End,

@@ -1,4 +1,6 @@
 // Reads the first PTL of a VPS (SCOPE 3.7).
+#![tactic(auto)]
+
 pub mod first_ptl;
 
 ghost use Rattle.std.specs.Prelude.{◌≡◌};
@@ -10,7 +12,7 @@ use params::ParamsAnswer;
 use ptl::VvcPtlRecord;
 
 // Whether a PTL was read, and the PTL, all zeros on a refusal.
-#[derive(Drop)]
+#[derive(Clone, Copy)]
 pub struct PtlRead {
     pub answer: ParamsAnswer,
     pub ptl: VvcPtlRecord,

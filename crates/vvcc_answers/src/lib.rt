@@ -1,9 +1,11 @@
 // The answers of the calls for C and Rust: structs of numbers. Crates above, one for each family of calls, export the calls.
+#![tactic(auto)]
+
 pub mod answers;
 
 // The answer of a call that writes: 0 and how many bytes are now at the front of the output, or a refusal's number and 0.
 #[repr(C)]
-#[derive(Drop)]
+#[derive(Clone, Copy)]
 pub struct VvccWritten {
     pub refusal: u32,
     pub len: usize,
@@ -11,7 +13,7 @@ pub struct VvccWritten {
 
 // The answer of a call that reads a record: 0 and how many bytes were consumed, or a refusal's number and 0.
 #[repr(C)]
-#[derive(Drop)]
+#[derive(Clone, Copy)]
 pub struct VvccRead {
     pub refusal: u32,
     pub consumed: usize,
@@ -20,7 +22,7 @@ pub struct VvccRead {
 // The answer of one step of a walk: 0, 1, where the unit lies and the place to continue from; zeros at the end; or a refusal's number and
 // zeros.
 #[repr(C)]
-#[derive(Drop)]
+#[derive(Clone, Copy)]
 pub struct VvccUnit {
     pub refusal: u32,
     pub found: u32,
@@ -31,7 +33,7 @@ pub struct VvccUnit {
 
 // The answer of the unit check: 0, and 1 if the unit passes, else 0; or a refusal's number and 0.
 #[repr(C)]
-#[derive(Drop)]
+#[derive(Clone, Copy)]
 pub struct VvccCheck {
     pub refusal: u32,
     pub passes: u32,

@@ -1,4 +1,6 @@
 // The calls on a full record for C and Rust: assembly with an item, and strict reading.
+#![tactic(auto)]
+
 pub mod numbers;
 
 ghost use Rattle.std.specs.Prelude.{◌≡◌};

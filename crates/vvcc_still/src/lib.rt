@@ -1,4 +1,6 @@
 // The calls on one still for C and Rust: its record and its stream.
+#![tactic(auto)]
+
 ghost use Rattle.std.specs.Prelude.{◌≡◌};
 ghost use Rattle.still.specs.Stills.{still_record, still_stream};
 ghost use Rattle.vvcc_answers.specs.Answers.{written_given, target_from, codes_from};

@@ -1,4 +1,6 @@
 // The walks over units and the unit check for C and Rust.
+#![tactic(auto)]
+
 pub mod numbers;
 
 ghost use Rattle.std.specs.Prelude.{◌≡◌};

@@ -1,4 +1,6 @@
 // The worked bytes of SCOPE 7 that are run: each line says which call is made and what it returns. The others are proved in `path`.
+#![tactic(auto)]
+
 use bit_reader::{BitsRead, FIRST_BIT};
 use compact::CompactVvcConfig;
 use error::Written;

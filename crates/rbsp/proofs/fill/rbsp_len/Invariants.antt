@@ -1,0 +1,17 @@
+-- `rbsp_len` returns the length of the RBSP: what is counted and what is left make up the whole.
+use borrow.Author.Tests.{not-true, not-false}
+use Prim.Native.Nat.{◌+◌, ◌-◌, ◌≤◌}
+use mathlib.Core.Path.{◌≡◌, sym, ap, ◌∙◌}
+use mathlib.Core.Logic.{⊎_elim}
+use native.Mathlib.Omega.{arith}
+use borrow.Author.Rules.{rules}
+use lib.ListN.{length, get_or, drop}
+use Rattle.rbsp.specs.Rbsp.{rbsp, unescape}
+use Rattle.rbsp.proofs.Removal.{step_end, zeros_le, measure_kept, measure_dropped}
+use Rattle.rbsp.proofs.fill.rbsp_len.Given as goal
+
+abbrev pub invariant-loop-i : goal.invariant-loop-i
+invariant-loop-i l = (l.i ≤ length l.payload) × (l.zeros ≤ l.i) × (l.n ≤ l.i) × (length (rbsp l.payload) ≡ l.n + length (unescape l.zeros (drop l.i l.payload)))
+
+abbrev pub decreases-loop-i : goal.decreases-loop-i
+decreases-loop-i l = length l.payload - l.i

@@ -30,8 +30,8 @@ loop-a-preserved c =
 
 pub returns-in_default : goal.returns-in_default
 returns-in_default c =
-    let z = c.in_default in ?
-    absurd (omega arith)
+    let z = c.in_default in
+    ?
 
 pub returns-then-skip-eq0 : goal.returns-then-skip-eq0
 returns-then-skip-eq0 c =

@@ -5,7 +5,6 @@
 use boxes::{UnitPlace, place};
 use directory::{Asked, Entry, TYPES};
 use error::Counted;
-use replay_text::shown::Shown;
 use replay_text::{fields, shown, text};
 
 // How many entries the directory of a case has.
@@ -109,8 +108,9 @@ fn question(numbers: &[u8]) -> Asked {
 
 // Puts an entry: type, offset, length.
 fn put_entry(out: &mut [u8], at: usize, e: Entry) -> usize {
-    let numbers = [place::wide(e.unit_type), e.offset, e.len];
-    text::put_numbers(out, at, 3, &numbers)
+    let first = text::put_small(out, at, e.unit_type);
+    let second = text::put_number(out, first, e.offset as u64);
+    text::put_number(out, second, e.len as u64)
 }
 
 // Puts all entries of a directory.
@@ -129,8 +129,8 @@ fn put_total(out: &mut [u8], at: usize, t: usize, n: usize) -> usize {
     if n == 0 {
         return at;
     }
-    let numbers = [t, n];
-    text::put_numbers(out, at, 2, &numbers)
+    let next = text::put_number(out, at, t as u64);
+    text::put_number(out, next, n as u64)
 }
 
 // Puts every total that is not 0, each after its type.
@@ -145,31 +145,44 @@ fn put_totals(out: &mut [u8], at: usize, totals: &[usize; TYPES]) -> usize {
 }
 
 // `fill`: the answer, the directory and the totals after the call.
-pub fn put_filled(numbers: &[u8], list: &[u8], dir: &[u8], out: &mut [u8], at: usize) -> usize {
+fn put_filled(numbers: &[u8], list: &[u8], dir: &[u8], out: &mut [u8], at: usize) -> usize {
     let mut totals = totals_of(numbers);
     let r = fill(list, entries_of(dir), &mut totals);
     let counted = r.counted;
     let after = r.after;
-    let answer_end = shown::put(out, at, shown::counted(counted));
+    let answer_end = shown::counted(out, at, counted);
     let entries_end = put_entries(out, answer_end, after);
     put_totals(out, entries_end, &totals)
 }
 
-// `nal_count_of_type` and `nal_unit_at`, by their numbers.
-pub fn answer(op: u8, numbers: &[u8], list: &[u8], dir: &[u8]) -> Shown {
+// `nal_count_of_type` and `nal_unit_at`
+fn put_asked(op: u8, numbers: &[u8], list: &[u8], dir: &[u8], out: &mut [u8], at: usize) -> usize {
     let totals = totals_of(numbers);
     let t = place::byte(numbers, 1);
     let r = ask(list, entries_of(dir), &totals, question(numbers), t);
     let count = r.count;
     let place = r.place;
-    if op == 56 {
-        return shown::counted(count);
+    match op {
+        56 => shown::counted(out, at, count),
+        _ => shown::place(out, at, place),
     }
-    shown::place(place)
 }
 
 // `nal_unit`
-pub fn part<'a>(numbers: &[u8], list: &'a [u8], dir: &[u8]) -> &'a [u8] {
+fn put_unit(numbers: &[u8], list: &[u8], dir: &[u8], out: &mut [u8], at: usize) -> usize {
     let totals = totals_of(numbers);
-    unit(list, entries_of(dir), &totals, question(numbers))
+    shown::part(
+        out,
+        at,
+        unit(list, entries_of(dir), &totals, question(numbers)),
+    )
+}
+
+// The calls by their numbers.
+pub fn answer(op: u8, numbers: &[u8], list: &[u8], dir: &[u8], out: &mut [u8], at: usize) -> usize {
+    match op {
+        55 => put_filled(numbers, list, dir, out, at),
+        58 => put_unit(numbers, list, dir, out, at),
+        _ => put_asked(op, numbers, list, dir, out, at),
+    }
 }

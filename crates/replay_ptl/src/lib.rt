@@ -1,125 +1,90 @@
 // A PTL in the answers of `replay`, as text. An array is shown up to its count; later entries are shown if they are not 0.
 #![tactic(auto)]
 
-use boxes::place;
 use ptl::VvcPtlRecord;
-use replay_text::shown::Shown;
-use replay_text::{shown, text};
+use replay_text::text;
 
-// An answer with a PTL, and the numbers before and after it: as many of each as their counts say.
-#[derive(Clone, Copy)]
-pub struct WithPtl {
-    pub answer: Shown,
-    pub count_before: usize,
-    pub before: [usize; 8],
-    pub ptl: VvcPtlRecord,
-    pub count_after: usize,
-    pub after: [usize; 8],
+// Puts a byte of an array if it is wanted or is not 0.
+fn byte_if(out: &mut [u8], at: usize, wanted: bool, b: u8) -> usize {
+    if wanted || b != 0 {
+        return text::put_byte(out, at, b);
+    }
+    at
 }
 
-// Constraint byte i, 0 past the last.
-fn constraint(p: VvcPtlRecord, i: usize) -> u32 {
-    if i < 63 {
-        return p.general_constraint_info[i] as u32;
-    }
-    0
+// Puts a level, as its flag and its byte, if it is wanted, present or not 0.
+fn level_if(out: &mut [u8], at: usize, wanted: bool, present: bool, b: u8) -> usize {
+    let first = byte_if(out, at, wanted || b != 0, if present { 1 } else { 0 });
+    byte_if(out, first, wanted || present, b)
 }
 
-// Level i as two bytes, its flag and the level, 0 past the last.
-fn level(p: VvcPtlRecord, i: usize) -> u32 {
-    if 7 <= i {
-        return 0;
-    }
-    let level = place::wide(p.sublayer_level_idc[i]);
-    if p.sublayer_level_present_flag[i] {
-        return (256 + level) as u32;
-    }
-    level as u32
-}
-
-// Sub-profile i, 0 past the last.
-fn sub_profile(p: VvcPtlRecord, i: usize) -> u32 {
-    if i < 255 {
-        return p.general_sub_profile_idc[i];
-    }
-    0
-}
-
-// Entry i of the array whose entries have `width` bytes: 1 of a constraint, 2 of a level, 4 of a sub-profile.
-fn entry(p: VvcPtlRecord, width: usize, i: usize) -> u32 {
-    match width {
-        1 => constraint(p, i),
-        2 => level(p, i),
-        _ => sub_profile(p, i),
-    }
-}
-
-// Puts an entry of `width` bytes if it is wanted or is not 0.
-fn put_entry(out: &mut [u8], at: usize, wanted: bool, width: usize, v: u32) -> usize {
+// Puts a sub-profile, as four bytes, if it is wanted or is not 0.
+fn sub_profile_if(out: &mut [u8], at: usize, wanted: bool, v: u32) -> usize {
     if !wanted && v == 0 {
         return at;
     }
-    let bytes = [
-        (v / 16777216) as u8,
-        (v / 65536 % 256) as u8,
-        (v / 256 % 256) as u8,
-        (v % 256) as u8,
-    ];
-    text::put_digits(out, at, text::rest(&bytes, text::less(4, width)))
+    let first = text::put_byte(out, at, (v / 16777216) as u8);
+    let second = text::put_byte(out, first, (v / 65536 % 256) as u8);
+    let third = text::put_byte(out, second, (v / 256 % 256) as u8);
+    text::put_byte(out, third, (v % 256) as u8)
 }
 
-// Puts the count of an array, and what stands before its bytes.
-fn put_count(out: &mut [u8], at: usize, n: usize) -> usize {
-    let next = text::put_number(out, at, n);
-    text::put_all(out, next, b" =")
-}
-
-// Puts the array of `len` entries of `width` bytes: its count n, the entries up to it, and every later one that is not 0.
-fn put_array(
-    out: &mut [u8],
-    at: usize,
-    p: VvcPtlRecord,
-    width: usize,
-    len: usize,
-    n: usize,
-) -> usize {
-    let mut end = put_count(out, at, n);
+// Puts the constraint bytes up to a count, and every later byte that is not 0.
+fn constraints(out: &mut [u8], at: usize, n: usize, bytes: &[u8; 63]) -> usize {
+    let mut end = text::put_all(out, at, b" =");
     let mut i: usize = 0;
-    while i < len {
-        end = put_entry(out, end, i < n, width, entry(p, width, i));
+    while i < 63 {
+        end = byte_if(out, end, i < n, bytes[i]);
         i += 1;
     }
     end
 }
 
+// Puts the levels up to a count, and every later one that is present or not 0.
+fn levels(out: &mut [u8], at: usize, n: usize, present: &[bool; 7], bytes: &[u8; 7]) -> usize {
+    let mut end = text::put_all(out, at, b" =");
+    let mut i: usize = 0;
+    while i < 7 {
+        end = level_if(out, end, i < n, present[i], bytes[i]);
+        i += 1;
+    }
+    end
+}
+
+// Puts the sub-profiles up to a count, and every later one that is not 0.
+fn sub_profiles(out: &mut [u8], at: usize, n: usize, values: &[u32; 255]) -> usize {
+    let mut end = text::put_all(out, at, b" =");
+    let mut i: usize = 0;
+    while i < 255 {
+        end = sub_profile_if(out, end, i < n, values[i]);
+        i += 1;
+    }
+    end
+}
+
+// Puts the numbers of a PTL that come before its arrays.
+fn ptl_numbers(out: &mut [u8], at: usize, p: VvcPtlRecord) -> usize {
+    let first = text::put_small(out, at, p.general_profile_idc);
+    let second = text::put_flag(out, first, p.general_tier_flag);
+    let third = text::put_small(out, second, p.general_level_idc);
+    let fourth = text::put_flag(out, third, p.ptl_frame_only_constraint_flag);
+    text::put_flag(out, fourth, p.ptl_multilayer_enabled_flag)
+}
+
 // Puts a PTL: its numbers, then each array after its count.
-fn put_ptl(out: &mut [u8], at: usize, p: VvcPtlRecord) -> usize {
-    let numbers = [
-        place::wide(p.general_profile_idc),
-        p.general_tier_flag as usize,
-        place::wide(p.general_level_idc),
-        p.ptl_frame_only_constraint_flag as usize,
-        p.ptl_multilayer_enabled_flag as usize,
-    ];
-    let first = text::put_numbers(out, at, 5, &numbers);
-    let second = put_array(out, first, p, 1, 63, p.num_bytes_constraint_info);
-    let third = put_array(out, second, p, 2, 7, p.num_sublayer_levels);
-    put_array(out, third, p, 4, 255, p.num_sub_profiles)
-}
-
-// Puts the first `count` of eight numbers.
-fn put_some(out: &mut [u8], at: usize, count: usize, numbers: [usize; 8]) -> usize {
-    text::put_numbers(out, at, count, &numbers)
-}
-
-// Puts an answer with a PTL.
-pub fn put(out: &mut [u8], at: usize, r: WithPtl) -> usize {
-    let answer = r.answer;
-    let before = r.before;
-    let ptl = r.ptl;
-    let after = r.after;
-    let first = shown::put(out, at, answer);
-    let second = put_some(out, first, r.count_before, before);
-    let third = put_ptl(out, second, ptl);
-    put_some(out, third, r.count_after, after)
+pub fn put_ptl(out: &mut [u8], at: usize, p: VvcPtlRecord) -> usize {
+    let bytes = p.general_constraint_info;
+    let present = p.sublayer_level_present_flag;
+    let level = p.sublayer_level_idc;
+    let values = p.general_sub_profile_idc;
+    let n = p.num_bytes_constraint_info;
+    let m = p.num_sublayer_levels;
+    let k = p.num_sub_profiles;
+    let first = ptl_numbers(out, at, p);
+    let second = text::put_number(out, first, n as u64);
+    let third = constraints(out, second, n, &bytes);
+    let fourth = text::put_number(out, third, m as u64);
+    let fifth = levels(out, fourth, m, &present, &level);
+    let sixth = text::put_number(out, fifth, k as u64);
+    sub_profiles(out, sixth, k, &values)
 }

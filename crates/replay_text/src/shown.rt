@@ -1,110 +1,85 @@
-// Internal: answers as numbers. The number of the refusal comes first, 0 if there is none.
+// Internal: answers as text. The number of the refusal comes first, 0 if there is none.
 use crate::text;
-use boxes::{Field, UnitPlace};
+use boxes::{Field, Span, UnitPlace};
 use error::{Counted, Refusal, Written};
 
-// An answer that is numbers alone: the refusal and up to four fields. The first `count` of these five are shown.
-#[derive(Clone, Copy)]
-pub struct Shown {
-    pub count: usize,
-    pub refusal: usize,
-    pub first: usize,
-    pub second: usize,
-    pub third: usize,
-    pub fourth: usize,
+// Puts that a call was accepted: 0.
+pub fn accepted(out: &mut [u8], at: usize) -> usize {
+    text::put_number(out, at, 0)
 }
 
-// A number of 16 bits: a call asks nothing, where a cast in place asks that the number fits.
-pub fn wide16(x: u16) -> usize {
-    x as usize
+// Puts a refusal's number.
+pub fn refused(out: &mut [u8], at: usize, e: Refusal) -> usize {
+    let n = error::number(e);
+    text::put_number(out, at, n as u64)
 }
 
-// A number of 32 bits.
-pub fn wide32(x: u32) -> usize {
-    x as usize
+// Puts one number of an accepted call.
+pub fn number(out: &mut [u8], at: usize, n: usize) -> usize {
+    let next = accepted(out, at);
+    text::put_number(out, next, n as u64)
 }
 
-// A number of 64 bits.
-pub fn wide64(x: u64) -> usize {
-    x as usize
+// Puts two numbers of an accepted call.
+pub fn pair(out: &mut [u8], at: usize, n: usize, m: usize) -> usize {
+    let next = number(out, at, n);
+    text::put_number(out, next, m as u64)
 }
 
-// The first `fields` of four numbers, of an accepted call.
-pub fn fields(fields: usize, first: usize, second: usize, third: usize, fourth: usize) -> Shown {
-    Shown {
-        count: text::plus(1, fields),
-        refusal: 0,
-        first,
-        second,
-        third,
-        fourth,
-    }
+// Puts a yes or no of an accepted call.
+pub fn flag(out: &mut [u8], at: usize, yes: bool) -> usize {
+    let next = accepted(out, at);
+    text::put_flag(out, next, yes)
 }
 
-// A refusal's number.
-pub fn refused(e: Refusal) -> Shown {
-    Shown {
-        count: 1,
-        refusal: error::number(e) as usize,
-        first: 0,
-        second: 0,
-        third: 0,
-        fourth: 0,
-    }
-}
-
-// One number of an accepted call.
-pub fn number(n: usize) -> Shown {
-    fields(1, n, 0, 0, 0)
-}
-
-// Two numbers of an accepted call.
-pub fn pair(n: usize, m: usize) -> Shown {
-    fields(2, n, m, 0, 0)
-}
-
-// A count.
-pub fn counted(r: Counted) -> Shown {
+// Puts a count.
+pub fn counted(out: &mut [u8], at: usize, r: Counted) -> usize {
     match r {
-        Counted::Count(n) => number(n),
-        Counted::Refused(e) => refused(e),
+        Counted::Count(n) => number(out, at, n),
+        Counted::Refused(e) => refused(out, at, e),
     }
 }
 
-// How many bytes were written.
-pub fn written(r: Written) -> Shown {
+// Puts how many bytes were written.
+pub fn written(out: &mut [u8], at: usize, r: Written) -> usize {
     match r {
-        Written::Bytes(n) => number(n),
-        Written::Refused(e) => refused(e),
+        Written::Bytes(n) => number(out, at, n),
+        Written::Refused(e) => refused(out, at, e),
     }
 }
 
-// A field and the place after it.
-pub fn field(r: Field) -> Shown {
+// Puts a field and the place after it.
+pub fn field(out: &mut [u8], at: usize, r: Field) -> usize {
     match r {
-        Field::Value(n, after) => pair(n as usize, after),
-        Field::Refused(e) => refused(e),
+        Field::Value(n, after) => pair(out, at, n as usize, after),
+        Field::Refused(e) => refused(out, at, e),
     }
-}
-
-// Where unit k lies: 1 or 2 for the first or the second input, start and length; 0 past the last unit.
-pub fn place(r: UnitPlace) -> Shown {
-    match r {
-        UnitPlace::First(a) => fields(3, 1, a.start, a.len, 0),
-        UnitPlace::Second(a) => fields(3, 2, a.start, a.len, 0),
-        UnitPlace::Past => number(0),
-        UnitPlace::Refused(e) => refused(e),
-    }
-}
-
-// Puts an answer that is numbers alone.
-pub fn put(out: &mut [u8], at: usize, r: Shown) -> usize {
-    let numbers = [r.refusal, r.first, r.second, r.third, r.fourth];
-    text::put_numbers(out, at, r.count, &numbers)
 }
 
 // Puts a part, for a call that returns no refusal.
-pub fn put_part(out: &mut [u8], at: usize, bytes: &[u8]) -> usize {
-    let next = text::put_all(out, at, b" 0 =");
-    text::put_digits(out, next, bytes)
+pub fn part(out: &mut [u8], at: usize, bytes: &[u8]) -> usize {
+    let next = accepted(out, at);
+    text::put_bytes(out, next, bytes)
+}
+
+// Puts the number of an input, and where a unit lies in it.
+fn lying(out: &mut [u8], at: usize, which: usize, a: Span) -> usize {
+    let next = pair(out, at, which, a.start);
+    text::put_number(out, next, a.len as u64)
+}
+
+// Puts where a unit lies, and the place after it.
+pub fn span(out: &mut [u8], at: usize, a: Span, after: usize) -> usize {
+    let next = lying(out, at, 1, a);
+    text::put_number(out, next, after as u64)
+}
+
+// Puts where unit k lies: 1 or 2 for the first or the second input, start and length; 0 past the last unit.
+pub fn place(out: &mut [u8], at: usize, r: UnitPlace) -> usize {
+    match r {
+        UnitPlace::First(a) => lying(out, at, 1, a),
+        UnitPlace::Second(a) => lying(out, at, 2, a),
+        UnitPlace::Past => number(out, at, 0),
+        UnitPlace::Refused(e) => refused(out, at, e),
+    }
 }

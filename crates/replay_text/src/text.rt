@@ -28,14 +28,6 @@ pub fn front(s: &[u8], n: usize) -> &[u8] {
     &s[..0]
 }
 
-// What follows the first n bytes of a slice; empty if there are fewer.
-pub fn rest(s: &[u8], n: usize) -> &[u8] {
-    if n <= s.len() {
-        return &s[n..];
-    }
-    &s[..0]
-}
-
 // Puts one character at a place and returns the place after it; a full text does not change.
 pub fn put(text: &mut [u8], at: usize, c: u8) -> usize {
     if at < text.len() {
@@ -123,28 +115,30 @@ pub fn put_all(text: &mut [u8], at: usize, chars: &[u8]) -> usize {
 }
 
 // Puts a number in decimal.
-pub fn put_decimal(text: &mut [u8], at: usize, n: usize) -> usize {
-    let mut digits = [0u8; 20];
-    let k = io::decimal(n as u64, &mut digits);
-    put_all(text, at, &digits[..k])
+pub fn put_decimal(text: &mut [u8], at: usize, n: u64) -> usize {
+    let next = if n < 10 {
+        at
+    } else {
+        put_decimal(text, at, n / 10)
+    };
+    put(text, next, 48 + (n % 10) as u8)
 }
 
 // Puts a space and a number.
-pub fn put_number(text: &mut [u8], at: usize, n: usize) -> usize {
+pub fn put_number(text: &mut [u8], at: usize, n: u64) -> usize {
     let next = put(text, at, b' ');
     put_decimal(text, next, n)
 }
 
-// Puts the first `count` of some numbers, each after a space.
-pub fn put_numbers(text: &mut [u8], at: usize, count: usize, numbers: &[usize]) -> usize {
-    let n = least(count, numbers.len());
-    let mut end = at;
-    let mut i: usize = 0;
-    while i < n {
-        end = put_number(text, end, numbers[i]);
-        i += 1;
-    }
-    end
+// Puts a space and a number of one byte.
+pub fn put_small(text: &mut [u8], at: usize, n: u8) -> usize {
+    put_number(text, at, n as u64)
+}
+
+// Puts a space and a yes or no, as 1 or 0.
+pub fn put_flag(text: &mut [u8], at: usize, flag: bool) -> usize {
+    let n: u64 = if flag { 1 } else { 0 };
+    put_number(text, at, n)
 }
 
 // Puts a space, an equals sign and bytes as digits.

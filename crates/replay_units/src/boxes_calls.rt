@@ -1,7 +1,6 @@
 // Internal: the calls of `error` and `boxes`.
 use boxes::place;
 use error::Refusal;
-use replay_text::shown::Shown;
 use replay_text::{fields, shown};
 
 // The refusal with number n up to 12; any other n is taken as 12.
@@ -46,20 +45,21 @@ fn high_refusal(n: u8) -> Refusal {
 }
 
 // `number`
-fn number(n: u8) -> Shown {
+fn number(numbers: &[u8], text: &mut [u8], at: usize) -> usize {
+    let n = place::byte(numbers, 0);
     if n < 13 {
-        return shown::refused(low_refusal(n));
+        return shown::refused(text, at, low_refusal(n));
     }
-    shown::refused(high_refusal(n))
+    shown::refused(text, at, high_refusal(n))
 }
 
 // The calls by their numbers.
-pub fn answer(op: u8, numbers: &[u8], s: &[u8]) -> Shown {
+pub fn answer(op: u8, numbers: &[u8], s: &[u8], text: &mut [u8], at: usize) -> usize {
     let from = fields::eight(numbers, 0);
     match op {
-        1 => number(place::byte(numbers, 0)),
-        3 => shown::field(boxes::u8_at(s, from)),
-        4 => shown::field(boxes::u16_at(s, from)),
-        _ => shown::field(boxes::u32_at(s, from)),
+        1 => number(numbers, text, at),
+        3 => shown::field(text, at, boxes::u8_at(s, from)),
+        4 => shown::field(text, at, boxes::u16_at(s, from)),
+        _ => shown::field(text, at, boxes::u32_at(s, from)),
     }
 }

@@ -1,4 +1,4 @@
-// The calls on bytes and units that `replay` makes: those of `error`, `boxes`, `nal`, `unit_list` and `split`.
+// The calls on bytes and units that `replay` makes: those of `error`, `boxes`, `nal`, `unit_check`, `list_units`, `split` and `annex_b`.
 #![tactic(auto)]
 
 pub mod boxes_calls;

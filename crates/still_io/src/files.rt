@@ -1,7 +1,11 @@
 // Internal: reads and writes whole files. What fails is reported on standard error.
-ghost use Rattle.io.specs.Counts.{IsPrefixLen};
+ghost use Rattle.std.specs.Prelude.{◌≤◌, length, IfOk};
 
 use crate::say;
+use std::env::FillError;
+use std::io::{Read, Write};
+use std::rt::{Env, Files};
+use std::{fs, io, str};
 
 // Whether a file was read to its end, and how many bytes of it now are at the front of the buffer.
 #[derive(Clone, Copy)]
@@ -10,116 +14,143 @@ pub struct FileRead {
     pub len: usize,
 }
 
+// A file that was not read.
+const UNREAD: FileRead = FileRead {
+    whole: false,
+    len: 0,
+};
+
 // Reads to the end of an open file, or until the buffer is full.
-fn read_to_end(fd: i32, buf: &mut [u8]) -> FileRead
-    ensures { IsPrefixLen result.len buf.new }
+fn read_to_end(from: &mut impl Read, buf: &mut [u8]) -> io::Result<usize>
+    ensures { IfOk result (λ n. n ≤ length buf.new) }
 {
     let mut done: usize = 0;
     while done < buf.len() {
-        let got = libc::read(fd, &mut buf[done..]);
-        if got < 0 {
-            return FileRead {
-                whole: false,
-                len: 0,
-            };
-        }
-        let more = io::count(got, &buf[done..]);
+        let more = from.read(&mut buf[done..])?;
         if more == 0 {
             break;
         }
         done += more;
     }
-    FileRead {
-        whole: true,
-        len: done,
-    }
+    Ok(done)
 }
 
 // Reads an open file of at most `most` bytes. The buffer is longer than `most`, so that a longer file is noticed.
-pub fn read_open(fd: i32, name: &[u8], most: usize, buf: &mut [u8]) -> FileRead
-    ensures { IsPrefixLen result.len buf.new }
+pub fn read_open(
+    rt: &(impl Eprint + Alloc),
+    from: &mut impl Read,
+    name: &str,
+    most: usize,
+    buf: &mut [u8],
+) -> FileRead
+    ensures { result.len ≤ length buf.new }
 {
-    let read = read_to_end(fd, buf);
-    if !read.whole {
-        say::failed(b"cannot read ", name);
-        return FileRead {
-            whole: false,
-            len: 0,
-        };
+    match read_to_end(from, buf) {
+        Ok(len) => {
+            if most < len {
+                say::too_long(rt, name, most);
+                return UNREAD;
+            }
+            FileRead { whole: true, len }
+        }
+        Err(e) => {
+            say::failed(rt, "cannot read ", name, e);
+            UNREAD
+        }
     }
-    if most < read.len {
-        say::too_long(name, most);
-        return FileRead {
-            whole: false,
-            len: 0,
-        };
-    }
-    read
 }
 
 // Opens, reads and closes the file of a name.
-fn read_named(name: &[u8], most: usize, buf: &mut [u8]) -> FileRead
-    ensures { IsPrefixLen result.len buf.new }
+fn read_named(
+    rt: &(impl Files + Eprint + Alloc),
+    name: &str,
+    most: usize,
+    buf: &mut [u8],
+) -> FileRead
+    ensures { result.len ≤ length buf.new }
 {
-    let fd = os::open_read(name);
-    if fd < 0 {
-        say::failed(b"cannot open ", name);
-        return FileRead {
-            whole: false,
-            len: 0,
-        };
+    match fs::open(rt, name) {
+        Ok(mut file) => read_open(rt, &mut file, name, most, buf),
+        Err(e) => {
+            say::failed(rt, "cannot open ", name, e);
+            UNREAD
+        }
     }
-    let read = read_open(fd, name, most, buf);
-    libc::close(fd);
-    read
+}
+
+// Whether the program was started with an argument i.
+pub fn is_given(rt: &impl Env, i: usize) -> bool {
+    !matches!(rt.arg(i, &mut []), Err(FillError::NotPresent))
+}
+
+// The file's name that argument i is, in the bytes of `path`. An argument that is none is reported.
+fn name_of<'a>(rt: &(impl Env + Eprint), i: usize, path: &'a mut [u8]) -> Option<&'a str> {
+    let len = match rt.arg(i, path) {
+        Ok(len) => len,
+        Err(FillError::TooLong) => {
+            say::bad_argument(rt, i, "File name too long");
+            return None;
+        }
+        Err(FillError::NotPresent) => {
+            say::bad_argument(rt, i, "Invalid argument");
+            return None;
+        }
+    };
+    match str::from_utf8(&path[..len]) {
+        Ok(name) => Some(name),
+        Err(_) => {
+            say::bad_argument(rt, i, "a file's name must be UTF-8");
+            None
+        }
+    }
 }
 
 // Reads the file that argument i names, of at most `most` bytes.
-pub fn read(i: usize, most: usize, buf: &mut [u8]) -> FileRead
-    ensures { IsPrefixLen result.len buf.new }
+pub fn read(
+    rt: &(impl Env + Files + Eprint + Alloc),
+    i: usize,
+    most: usize,
+    buf: &mut [u8],
+) -> FileRead
+    ensures { result.len ≤ length buf.new }
 {
-    let mut path = io::buffer();
-    let len = os::arg(i, &mut path);
-    if os::errno() != 0 {
-        say::bad_argument(i);
-        return FileRead {
-            whole: false,
-            len: 0,
-        };
+    let mut path = [0u8; 4096];
+    match name_of(rt, i, &mut path) {
+        Some(name) => read_named(rt, name, most, buf),
+        None => UNREAD,
     }
-    read_named(&path[..len], most, buf)
 }
 
 // Writes bytes to an open file, and returns whether all were written.
-pub fn write_open(fd: i32, name: &[u8], bytes: &[u8]) -> bool {
-    let is_written = io::write_all(fd, bytes);
-    if !is_written {
-        say::failed(b"cannot write all of ", name);
+pub fn write_open(
+    rt: &(impl Eprint + Alloc),
+    to: &mut impl Write,
+    name: &str,
+    bytes: &[u8],
+) -> bool {
+    match to.write_all(bytes) {
+        Ok(()) => true,
+        Err(e) => {
+            say::failed(rt, "cannot write all of ", name, e);
+            false
+        }
     }
-    is_written
 }
 
 // Opens, writes and closes the file of a name. What it held before is lost once it is open.
-fn write_named(name: &[u8], bytes: &[u8]) {
-    let fd = os::open_overwrite(name);
-    if fd < 0 {
-        say::failed(b"cannot open ", name);
-        return;
-    }
-    let is_written = write_open(fd, name, bytes);
-    let closed = libc::close(fd);
-    if is_written && closed < 0 {
-        say::failed(b"cannot write all of ", name);
+fn write_named(rt: &(impl Files + Eprint + Alloc), name: &str, bytes: &[u8]) {
+    match fs::create(rt, name) {
+        Ok(mut file) => {
+            write_open(rt, &mut file, name, bytes);
+        }
+        Err(e) => say::failed(rt, "cannot open ", name, e),
     }
 }
 
 // Writes the file that argument i names.
-pub fn write(i: usize, bytes: &[u8]) {
-    let mut path = io::buffer();
-    let len = os::arg(i, &mut path);
-    if os::errno() != 0 {
-        say::bad_argument(i);
-        return;
+pub fn write(rt: &(impl Env + Files + Eprint + Alloc), i: usize, bytes: &[u8]) {
+    let mut path = [0u8; 4096];
+    if let Some(name) = name_of(rt, i, &mut path) {
+        write_named(rt, name, bytes);
     }
-    write_named(&path[..len], bytes);
 }

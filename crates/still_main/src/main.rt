@@ -6,12 +6,15 @@
 // RECORD has at most 65,536 bytes, STORED at most 1,048,576, INPUT at most 65,536. A refusal is printed to standard output as its number,
 // alone on a line, and to standard error in words; the file OUT is then neither created nor changed. Whatever else fails is reported on
 // standard error: a file that cannot be opened, read or written in full, one that is too long, a wrong number of arguments. The exit status
-// is always 0, as for every Rattle program.
+// is 0 all the same; it is 1 only if there is no memory for the buffers.
 #![tactic(auto)]
 
 use access_unit::{StartCodes, Target};
-use error::{Refusal, Written};
-use libc::{STDIN_FILENO, STDOUT_FILENO};
+use error::Written;
+use std::alloc::{AllocError, Global};
+use std::io;
+use std::io::Input;
+use std::rt::{Env, Files};
 use still_io::{files, ground, say};
 
 // The longest file RECORD that is accepted: 64 KiB.
@@ -20,85 +23,95 @@ const LONGEST_RECORD: usize = 65536;
 // The longest file STORED that is accepted: 1 MiB.
 const LONGEST_STORED: usize = 1048576;
 
-// Writes a refusal: its number to standard output, and to standard error in words.
-fn refused(e: Refusal) {
-    ground::refused(error::number(e));
-}
-
 // Writes the answer to an input to standard output: the stream, or the refusal.
-fn answer(input: &[u8], out: &mut [u8]) {
+fn answer(rt: &(impl Print + Eprint + Alloc), input: &[u8], out: &mut [u8]) {
     let written = still_input::input_stream(input, out);
     match written {
         Written::Bytes(len) => {
-            files::write_open(STDOUT_FILENO, b"standard output", &out[..len]);
+            files::write_open(rt, &mut io::writer(rt), "standard output", &out[..len]);
         }
-        Written::Refused(e) => refused(e),
+        Written::Refused(e) => ground::refused(rt, e),
     }
 }
 
 // Reads standard input, which is never too long for its buffer here: `input_stream` refuses it then.
-fn answer_input(input: &mut [u8], out: &mut [u8]) {
-    let read = files::read_open(STDIN_FILENO, b"standard input", input.len(), input);
+fn answer_input(rt: &(impl Input + Print + Eprint + Alloc), input: &mut [u8], out: &mut [u8]) {
+    let read = files::read_open(rt, &mut rt.reader(), "standard input", input.len(), input);
     if !read.whole {
         return;
     }
     let n = read.len;
-    answer(&input[..n], out);
+    answer(rt, &input[..n], out);
 }
 
 // Writes the stream of a record and stored bytes to the file OUT. On a refusal that file is not opened.
-fn convert(record: &[u8], stored: &[u8], out: &mut [u8]) {
+fn convert(
+    rt: &(impl Env + Files + Print + Eprint + Alloc),
+    record: &[u8],
+    stored: &[u8],
+    out: &mut [u8],
+) {
     let target = Target::Unset;
     let codes = StartCodes::Four;
     let written = still_stream::still_stream(record, stored, target, codes, out);
     match written {
-        Written::Bytes(len) => files::write(3, &out[..len]),
-        Written::Refused(e) => refused(e),
+        Written::Bytes(len) => files::write(rt, 3, &out[..len]),
+        Written::Refused(e) => ground::refused(rt, e),
     }
 }
 
 // Reads the files RECORD and STORED, and writes the file OUT.
-fn convert_files(record: &mut [u8], stored: &mut [u8], out: &mut [u8]) {
-    let first = files::read(1, LONGEST_RECORD, record);
+fn convert_files(
+    rt: &(impl Env + Files + Print + Eprint + Alloc),
+    record: &mut [u8],
+    stored: &mut [u8],
+    out: &mut [u8],
+) {
+    let first = files::read(rt, 1, LONGEST_RECORD, record);
     if !first.whole {
         return;
     }
-    let second = files::read(2, LONGEST_STORED, stored);
+    let second = files::read(rt, 2, LONGEST_STORED, stored);
     if !second.whole {
         return;
     }
     let m = first.len;
     let n = second.len;
-    convert(&record[..m], &stored[..n], out);
+    convert(rt, &record[..m], &stored[..n], out);
+}
+
+// A buffer of n bytes.
+fn buffer(alloc: Global, n: usize) -> Result<Vec<u8>, AllocError> {
+    Ok(vec![in alloc; 0; n]?)
 }
 
 // Lends the buffers for standard input. The first has one byte more than is accepted, so that a longer input is noticed. The second is
 // always long enough: a stream has at most 4*record_len + stored_len + 6 bytes with the multi-layer flag clear, and
 // 4*record_len + 5*stored_len/2 with it set (crates/output_lengths); record_len + stored_len + 2 is at most 65536.
-fn from_input() {
-    let mut input = [0u8; 65537];
-    let mut out = [0u8; 262144];
-    answer_input(&mut input, &mut out);
+fn from_input(rt: &(impl Input + Print + Eprint + AllocGlobal)) -> Result<(), AllocError> {
+    let mut input = buffer(rt.alloc(), 65537)?;
+    let mut out = buffer(rt.alloc(), 262144)?;
+    answer_input(rt, &mut input, &mut out);
+    Ok(())
 }
 
-// Lends the buffers for files, 4 MB of the stack's 8 MiB. The first two have one byte more than is accepted. The last is always long enough:
-// it has 4*65536 + 5*1048576/2 bytes.
-fn from_files() {
-    let mut record = [0u8; 65537];
-    let mut stored = [0u8; 1048577];
-    let mut out = [0u8; 2883584];
-    convert_files(&mut record, &mut stored, &mut out);
+// Lends the buffers for files, 4 MB. The first two have one byte more than is accepted. The last is always long enough: it has
+// 4*65536 + 5*1048576/2 bytes.
+fn from_files(rt: &(impl Env + Files + Print + Eprint + AllocGlobal)) -> Result<(), AllocError> {
+    let mut record = buffer(rt.alloc(), 65537)?;
+    let mut stored = buffer(rt.alloc(), 1048577)?;
+    let mut out = buffer(rt.alloc(), 2883584)?;
+    convert_files(rt, &mut record, &mut stored, &mut out);
+    Ok(())
 }
 
-fn main() {
-    let count = os::arg_count();
-    if count <= 1 {
-        from_input();
-        return;
+fn main(rt: HostRuntime) -> Result<(), AllocError> {
+    if !files::is_given(&rt, 1) {
+        return from_input(&rt);
     }
-    if count == 4 {
-        from_files();
-        return;
+    if files::is_given(&rt, 3) && !files::is_given(&rt, 4) {
+        return from_files(&rt);
     }
-    say::usage();
+    say::usage(&rt);
+    Ok(())
 }

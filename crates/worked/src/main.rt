@@ -7,22 +7,22 @@ use error::Written;
 use replay_text::text;
 
 // Writes a line to standard output.
-fn show(line: &mut [u8], end: usize) {
+fn show(rt: &impl Print, line: &mut [u8], end: usize) {
     let next = text::put(line, end, b'\n');
-    io::write_all(1, text::front(line, next));
+    let _ = rt.write_all(text::front(line, next));
 }
 
 // Puts a refusal's number.
 fn put_refused(line: &mut [u8], at: usize, n: u32) -> usize {
     let next = text::put_all(line, at, b" refused with");
-    text::put_number(line, next, n as usize)
+    text::put_number(line, next, n as u64)
 }
 
 // Puts the number of bytes that a call wrote and the bytes, or its refusal.
 fn put_written(line: &mut [u8], at: usize, r: Written, out: &[u8]) -> usize {
     match r {
         Written::Bytes(n) => {
-            let next = text::put_number(line, at, n);
+            let next = text::put_number(line, at, n as u64);
             let said = text::put_all(line, next, b" bytes ");
             text::put_digits(line, said, text::front(out, n))
         }
@@ -31,7 +31,7 @@ fn put_written(line: &mut [u8], at: usize, r: Written, out: &[u8]) -> usize {
 }
 
 // Restores the item of stored bytes, flag clear, prefix size 1.
-fn restore(stored: &[u8]) {
+fn restore(rt: &impl Print, stored: &[u8]) {
     let config = CompactVvcConfig {
         multi_layer_flag: false,
         length_size: 1,
@@ -39,18 +39,18 @@ fn restore(stored: &[u8]) {
     let mut out = [0u8; 300];
     let r = item_data::item_data(config, stored, &mut out);
     let mut line = [0u8; 700];
-    let first = text::put_decimal(&mut line, 0, stored.len());
+    let first = text::put_decimal(&mut line, 0, stored.len() as u64);
     let next = text::put_all(
         &mut line,
         first,
         b" stored bytes 9a, flag clear, size 1, restore to:",
     );
     let end = put_written(&mut line, next, r, &out);
-    show(&mut line, end);
+    show(rt, &mut line, end);
 }
 
 // Strips an item, flag clear, prefix size 4.
-fn strip(item: &[u8]) {
+fn strip(rt: &impl Print, item: &[u8]) {
     let config = CompactVvcConfig {
         multi_layer_flag: false,
         length_size: 4,
@@ -61,22 +61,22 @@ fn strip(item: &[u8]) {
     let first = text::put_digits(&mut line, 0, item);
     let next = text::put_all(&mut line, first, b", flag clear, size 4, strips to:");
     let end = put_written(&mut line, next, r, &out);
-    show(&mut line, end);
+    show(rt, &mut line, end);
 }
 
 // Puts the value of an Exp-Golomb code and the number of its bits, or the refusal.
 fn put_code(line: &mut [u8], at: usize, r: BitsRead) -> usize {
     match r {
         BitsRead::Value(v, p) => {
-            let next = text::put_number(line, at, v as usize);
-            text::put_number(line, next, p.0)
+            let next = text::put_number(line, at, v as u64);
+            text::put_number(line, next, p.0 as u64)
         }
         BitsRead::Refused(e) => put_refused(line, at, error::number(e)),
     }
 }
 
 // Reads an Exp-Golomb code (SCOPE 3.5).
-fn code(s: &[u8]) {
+fn code(rt: &impl Print, s: &[u8]) {
     if 1024 < s.len() {
         return;
     }
@@ -85,14 +85,14 @@ fn code(s: &[u8]) {
     let first = text::put_digits(&mut line, 0, s);
     let next = text::put_all(&mut line, first, b" as Exp-Golomb:");
     let end = put_code(&mut line, next, r);
-    show(&mut line, end);
+    show(rt, &mut line, end);
 }
 
-fn main() {
+fn main(rt: HostRuntime) {
     let fits = [0x9au8; 253];
-    restore(&fits);
+    restore(&rt, &fits);
     let too_long = [0x9au8; 254];
-    restore(&too_long);
-    strip(b"\x00\x00\x00\x03\x40\x41\x9a");
-    code(b"\x00\x00\x00");
+    restore(&rt, &too_long);
+    strip(&rt, b"\x00\x00\x00\x03\x40\x41\x9a");
+    code(&rt, b"\x00\x00\x00");
 }

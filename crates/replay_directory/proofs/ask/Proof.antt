@@ -64,14 +64,14 @@ use Rattle.replay_directory.specs.contracts.Answers as R
 use Rattle.replay_directory.proofs.Answers.TheLaws as R'
 use Rattle.replay_directory.proofs.LocalDirectory.{Eight, eight_vals, eight_val, EightIs, eight_slot, slot, eight_long, eight_room, Row}
 use Rattle.replay_directory.proofs.LocalDirectory.{eight_typed, local_row, row_local}
-use Rattle.directory_ask.specs.contracts.nal_unit_at as place'
-use Rattle.directory_ask.proofs.nal_unit_at.Symbol as place-def
-use Rattle.directory_ask.proofs.nal_unit_at.Symbol.{name as #nal-unit-at}
-use Rattle.directory_ask.proofs.nal_unit_at.Met as place-thm
-use Rattle.directory_ask.specs.contracts.nal_count_of_type as count'
-use Rattle.directory_ask.proofs.nal_count_of_type.Symbol as count-def
-use Rattle.directory_ask.proofs.nal_count_of_type.Symbol.{name as #nal-count-of-type}
-use Rattle.directory_ask.proofs.nal_count_of_type.Met as count-thm
+use Rattle.directory.specs.contracts.nal_unit_at as place'
+use Rattle.directory.proofs.nal_unit_at.Symbol as place-def
+use Rattle.directory.proofs.nal_unit_at.Symbol.{name as #nal-unit-at}
+use Rattle.directory.proofs.nal_unit_at.Met as place-thm
+use Rattle.directory.specs.contracts.nal_count_of_type as count'
+use Rattle.directory.proofs.nal_count_of_type.Symbol as count-def
+use Rattle.directory.proofs.nal_count_of_type.Symbol.{name as #nal-count-of-type}
+use Rattle.directory.proofs.nal_count_of_type.Met as count-thm
 use Rattle.replay_directory.specs.contracts.ask.Key.{name as #ask}
 use Rattle.replay_directory.specs.contracts.ask as f
 use Rattle.replay_directory.proofs.ask.Statement as stated
@@ -302,6 +302,6 @@ ask_spec 𝓤 𝓛 𝓜 𝓡 =
     (tables 𝓤 𝓛.H 𝓜 𝓡 code.env).C (tables 𝓤 𝓛.H 𝓜 𝓡 code.env).Λ #ask code.function (code.unfolded 𝓤 𝓛.H 𝓜 𝓡)
     (meets 𝓛 𝓜.mem 𝓡.run (tables_of 𝓤 𝓛.H 𝓜 (tables 𝓤 𝓛.H 𝓜 𝓡 code.env))
     (cited 𝓤 𝓛.H (Place 𝓛 𝓜.mem 𝓡.run) 𝓜 𝓡 code.env #nal-unit-at place-def.routine
-    code.calls-directory-ask::nal-unit-at (place-thm.met 𝓤 𝓛 𝓜 𝓡))
+    code.calls-directory::nal-unit-at (place-thm.met 𝓤 𝓛 𝓜 𝓡))
     (cited 𝓤 𝓛.H (Count 𝓛 𝓜.mem 𝓡.run) 𝓜 𝓡 code.env #nal-count-of-type count-def.routine
-    code.calls-directory-ask::nal-count-of-type (count-thm.met 𝓤 𝓛 𝓜 𝓡)))
+    code.calls-directory::nal-count-of-type (count-thm.met 𝓤 𝓛 𝓜 𝓡)))

@@ -1,4 +1,4 @@
--- `fill` is safe and ends: a walk of its MIR, by hand. The directory in a local is lent to `directory_fill::fill` and taken back with the entries that it
+-- `fill` is safe and ends: a walk of its MIR, by hand. The directory in a local is lent to `directory::fill` and taken back with the entries that it
 -- then has; the totals are given on.
 use mathlib.Core.Path.{◌≡◌, refl, sym, ◌∙◌, subst}
 use Prim.Native.Nat.{ℕ}
@@ -64,10 +64,10 @@ use Rattle.replay_directory.specs.contracts.Filled as R
 use Rattle.replay_directory.proofs.Filled.TheLaws as R'
 use Rattle.replay_directory.proofs.LocalDirectory.{Eight, eight_vals, eight_val, EightIs, eight_slot, slot, eight_long, eight_room, eight_field}
 use Rattle.replay_directory.proofs.LocalDirectory.{Row, eight_typed, local_row, row_local}
-use Rattle.directory_fill.specs.contracts.fill as dir
-use Rattle.directory_fill.proofs.fill.Symbol as dir-def
-use Rattle.directory_fill.proofs.fill.Symbol.{name as #directory·fill}
-use Rattle.directory_fill.proofs.fill.Met as dir-thm
+use Rattle.directory.specs.contracts.fill as dir
+use Rattle.directory.proofs.fill.Symbol as dir-def
+use Rattle.directory.proofs.fill.Symbol.{name as #directory·fill}
+use Rattle.directory.proofs.fill.Met as dir-thm
 use Rattle.replay_directory.specs.contracts.fill.Key.{name as #fill}
 use Rattle.replay_directory.specs.contracts.fill as f
 use Rattle.replay_directory.proofs.fill.Statement as stated
@@ -144,7 +144,7 @@ module _ {M : Type 1} {𝓤 : Ura M} (𝓛 : Logic 𝓤) (mem : Memory → SProp
     abbrev All : ℕ → Item 𝓤
     All ν = ‵ (flft κ q) ⊛ Tokens (ν ∷ []) full_share κ' q'
 
-    -- the call of `directory_fill::fill`, to which the parameters are given
+    -- the call of `directory::fill`, to which the parameters are given
     abbrev to_dir : ℕ → ℕ → GName → Dir.Ghost
     to_dir b ν δ = (
       (
@@ -195,7 +195,7 @@ module _ {M : Type 1} {𝓤 : Ura M} (𝓛 : Logic 𝓤) (mem : Memory → SProp
           -- [the slice; the lender's part; ν's token; _9; …; …; (_4's right to be freed); …; room for _0; …; the tokens; what the parameters own]
           rewrite ! 7 (λ (m : ℕ). ‵ (fat full_share lent_ty l₇ 0 (slice_val (l₄, 0) m))) (sym (eight_long ds ds-is)) refl $
           move ! (2 ∷ 0 ∷ []) $ join ! $ move ! (21 ∷ 22 ∷ 0 ∷ []) $ use3 𝓛 (raw (Dir.pre (to_dir l₄ ν δ))) (asks_dir l₄ ν δ) $
-          -- [what `directory_fill::fill` asks; the lender's part; _9; …; _8; …; _7; …; _6; …; _5; …; (_4's right); _3; …; _2; …; _1; …; room for _0; …]
+          -- [what `directory::fill` asks; the lender's part; _9; …; _8; …; _7; …; _6; …; _5; …; (_4's right); _3; …; _2; …; _1; …; room for _0; …]
           calls_at ! (fm_of 𝓤 H 𝓛.laws 𝓣) Dir known-dir (to_dir l₄ ν δ) (and_then ! (load ! (from ! (stop !)) (look ! 17 refl))
           (and_then ! (load ! (from ! (stop !)) (look ! 6 refl)) (and_then ! (load ! (from ! (stop !)) (look ! 4 refl)) (no_more !)))) (λ w.
           use1 𝓛 (later (some (λ (c : Counted). (All ν ⊛ ‵ ((C.the_row).own_val c (w ∷ [])))
@@ -255,4 +255,4 @@ fill_spec 𝓤 𝓛 𝓜 𝓡 =
     (tables 𝓤 𝓛.H 𝓜 𝓡 code.env).C (tables 𝓤 𝓛.H 𝓜 𝓡 code.env).Λ #fill code.function (code.unfolded 𝓤 𝓛.H 𝓜 𝓡)
     (meets 𝓛 𝓜.mem 𝓡.run (tables_of 𝓤 𝓛.H 𝓜 (tables 𝓤 𝓛.H 𝓜 𝓡 code.env))
     (cited 𝓤 𝓛.H (Dir 𝓛 𝓜.mem 𝓡.run) 𝓜 𝓡 code.env #directory·fill dir-def.routine
-    code.calls-directory-fill::fill (dir-thm.met 𝓤 𝓛 𝓜 𝓡)))
+    code.calls-directory::fill (dir-thm.met 𝓤 𝓛 𝓜 𝓡)))

@@ -54,10 +54,10 @@ use Rattle.directory.proofs.Values.{asked_val, AskedIs, asked_typed}
 use Rattle.directory.proofs.Lent.{list_val, totals_val, totals_slot, Tokens}
 use Rattle.replay_directory.proofs.LocalDirectory.{Eight, eight_vals, eight_val, EightIs, eight_slot, slot, eight_long, eight_room, Row}
 use Rattle.replay_directory.proofs.LocalDirectory.{eight_typed, local_row, row_local}
-use Rattle.directory_ask.specs.contracts.nal_unit as nal
-use Rattle.directory_ask.proofs.nal_unit.Symbol as nal-def
-use Rattle.directory_ask.proofs.nal_unit.Symbol.{name as #nal-unit}
-use Rattle.directory_ask.proofs.nal_unit.Met as nal-thm
+use Rattle.directory.specs.contracts.nal_unit as nal
+use Rattle.directory.proofs.nal_unit.Symbol as nal-def
+use Rattle.directory.proofs.nal_unit.Symbol.{name as #nal-unit}
+use Rattle.directory.proofs.nal_unit.Met as nal-thm
 use Rattle.replay_directory.specs.contracts.unit.Key.{name as #unit}
 use Rattle.replay_directory.specs.contracts.unit as f
 use Rattle.replay_directory.proofs.unit.Statement as stated
@@ -210,4 +210,4 @@ unit_spec 𝓤 𝓛 𝓜 𝓡 =
     (tables 𝓤 𝓛.H 𝓜 𝓡 code.env).C (tables 𝓤 𝓛.H 𝓜 𝓡 code.env).Λ #unit code.function (code.unfolded 𝓤 𝓛.H 𝓜 𝓡)
     (meets 𝓛 𝓜.mem 𝓡.run (tables_of 𝓤 𝓛.H 𝓜 (tables 𝓤 𝓛.H 𝓜 𝓡 code.env))
     (cited 𝓤 𝓛.H (Nal 𝓛 𝓜.mem 𝓡.run) 𝓜 𝓡 code.env #nal-unit nal-def.routine
-    code.calls-directory-ask::nal-unit (nal-thm.met 𝓤 𝓛 𝓜 𝓡)))
+    code.calls-directory::nal-unit (nal-thm.met 𝓤 𝓛 𝓜 𝓡)))

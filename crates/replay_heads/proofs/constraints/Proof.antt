@@ -7,13 +7,16 @@ use Rattle.replay_heads.proofs.constraints.Statement.{statement}
 use Rattle.replay_heads.proofs.constraints.Tie as tie
 
 abbrev invariant-loop : tie.invariant-loop
-invariant-loop s n fill bytes₀ i₀ bytes i = length bytes ≡ 63
+invariant-loop s at n fill bytes₀ i₀ bytes i = length bytes ≡ 63
 
 abbrev decreases-loop : tie.decreases-loop
-decreases-loop s n fill bytes₀ i₀ bytes i = 63 - i
+decreases-loop s at n fill bytes₀ i₀ bytes i = 63 - i
 
 loop-holds : tie.Need-loop-init invariant-loop decreases-loop
 loop-holds c = search rules
+
+plus-requires : tie.Need-plus-requires invariant-loop decreases-loop
+plus-requires c κs = search rules
 
 byte-or-requires : tie.Need-byte-or-requires invariant-loop decreases-loop
 byte-or-requires c κs = search rules
@@ -40,6 +43,7 @@ constraints_spec =
     invariant-loop
     decreases-loop
     loop-holds
+    plus-requires
     byte-or-requires
     array-write-bytes
     add-i

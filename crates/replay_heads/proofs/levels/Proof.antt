@@ -7,19 +7,22 @@ use Rattle.replay_heads.proofs.levels.Statement.{statement}
 use Rattle.replay_heads.proofs.levels.Tie as tie
 
 abbrev invariant-loop : tie.invariant-loop
-invariant-loop s n fill bytes₀ i₀ bytes i = length bytes ≡ 7
+invariant-loop s at n fill bytes₀ i₀ bytes i = length bytes ≡ 7
 
 abbrev decreases-loop : tie.decreases-loop
-decreases-loop s n fill bytes₀ i₀ bytes i = 7 - i
+decreases-loop s at n fill bytes₀ i₀ bytes i = 7 - i
 
 loop-holds : tie.Need-loop-init invariant-loop decreases-loop
 loop-holds c = search rules
 
-mul-byte-or : tie.Need-overflow-mul-byte-or invariant-loop decreases-loop
-mul-byte-or c = search rules
+mul-plus : tie.Need-overflow-mul-plus invariant-loop decreases-loop
+mul-plus c = search rules
 
-add-byte-or : tie.Need-overflow-add-byte-or invariant-loop decreases-loop
-add-byte-or c = search rules
+add-plus : tie.Need-overflow-add-plus invariant-loop decreases-loop
+add-plus c = search rules
+
+plus-requires : tie.Need-plus-requires invariant-loop decreases-loop
+plus-requires c κs = search rules
 
 byte-or-requires : tie.Need-byte-or-requires invariant-loop decreases-loop
 byte-or-requires c κs = search rules
@@ -46,8 +49,9 @@ levels_spec =
     invariant-loop
     decreases-loop
     loop-holds
-    mul-byte-or
-    add-byte-or
+    mul-plus
+    add-plus
+    plus-requires
     byte-or-requires
     array-write-bytes
     add-i

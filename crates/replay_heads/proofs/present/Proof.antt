@@ -7,16 +7,19 @@ use Rattle.replay_heads.proofs.present.Statement.{statement}
 use Rattle.replay_heads.proofs.present.Tie as tie
 
 abbrev invariant-loop : tie.invariant-loop
-invariant-loop s n fill flags₀ i₀ flags i = length flags ≡ 7
+invariant-loop s at n fill flags₀ i₀ flags i = length flags ≡ 7
 
 abbrev decreases-loop : tie.decreases-loop
-decreases-loop s n fill flags₀ i₀ flags i = 7 - i
+decreases-loop s at n fill flags₀ i₀ flags i = 7 - i
 
 loop-holds : tie.Need-loop-init invariant-loop decreases-loop
 loop-holds c = search rules
 
-mul-byte-or : tie.Need-overflow-mul-byte-or invariant-loop decreases-loop
-mul-byte-or c = search rules
+mul-plus : tie.Need-overflow-mul-plus invariant-loop decreases-loop
+mul-plus c = search rules
+
+plus-requires : tie.Need-plus-requires invariant-loop decreases-loop
+plus-requires c κs = search rules
 
 byte-or-requires : tie.Need-byte-or-requires invariant-loop decreases-loop
 byte-or-requires c κs = search rules
@@ -43,7 +46,8 @@ present_spec =
     invariant-loop
     decreases-loop
     loop-holds
-    mul-byte-or
+    mul-plus
+    plus-requires
     byte-or-requires
     array-write-flags
     add-i

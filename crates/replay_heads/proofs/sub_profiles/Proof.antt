@@ -7,16 +7,19 @@ use Rattle.replay_heads.proofs.sub_profiles.Statement.{statement}
 use Rattle.replay_heads.proofs.sub_profiles.Tie as tie
 
 abbrev invariant-loop : tie.invariant-loop
-invariant-loop s n fill values₀ i₀ values i = length values ≡ 255
+invariant-loop s at n fill values₀ i₀ values i = length values ≡ 255
 
 abbrev decreases-loop : tie.decreases-loop
-decreases-loop s n fill values₀ i₀ values i = 255 - i
+decreases-loop s at n fill values₀ i₀ values i = 255 - i
 
 loop-holds : tie.Need-loop-init invariant-loop decreases-loop
 loop-holds c = search rules
 
-mul-four-or : tie.Need-overflow-mul-four-or invariant-loop decreases-loop
-mul-four-or c = search rules
+mul-plus : tie.Need-overflow-mul-plus invariant-loop decreases-loop
+mul-plus c = search rules
+
+plus-requires : tie.Need-plus-requires invariant-loop decreases-loop
+plus-requires c κs = search rules
 
 four-or-requires : tie.Need-four-or-requires invariant-loop decreases-loop
 four-or-requires c κs = search rules
@@ -46,7 +49,8 @@ sub_profiles_spec =
     invariant-loop
     decreases-loop
     loop-holds
-    mul-four-or
+    mul-plus
+    plus-requires
     four-or-requires
     mul-values
     array-write-values

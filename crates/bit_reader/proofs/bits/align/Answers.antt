@@ -1,6 +1,5 @@
 -- `align` returns the next whole byte: it computes what the definition says.
 use mathlib.Core.Path.{refl}
-use borrow.Author.Rules.{rules}
 use Rattle.bit_reader.specs.Bits.{align}
 use Rattle.bit_reader.proofs.bits.align.Goals as goal
 

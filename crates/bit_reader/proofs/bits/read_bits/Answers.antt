@@ -2,8 +2,7 @@
 use lib.Dec.{leb}
 use mathlib.Core.Bool.{true}
 use native.Mathlib.Numerals.{add-one}
-use borrow.Author.Tests.{not-true, not-false, leb-true}
-use Prim.Native.Nat.{◌+◌, ◌*◌, ◌-◌, ◌≤◌}
+use Prim.Native.Nat.{◌+◌, ◌*◌}
 use mathlib.Core.Path.{◌≡◌, sym, ◌∙◌}
 use native.Mathlib.Omega.{arith}
 use borrow.Author.Rules.{rules}
@@ -27,7 +26,7 @@ overflow_mul-v c =
 
 pub overflow_add-v : goal.overflow_add-v
 overflow_add-v c =
-    let a = c.args in 
+    let a = c.args in
     omega (arith, bits_fit a.s.now a.at.0 c.loop-k.k (omega arith))
 
 pub loop-k-preserved : goal.loop-k-preserved

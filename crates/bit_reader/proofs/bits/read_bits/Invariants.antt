@@ -1,15 +1,7 @@
 -- `read_bits` returns u(n): after k turns the loop has the number of the first k bits.
-use lib.Dec.{leb}
-use mathlib.Core.Bool.{true}
-use native.Mathlib.Numerals.{add-one}
-use borrow.Author.Tests.{not-true, not-false, leb-true}
-use Prim.Native.Nat.{◌+◌, ◌*◌, ◌-◌, ◌≤◌}
-use mathlib.Core.Path.{◌≡◌, sym, ◌∙◌}
-use native.Mathlib.Omega.{arith}
-use borrow.Author.Rules.{rules}
-use lib.ListN.{length}
+use Prim.Native.Nat.{◌-◌, ◌≤◌}
+use mathlib.Core.Path.{◌≡◌}
 use Rattle.bit_reader.specs.Bits.{bits_at}
-use Rattle.bit_reader.proofs.Numbers.{bits_fit, u_short, u_there}
 use Rattle.bit_reader.proofs.bits.read_bits.Given as goal
 
 abbrev pub invariant-loop-k : goal.invariant-loop-k

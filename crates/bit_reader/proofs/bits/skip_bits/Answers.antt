@@ -1,12 +1,9 @@
 -- `skip_bits` passes over bits as the definition does.
 use lib.Dec.{leb}
 use mathlib.Core.Bool.{true}
-use borrow.Author.Tests.{not-true, not-false, leb-true}
 use Prim.Native.Nat.{◌+◌, ◌*◌}
 use mathlib.Core.Path.{◌≡◌, sym, ◌∙◌}
-use native.Mathlib.Omega.{arith}
 use lib.ListN.{length}
-use borrow.Author.Rules.{rules}
 use Rattle.bit_reader.specs.Bits.{skip}
 use Rattle.bit_reader.proofs.bits.skip_bits.Goals as goal
 

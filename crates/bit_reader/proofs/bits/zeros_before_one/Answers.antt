@@ -1,13 +1,11 @@
 -- `zeros_before_one` counts the zeros before the next 1: the count from where the loop is makes up the whole count.
 use lib.Dec.{leb}
 use mathlib.Core.Bool.{true}
-use borrow.Author.Tests.{not-true, not-false, leb-true}
-use Prim.Native.Nat.{◌+◌, ◌*◌, ◌-◌, ◌≤◌}
-use mathlib.Core.Path.{◌≡◌, refl, sym, ◌∙◌}
+use Prim.Native.Nat.{◌+◌, ◌*◌, ◌-◌}
+use mathlib.Core.Path.{◌≡◌, sym, ◌∙◌}
 use native.Mathlib.Omega.{arith}
 use borrow.Author.Rules.{rules}
 use lib.ListN.{length}
-use Rattle.bit_reader.specs.Bits.{zeros_before_one}
 use Rattle.bit_reader.proofs.Numbers.{zeros_out, zeros_one, zeros_more, zeros_none}
 use Rattle.bit_reader.proofs.bits.zeros_before_one.Goals as goal
 
@@ -25,8 +23,7 @@ returns-then-bit-eq1 c =
 pub loop-z-preserved : goal.loop-z-preserved
 loop-z-preserved c =
     let room : leb (c.loop-z.here.0 + 1) (8 * length c.args.s.now) ≡ true =
-    sym c.has_bits.ensures ∙ c.if-not-has_bits.false in
-    (
+    sym c.has_bits.ensures ∙ c.if-not-has_bits.false in (
       search rules,
       rw c.on-next.ensures (c.loop-z.invariant.1 ∙ zeros_more _ c.loop-z.z _ (32 - (c.loop-z.z + 1)) _ (omega arith) (room)
           (λ e. c.if-bit-eq1.false (c.bit.ensures ∙ e))),

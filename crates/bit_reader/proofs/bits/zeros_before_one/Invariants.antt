@@ -1,14 +1,7 @@
 -- `zeros_before_one` counts the zeros before the next 1: the count from where the loop is makes up the whole count.
-use lib.Dec.{leb}
-use mathlib.Core.Bool.{true}
-use borrow.Author.Tests.{not-true, not-false, leb-true}
-use Prim.Native.Nat.{◌+◌, ◌*◌, ◌-◌, ◌≤◌}
-use mathlib.Core.Path.{◌≡◌, refl, sym, ◌∙◌}
-use native.Mathlib.Omega.{arith}
-use borrow.Author.Rules.{rules}
-use lib.ListN.{length}
+use Prim.Native.Nat.{◌-◌, ◌≤◌}
+use mathlib.Core.Path.{◌≡◌}
 use Rattle.bit_reader.specs.Bits.{zeros_before_one}
-use Rattle.bit_reader.proofs.Numbers.{zeros_out, zeros_one, zeros_more, zeros_none}
 use Rattle.bit_reader.proofs.bits.zeros_before_one.Given as goal
 
 abbrev pub invariant-loop-z : goal.invariant-loop-z

@@ -2,8 +2,6 @@
 use Prim.Native.Nat.{ℕ}
 use mathlib.Core.Path.{◌≡◌, sym, ap, ◌∙◌}
 use native.Mathlib.Omega.{arith}
-use borrow.Author.Rules.{rules}
-use Rattle.boxes.proofs.PrefixSizes.{size_inside}
 use Rattle.split.specs.Answers.{item_step}
 use Rattle.split.proofs.Items.{step_end, next_too_long, next_outside, next_step}
 use Rattle.split.proofs.next_item_unit.Goals as goal

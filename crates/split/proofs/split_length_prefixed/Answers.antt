@@ -1,6 +1,5 @@
 -- `split_length_prefixed` is the part of the item where unit k lies.
 use mathlib.Core.Path.{subst}
-use borrow.Author.Rules.{rules}
 use Rattle.boxes.specs.Parts.{PartOf}
 use Rattle.boxes.proofs.Places.{place_found_lem}
 use Rattle.split.specs.Item.{split_item}

@@ -1,11 +1,10 @@
 -- `split_length_prefixed_at` says where unit k of an item lies: the units are counted first, so that a refusal after unit k is found.
 use mathlib.Core.Path.{◌≡◌, sym, ap, ◌∙◌}
 use native.Mathlib.Omega.{arith}
-use borrow.Author.Rules.{rules}
 use Rattle.parse.specs.Answers.{count_of}
 use Rattle.boxes.specs.Walk.{count_found}
 use Rattle.boxes.specs.Places.{in_first}
-use Rattle.boxes.proofs.Places.{place_refused, place_past, place_there}
+use Rattle.boxes.proofs.Places.{place_past, place_there}
 use Rattle.split.specs.Item.{split_item}
 use Rattle.split.proofs.Items.{Sound, split_sound}
 use Rattle.split.proofs.split_length_prefixed_at.Goals as goal

@@ -2,7 +2,6 @@
 use Prim.Native.Nat.{◌≤◌}
 use mathlib.Core.Path.{◌≡◌, sym, ap, ◌∙◌}
 use native.Mathlib.Omega.{arith}
-use borrow.Author.Rules.{rules}
 use Rattle.boxes.specs.Walk.{count_found}
 use Rattle.boxes.proofs.PrefixSizes.{size_inside}
 use Rattle.split.proofs.Items.{split_too_long, split_lent, items_outside, items_left}

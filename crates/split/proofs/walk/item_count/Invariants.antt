@@ -1,14 +1,10 @@
 -- `walk::item_count` counts the units of an item. The loop's invariant: those passed and those left are all.
 use Prim.Native.Nat.{◌-◌, ◌≤◌}
 use mathlib.Core.Path.{◌≡◌}
-use native.Mathlib.Omega.{arith}
-use borrow.Author.Rules.{rules}
 use lib.ListN.{length}
 use Rattle.boxes.specs.Walk.{count_found}
-use Rattle.boxes.proofs.Walk.{plus, plus_zero}
+use Rattle.boxes.proofs.Walk.{plus}
 use Rattle.split.specs.inner.Walk.{item_units_from}
-use Rattle.split.proofs.Walks.{count_on, count_end, count_refused}
-use Rattle.split.proofs.Items.{Turn, found_unit_lem, found_end, found_refusal}
 use Rattle.split.proofs.walk.item_count.Given as goal
 
 abbrev pub invariant-loop-next : goal.invariant-loop-next

@@ -3,7 +3,6 @@ use Prim.Native.Nat.{◌<◌}
 use mathlib.Core.Path.{◌≡◌, sym}
 use native.Mathlib.Omega.{arith}
 use lib.ListN.{length}
-use borrow.Author.Rules.{rules}
 use Rattle.boxes.specs.Bytes.{be}
 use Rattle.split.proofs.Items.{step_end, step_no_length, step_zero, step_no_bytes, step_there}
 use Rattle.split.proofs.walk.item_step.Goals as goal

@@ -1,14 +1,10 @@
 -- `walk::item_unit` finds unit k of an item. The loop's invariant: what is left has more than `skip` units, and unit `skip` of it is unit k.
 use Prim.Native.Nat.{◌-◌, ◌≤◌, ◌<◌}
-use mathlib.Core.Path.{◌≡◌, refl}
-use native.Mathlib.Omega.{arith}
-use borrow.Author.Rules.{rules}
+use mathlib.Core.Path.{◌≡◌}
 use lib.ListN.{length}
 use Rattle.boxes.specs.Walk.{found}
-use Rattle.boxes.proofs.Walk.{total, total_count}
+use Rattle.boxes.proofs.Walk.{total}
 use Rattle.split.specs.inner.Walk.{item_units_from}
-use Rattle.split.proofs.Walks.{find_here, find_on}
-use Rattle.split.proofs.Items.{Turn, found_unit_lem, found_none}
 use Rattle.split.proofs.walk.item_unit.Given as goal
 
 abbrev pub invariant-loop-a : goal.invariant-loop-a

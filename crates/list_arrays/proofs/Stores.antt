@@ -2,14 +2,11 @@
 use Prim.Native.Nat.{ℕ, ◌+◌, ◌-◌, ◌*◌, ◌/◌, ◌%◌, ◌≤◌, ◌<◌}
 use mathlib.Core.Path.{◌≡◌, refl, sym, ap, ◌∙◌}
 use mathlib.Core.Bool.{true, false}
-use mathlib.Core.Logic.{⊎_elim}
 use mathlib.Core.List.{List, [], ◌∷◌, ◌++◌}
 use native.Mathlib.Omega.{arith}
 use native.Mathlib.Numerals.{add-one}
 use lib.ListN.{length, set, length-append, length-set}
 use lib.Seq.{sets, length-sets}
-use types.Run.{OneOf}
-use denote.Enum.Declared.{tag_of}
 use Rattle.parse.specs.Outcome.{Outcome, accept, refuse, and_then}
 use Rattle.parse.specs.inner.Walk.{more}
 use Rattle.parse.specs.inner.Stores.{Puts, bytes_of}
@@ -26,8 +23,6 @@ use Rattle.unit_list.specs.declared.ListStep.{ListStep}
 use Rattle.unit_list.specs.declared.ListStep.TheVariants as L
 use Rattle.unit_list.specs.declared.ArrayStep.{ArrayStep}
 use Rattle.unit_list.specs.declared.ArrayStep.TheVariants as A
-use Rattle.unit_list.specs.contracts.ListStep as list-step
-use Rattle.unit_list.specs.contracts.ArrayStep as array-step
 use Rattle.unit_list.proofs.Encode.{length_array}
 use Rattle.unit_list.proofs.StoredUnits.{Copying, copying_start, copying_never, copying_done, copying_room, copying_again}
 use Rattle.unit_list.proofs.Written as written
@@ -53,14 +48,14 @@ module _ (w : ℕ) (s : List ℕ) (c : ListCursor) (out₀ : List ℕ) (to₀ : 
 
   module _ (here : ListCursor) (out : List ℕ) (to : ℕ) (i : PuttingUnits w s c out₀ to₀ here out to) (r : ListStep)
       (f : (units_stepped s r ≡ array_units_from s here) × UnitStepFits s here r) where
-    pub units_done : OneOf (1 ∷ 2 ∷ []) (tag_of list-step.the_type r)
+    pub units_done : ((a : Span) (n : ListCursor) → r ≡ L.Unit a n → ⊥)
         → (to ≡ to₀ + length (bytes_of (unit_bytes w s) (array_units_from s c))) × (out ≡ sets out₀ to₀ (bytes_of (unit_bytes w s) (array_units_from s c)))
     units_done = go r f
       where
-        go : (r : ListStep) → (units_stepped s r ≡ array_units_from s here) × UnitStepFits s here r → OneOf (1 ∷ 2 ∷ []) (tag_of list-step.the_type r)
+        go : (r : ListStep) → (units_stepped s r ≡ array_units_from s here) × UnitStepFits s here r → ((a : Span) (n : ListCursor) → r ≡ L.Unit a n → ⊥)
             → (to ≡ to₀ + length (bytes_of (unit_bytes w s) (array_units_from s c)))
             × (out ≡ sets out₀ to₀ (bytes_of (unit_bytes w s) (array_units_from s c)))
-        go (L.Unit a next) f k = absurd (⊎_elim (λ h. omega arith) (λ h. omega arith) k)
+        go (L.Unit a next) f k = absurd (k a next refl)
         go L.End f k = copying_done w s out₀ to₀ (array_units_from s c) (array_units_from s here) out to i.putting (sym f.0)
         go L.Malformed f k = absurd (copying_never w s out₀ to₀ (array_units_from s c) (array_units_from s here) out to i.putting 21 (sym f.0))
 
@@ -226,12 +221,12 @@ module _ (l : Layout) (s : List ℕ) (c₀ : ListCursor) (out₀ : List ℕ) (to
 
   module _ (here : ListCursor) (out : List ℕ) (to : ℕ) (i : PuttingArrays l s c₀ out₀ to₀ here out to) (r : ArrayStep)
       (f : (arrays_stepped s r ≡ arrays_from s here) × ArrayStepFits s here r) where
-    pub arrays_done : OneOf (1 ∷ 2 ∷ []) (tag_of array-step.the_type r) → out ≡ sets out₀ to₀ (bytes_of (arrays_laid l s) (arrays_from s c₀))
+    pub arrays_done : ((b : ℕ) (c : ListCursor) → r ≡ A.Array b c → ⊥) → out ≡ sets out₀ to₀ (bytes_of (arrays_laid l s) (arrays_from s c₀))
     arrays_done = go r f
       where
-        go : (r : ArrayStep) → (arrays_stepped s r ≡ arrays_from s here) × ArrayStepFits s here r → OneOf (1 ∷ 2 ∷ []) (tag_of array-step.the_type r)
+        go : (r : ArrayStep) → (arrays_stepped s r ≡ arrays_from s here) × ArrayStepFits s here r → ((b : ℕ) (c : ListCursor) → r ≡ A.Array b c → ⊥)
             → out ≡ sets out₀ to₀ (bytes_of (arrays_laid l s) (arrays_from s c₀))
-        go (A.Array b c) f n = absurd (⊎_elim (λ h. omega arith) (λ h. omega arith) n)
+        go (A.Array b c) f n = absurd (n b c refl)
         go A.End f n =
             (putting_end (arrays_laid l s) out₀ to₀ (arrays_from s c₀) (arrays_from s here) out to i.putting (arrays_nil l s) (sym f.0)).1
         go A.Malformed f n =

@@ -1,10 +1,10 @@
 -- Laws of `sets`, what a run of stores leaves: stores one after the other, in another order, and from the front on.
 use Prim.Native.Nat.{ℕ, suc, ◌+◌, ◌-◌, ◌/◌, ◌%◌, ◌≤◌, ◌<◌}
 use mathlib.Core.Path.{◌≡◌, refl, sym, ap, ◌∙◌}
-use mathlib.Core.List.{List, [], ◌++◌, append-nil, append_assoc}
+use mathlib.Core.List.{List, append_assoc}
 use native.Mathlib.Omega.{arith}
-use lib.ListN.{length, set, take, drop, length-drop, drop_of_length-le}
-use lib.Seq.{sets, sets-eq, take_all, take_at, take-add, take-length, length-take-le, drop-drop}
+use lib.ListN.{length, set, take, drop}
+use lib.Seq.{sets, sets-eq, take_at, take-add, length-take-le, drop-drop}
 use borrow.Rule.Slice.PartMut.{put_mid, mid_of}
 use Rattle.parse.proofs.General.{sets_append, sets_last}
 use Rattle.boxes.specs.Bytes.{to_be}

@@ -16,7 +16,6 @@ returns-in-0-to-11 c =
 
 pub returns-in_default : goal.returns-in_default
 returns-in_default c =
-
     sym (kind_other c.args.nal_unit_type (omega arith) (λ e. omega arith) (λ e. omega arith))
 
 pub returns-in-12-to-17 : goal.returns-in-12-to-17

@@ -1,6 +1,5 @@
 -- `extract_rbsp` leaves the RBSP in the lent output, or refuses with 23 or 20 and leaves the output unchanged.
 use native.Mathlib.Omega.{arith}
-use borrow.Author.Rules.{rules}
 use Rattle.rbsp.proofs.Filling.{extract_long, extract_short, extract_done}
 use Rattle.rbsp.proofs.extract_rbsp.Goals as goal
 

@@ -1,11 +1,8 @@
 -- `place::copy` leaves the source's bytes from the place on, and no other byte changed. The loop's invariant: the first `done` bytes are copied.
-use Prim.Native.Nat.{ℕ, ◌+◌, ◌-◌, ◌≤◌, ◌<◌}
-use mathlib.Core.Path.{◌≡◌, ap, ◌∙◌}
-use native.Mathlib.Omega.{arith}
-use borrow.Author.Rules.{rules}
-use lib.ListN.{length, take, drop}
-use lib.Seq.{sets, take-length, length-sets}
-use Rattle.boxes.proofs.Sets.{sets_next}
+use Prim.Native.Nat.{◌-◌, ◌≤◌}
+use mathlib.Core.Path.{◌≡◌}
+use lib.ListN.{length, take}
+use lib.Seq.{sets}
 use Rattle.boxes.proofs.place.copy.Given as goal
 
 abbrev pub invariant-loop-done : goal.invariant-loop-done

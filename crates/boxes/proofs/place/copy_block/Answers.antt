@@ -1,7 +1,4 @@
 -- `place::copy_block` leaves the source's bytes from the place on: the front of the block holds them.
-use Prim.Native.Nat.{◌-◌}
-use native.Mathlib.Omega.{arith}
-use borrow.Author.Rules.{rules}
 use Rattle.boxes.proofs.Sets.{sets_by_block}
 use Rattle.boxes.proofs.place.copy_block.Goals as goal
 

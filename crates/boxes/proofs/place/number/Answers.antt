@@ -1,6 +1,4 @@
 -- `place::number` is the number of the bytes from the place on. The loop's invariant: `n` is the number of the first `k` of them.
-use Prim.Native.Nat.{◌-◌, ◌^◌, ◌≤◌, ◌<◌}
-use mathlib.Core.Path.{◌≡◌}
 use native.Mathlib.Omega.{arith}
 use borrow.Author.Rules.{rules}
 use Rattle.boxes.specs.Bytes.{be}
@@ -21,9 +19,8 @@ overflow_add-n c =
     omega (arith, below_four c.loop-k.n c.loop-k.k (omega arith) c.loop-k.invariant.2)
 
 pub loop-k-preserved : goal.loop-k-preserved
-loop-k-preserved c =
-    (
-      omega arith,
-      omega (arith, be_more c.args.s.now c.args.at c.loop-k.k),
-      below_more c.loop-k.n c.loop-k.k c.wide.result c.loop-k.invariant.2 c.wide.ensures.1,
-    )
+loop-k-preserved c = (
+  omega arith,
+  omega (arith, be_more c.args.s.now c.args.at c.loop-k.k),
+  below_more c.loop-k.n c.loop-k.k c.wide.result c.loop-k.invariant.2 c.wide.ensures.1,
+)

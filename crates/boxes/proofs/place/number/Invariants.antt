@@ -1,10 +1,7 @@
 -- `place::number` is the number of the bytes from the place on. The loop's invariant: `n` is the number of the first `k` of them.
 use Prim.Native.Nat.{◌-◌, ◌^◌, ◌≤◌, ◌<◌}
 use mathlib.Core.Path.{◌≡◌}
-use native.Mathlib.Omega.{arith}
-use borrow.Author.Rules.{rules}
 use Rattle.boxes.specs.Bytes.{be}
-use Rattle.boxes.proofs.Numbers.{be_more, below_more, below_four}
 use Rattle.boxes.proofs.place.number.Given as goal
 
 abbrev pub invariant-loop-k : goal.invariant-loop-k

@@ -1,10 +1,9 @@
 -- `place::put_number` leaves the number's bytes from the place on. The loop's invariant: the last `k` bytes are stored; with those before
 -- them stored too, all are.
-use Prim.Native.Nat.{ℕ, ◌+◌, ◌-◌, ◌%◌, ◌≤◌}
-use mathlib.Core.Path.{◌≡◌, refl, ap, ◌∙◌}
+use Prim.Native.Nat.{ℕ, ◌+◌, ◌-◌, ◌%◌}
+use mathlib.Core.Path.{◌≡◌, ap, ◌∙◌}
 use native.Mathlib.Omega.{arith}
-use borrow.Author.Rules.{rules}
-use lib.ListN.{length, length-set}
+use lib.ListN.{length-set}
 use lib.Seq.{sets}
 use Rattle.boxes.specs.Bytes.{to_be}
 use Rattle.boxes.proofs.Sets.{sets_to_be}
@@ -21,6 +20,6 @@ loop-k-preserved c =
 pub returns : goal.returns
 unfolding to_be
 returns c =
-    let a = c.args in 
+    let a = c.args in
     let e : 0 ≡ a.width - c.loop-k.k = omega arith in
     ap (λ (k : ℕ). sets c.loop-k.out a.at (to_be k c.loop-k.n)) e ∙ c.loop-k.invariant.2

@@ -1,13 +1,10 @@
 -- `place::put_number` leaves the number's bytes from the place on. The loop's invariant: the last `k` bytes are stored; with those before
 -- them stored too, all are.
-use Prim.Native.Nat.{ℕ, ◌+◌, ◌-◌, ◌%◌, ◌≤◌}
-use mathlib.Core.Path.{◌≡◌, refl, ap, ◌∙◌}
-use native.Mathlib.Omega.{arith}
-use borrow.Author.Rules.{rules}
-use lib.ListN.{length, length-set}
+use Prim.Native.Nat.{◌-◌, ◌≤◌}
+use mathlib.Core.Path.{◌≡◌}
+use lib.ListN.{length}
 use lib.Seq.{sets}
 use Rattle.boxes.specs.Bytes.{to_be}
-use Rattle.boxes.proofs.Sets.{sets_to_be}
 use Rattle.boxes.proofs.place.put_number.Given as goal
 
 abbrev pub invariant-loop-k : goal.invariant-loop-k

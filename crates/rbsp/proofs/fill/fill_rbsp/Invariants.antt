@@ -1,12 +1,7 @@
 -- `fill_rbsp` writes as much of the RBSP as there is room for: what is at the front and what is left make up the whole.
-use borrow.Author.Tests.{not-true, not-false}
 use Prim.Native.Nat.{◌-◌}
-use mathlib.Core.Path.{sym, ◌∙◌}
-use mathlib.Core.Logic.{⊎_elim}
-use native.Mathlib.Omega.{arith}
-use borrow.Author.Rules.{rules}
 use lib.ListN.{length}
-use Rattle.rbsp.proofs.Filling.{Filled, fill_start, fill_kept, fill_dropped, fill_end, fill_full}
+use Rattle.rbsp.proofs.Filling.{Filled}
 use Rattle.rbsp.proofs.fill.fill_rbsp.Given as goal
 
 abbrev pub invariant-loop-i : goal.invariant-loop-i

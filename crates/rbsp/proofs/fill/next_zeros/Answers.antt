@@ -1,6 +1,5 @@
 -- `next_zeros` counts zeros as the definition does: by cases.
 use borrow.Author.Tests.{eq-eqb, ne_eqb}
-use borrow.Author.Rules.{rules}
 use Rattle.rbsp.specs.Rbsp.{next_zeros}
 use Rattle.rbsp.proofs.fill.next_zeros.Goals as goal
 

@@ -1,13 +1,8 @@
 -- `rbsp_len` returns the length of the RBSP: what is counted and what is left make up the whole.
-use borrow.Author.Tests.{not-true, not-false}
 use Prim.Native.Nat.{◌+◌, ◌-◌, ◌≤◌}
-use mathlib.Core.Path.{◌≡◌, sym, ap, ◌∙◌}
-use mathlib.Core.Logic.{⊎_elim}
-use native.Mathlib.Omega.{arith}
-use borrow.Author.Rules.{rules}
-use lib.ListN.{length, get_or, drop}
+use mathlib.Core.Path.{◌≡◌}
+use lib.ListN.{length, drop}
 use Rattle.rbsp.specs.Rbsp.{rbsp, unescape}
-use Rattle.rbsp.proofs.Removal.{step_end, zeros_le, measure_kept, measure_dropped}
 use Rattle.rbsp.proofs.fill.rbsp_len.Given as goal
 
 abbrev pub invariant-loop-i : goal.invariant-loop-i

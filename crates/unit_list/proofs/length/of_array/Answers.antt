@@ -1,6 +1,5 @@
 -- `length::of_array` is the number of its two or four bytes.
 use native.Mathlib.Omega.{arith}
-use Rattle.unit_list.proofs.Arrays.{two_to_four}
 use Rattle.unit_list.proofs.Lengths.{length_is, length_small}
 use Rattle.unit_list.proofs.length.of_array.Goals as goal
 

@@ -1,6 +1,5 @@
 -- `length::two` is the number of two bytes.
 use native.Mathlib.Omega.{arith}
-use borrow.Author.Rules.{rules}
 use Rattle.unit_list.proofs.Lengths.{be_two}
 use Rattle.unit_list.proofs.length.two.Goals as goal
 

@@ -1,6 +1,6 @@
 -- `walk::array_step` reads the head of the array after a cursor's end: the arrays from there on are its units and the arrays after it.
 use Prim.Native.Nat.{◌+◌, ◌≤◌, ◌<◌}
-use mathlib.Core.Path.{◌≡◌, refl, sym}
+use mathlib.Core.Path.{◌≡◌, sym}
 use native.Mathlib.Omega.{arith}
 use lib.ListN.{length, take}
 use Rattle.parse.specs.Parse.{value}

@@ -4,7 +4,6 @@ use mathlib.Core.Path.{◌≡◌, refl, sym, ap, ◌∙◌}
 use mathlib.Core.List.{List, [], ◌∷◌}
 use native.Mathlib.Omega.{arith}
 use lib.ListN.{length, get_or}
-use borrow.Author.Rules.{rules}
 use Rattle.unit_list.specs.UnitList.{length_width}
 use Rattle.unit_list.specs.inner.Walk.{TwoOrFour}
 use Rattle.unit_list.proofs.Left.{decode_too_long, list_too_long, decode_versionless, list_versionless, decode_arrays, left_start, width_known}

@@ -1,11 +1,8 @@
 -- `walk::step` returns the next unit after the cursor. The loop's invariant: the same units are left after `here` as after `c`.
-use Prim.Native.Nat.{◌-◌, ◌≤◌, ◌<◌}
-use mathlib.Core.Path.{◌≡◌, refl}
-use native.Mathlib.Omega.{arith}
+use Prim.Native.Nat.{◌-◌, ◌≤◌}
+use mathlib.Core.Path.{◌≡◌}
 use lib.ListN.{length}
-use borrow.Author.Rules.{rules}
 use Rattle.unit_list.specs.inner.Walk.{Fits, typed_units_from}
-use Rattle.unit_list.proofs.Left.{turn_entered, turn_end, turn_malformed, turn_unit}
 use Rattle.unit_list.proofs.walk.step.Given as goal
 
 abbrev pub invariant-loop-here : goal.invariant-loop-here

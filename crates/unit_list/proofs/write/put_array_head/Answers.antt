@@ -1,5 +1,4 @@
 -- `write::put_array_head` leaves the length, complete and the type from the place on.
-use borrow.Author.Rules.{rules}
 use Rattle.unit_list.proofs.Written.{head_written_lem}
 use Rattle.unit_list.proofs.write.put_array_head.Goals as goal
 

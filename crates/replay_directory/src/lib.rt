@@ -66,10 +66,8 @@ fn entry_at(s: &[u8], at: usize) -> Entry {
 // A directory from its bytes, 17 for each entry; entries that are missing are zeros.
 fn entries_of(s: &[u8]) -> [Entry; ENTRIES] {
     let mut dir = [entry_at(s, 0); ENTRIES];
-    let mut i: usize = 1;
-    while i < ENTRIES {
+    for i in 1..ENTRIES {
         dir[i] = entry_at(s, 17 * i);
-        i += 1;
     }
     dir
 }
@@ -116,10 +114,8 @@ fn put_entry(out: &mut [u8], at: usize, e: Entry) -> usize {
 // Puts all entries of a directory.
 fn put_entries(out: &mut [u8], at: usize, dir: [Entry; ENTRIES]) -> usize {
     let mut end = at;
-    let mut i: usize = 0;
-    while i < ENTRIES {
+    for i in 0..ENTRIES {
         end = put_entry(out, end, dir[i]);
-        i += 1;
     }
     end
 }
@@ -136,10 +132,8 @@ fn put_total(out: &mut [u8], at: usize, t: usize, n: usize) -> usize {
 // Puts every total that is not 0, each after its type.
 fn put_totals(out: &mut [u8], at: usize, totals: &[usize; TYPES]) -> usize {
     let mut end = at;
-    let mut t: usize = 0;
-    while t < TYPES {
+    for t in 0..TYPES {
         end = put_total(out, end, t, totals[t]);
-        t += 1;
     }
     end
 }

@@ -36,10 +36,8 @@ fn four_or(s: &[u8], at: usize, wanted: bool, fill: u8) -> u32 {
 // The constraint bytes, from a place on.
 fn constraints(s: &[u8], at: usize, n: usize, fill: u8) -> [u8; 63] {
     let mut bytes = [0u8; 63];
-    let mut i: usize = 0;
-    while i < 63 {
+    for i in 0..63 {
         bytes[i] = byte_or(s, text::plus(at, i), i < n, fill);
-        i += 1;
     }
     bytes
 }
@@ -47,10 +45,8 @@ fn constraints(s: &[u8], at: usize, n: usize, fill: u8) -> [u8; 63] {
 // The present flags of the levels, from a place on; a flag and a level are two bytes.
 fn present(s: &[u8], at: usize, n: usize, fill: u8) -> [bool; 7] {
     let mut flags = [false; 7];
-    let mut i: usize = 0;
-    while i < 7 {
+    for i in 0..7 {
         flags[i] = byte_or(s, text::plus(at, 2 * i), i < n, fill) != 0;
-        i += 1;
     }
     flags
 }
@@ -58,10 +54,8 @@ fn present(s: &[u8], at: usize, n: usize, fill: u8) -> [bool; 7] {
 // The levels, from a place on.
 fn levels(s: &[u8], at: usize, n: usize, fill: u8) -> [u8; 7] {
     let mut bytes = [0u8; 7];
-    let mut i: usize = 0;
-    while i < 7 {
+    for i in 0..7 {
         bytes[i] = byte_or(s, text::plus(at, 2 * i + 1), i < n, fill);
-        i += 1;
     }
     bytes
 }
@@ -69,10 +63,8 @@ fn levels(s: &[u8], at: usize, n: usize, fill: u8) -> [u8; 7] {
 // The sub-profiles, from a place on, four bytes each.
 fn sub_profiles(s: &[u8], at: usize, n: usize, fill: u8) -> [u32; 255] {
     let mut values = [0u32; 255];
-    let mut i: usize = 0;
-    while i < 255 {
+    for i in 0..255 {
         values[i] = four_or(s, text::plus(at, 4 * i), i < n, fill);
-        i += 1;
     }
     values
 }

@@ -32,10 +32,8 @@ fn sub_profile_if(out: &mut [u8], at: usize, wanted: bool, v: u32) -> usize {
 // Puts the constraint bytes up to a count, and every later byte that is not 0.
 fn constraints(out: &mut [u8], at: usize, n: usize, bytes: &[u8; 63]) -> usize {
     let mut end = text::put_all(out, at, b" =");
-    let mut i: usize = 0;
-    while i < 63 {
+    for i in 0..63 {
         end = byte_if(out, end, i < n, bytes[i]);
-        i += 1;
     }
     end
 }
@@ -43,10 +41,8 @@ fn constraints(out: &mut [u8], at: usize, n: usize, bytes: &[u8; 63]) -> usize {
 // Puts the levels up to a count, and every later one that is present or not 0.
 fn levels(out: &mut [u8], at: usize, n: usize, present: &[bool; 7], bytes: &[u8; 7]) -> usize {
     let mut end = text::put_all(out, at, b" =");
-    let mut i: usize = 0;
-    while i < 7 {
+    for i in 0..7 {
         end = level_if(out, end, i < n, present[i], bytes[i]);
-        i += 1;
     }
     end
 }
@@ -54,10 +50,8 @@ fn levels(out: &mut [u8], at: usize, n: usize, present: &[bool; 7], bytes: &[u8;
 // Puts the sub-profiles up to a count, and every later one that is not 0.
 fn sub_profiles(out: &mut [u8], at: usize, n: usize, values: &[u32; 255]) -> usize {
     let mut end = text::put_all(out, at, b" =");
-    let mut i: usize = 0;
-    while i < 255 {
+    for i in 0..255 {
         end = sub_profile_if(out, end, i < n, values[i]);
-        i += 1;
     }
     end
 }

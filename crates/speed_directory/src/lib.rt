@@ -76,12 +76,7 @@ pub fn speed_fill(list: &[u8], dir: &mut [Entry], totals: &mut [usize; TYPES]) -
 }
 
 // Asks a directory for the first unit of a type.
-pub fn speed_first(
-    list: &[u8],
-    dir: &[Entry],
-    totals: &[usize; TYPES],
-    t: u8,
-) -> UnitNumbers
+pub fn speed_first(list: &[u8], dir: &[Entry], totals: &[usize; TYPES], t: u8) -> UnitNumbers
     ensures { result
         ≡ numbers_of (place_asked (unit_asked (FirstOfType t) list.now dir.now totals.now)) }
 {

@@ -1,6 +1,6 @@
-//! Which way the branches of a compiled program go. `branches mark IN.ll OUT.ll NAMES` makes the text of an LLVM module note each branch that it
-//! takes, `branches name NAMES TAKEN` prints which ones a run has taken, and `branches report UNREACHED LIST FURTHER ..` compares what the first of
-//! several runs has not taken with a list of reasons. A branch is `FUNCTION NUMBER DIRECTION`: the branches of a function are numbered in the order
+//! Which way the branches of a compiled program go. `branches mark IN.ll OUT.ll NAMES CRATES` makes the text of an LLVM module note each branch that it
+//! takes in the functions of the crates that the file CRATES lists, and so none of the standard library; `branches name NAMES TAKEN` prints which ones a
+//! run has taken, and `branches report UNREACHED LIST FURTHER ..` compares what the first of several runs has not taken with a list of reasons. A branch is `FUNCTION NUMBER DIRECTION`: the branches of a function are numbered in the order
 //! of its code, and a direction is true, false or the case of a match.
 
 use std::collections::{BTreeMap, BTreeSet};
@@ -84,16 +84,26 @@ fn branch_at(lines: &[&str], i: usize) -> Option<(Vec<Direction>, String)> {
     })
 }
 
-/// Marks every branch of a module's text.
-fn mark(text: &str) -> (String, Vec<Branch>) {
+/// The crates of a file such as crates.txt: the first word of each line that is no comment.
+fn crates(text: &str) -> BTreeSet<&str> {
+    text.lines()
+        .filter(|l| !l.starts_with('#'))
+        .filter_map(|l| l.split([' ', ':']).next())
+        .filter(|name| !name.is_empty())
+        .collect()
+}
+
+/// Marks every branch of a module's text in the functions of some crates.
+fn mark(text: &str, crates: &BTreeSet<&str>) -> (String, Vec<Branch>) {
     let lines: Vec<&str> = text.lines().collect();
     let (mut out, mut branches): (String, Vec<Branch>) = (String::new(), Vec::new());
-    let (mut function, mut number) = (String::new(), 0);
+    let (mut function, mut number, mut is_marked) = (String::new(), 0, false);
     for (i, line) in lines.iter().enumerate() {
         if let Some(name) = defined(line) {
+            is_marked = crates.contains(name.split("::").next().unwrap());
             (function, number) = (name, 0);
         }
-        if let Some((directions, value)) = branch_at(&lines, i) {
+        if let Some((directions, value)) = branch_at(&lines, i).filter(|_| is_marked) {
             let n = branches.len();
             out += &format!("  %mark{n} = {value}\n");
             out += &format!("  call void @branch_taken(i32 {n}, i64 %mark{n})\n");
@@ -225,7 +235,7 @@ fn main() {
     let words: Vec<String> = std::env::args().skip(1).collect();
     match words[0].as_str() {
         "mark" => {
-            let (text, branches) = mark(&read(&words[1]));
+            let (text, branches) = mark(&read(&words[1]), &crates(&read(&words[4])));
             fs::write(&words[2], text).expect("the module is written");
             fs::write(&words[3], names(&branches)).expect("the names are written");
         }

@@ -1,5 +1,5 @@
-//! Cases with an input of 2^30 bytes and of one more (refusal 23). A program in Rattle has no memory but its stack, so `replay` cannot hold them; the
-//! library `replay_calls`, whose function answers for `replay`, is called with memory of this program instead.
+//! Cases with an input of 2^30 bytes and of one more (refusal 23). `replay` has no memory but its stack, so it cannot hold them; the static library
+//! `replay_calls_c`, whose function answers for `replay`, is called with memory of this program instead.
 
 use crate::answers;
 use crate::case::Case;

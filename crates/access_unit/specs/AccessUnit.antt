@@ -3,7 +3,7 @@ use Rattle.std.specs.Prelude.{ℕ, zero, suc, Bool, true, ◌&&◌, ◌||◌, Li
 use Rattle.std.proofs.Math.Option.{Option, none, some}
 use Rattle.parse.specs.Logic.{if◌then◌else◌}
 use Rattle.parse.specs.Outcome.{Outcome, accept, refuse, lent_input}
-use Rattle.parse.specs.Steps.{◌>>=◌, ◌>>◌}
+use Rattle.parse.specs.Steps.{◌>>=◌}
 use Rattle.boxes.specs.Parts.{held}
 use Rattle.boxes.specs.declared.Span.{Span}
 use Rattle.nal.specs.Header.{type_or31}

@@ -5,7 +5,7 @@ use mathlib.Core.List.{List}
 use mathlib.Core.Option.{Option}
 use lib.ListN.{length}
 use Rattle.parse.specs.Outcome.{Outcome, accept, refuse, and_then}
-use Rattle.boxes.specs.Walk.{count_found, found}
+use Rattle.boxes.specs.Walk.{count_found}
 use Rattle.full.specs.declared.VvcConfig.{VvcConfig}
 use Rattle.access_unit.specs.AccessUnit.{target_of, access_unit, assemble}
 use Rattle.access_unit.specs.inner.Gathered.{Gathered, gather, in_order, sources, gathered_bytes}

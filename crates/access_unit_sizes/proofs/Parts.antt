@@ -15,7 +15,7 @@ use Rattle.boxes.specs.declared.Span.{Span}
 use Rattle.boxes.proofs.Numbers.{length_to_be}
 use Rattle.annex_b.specs.Stream.{annex_b}
 use Rattle.annex_b.specs.RoundTrip.{threes}
-use Rattle.access_unit.specs.AccessUnit.{leading, following, kept}
+use Rattle.access_unit.specs.AccessUnit.{leading, following}
 use Rattle.access_unit.specs.inner.Gathered.{Gathered, later_code, bytes_at, zero_byte_of}
 use Rattle.access_unit.specs.inner.Gathered.{gathered_units, gathered_bytes}
 use Rattle.access_unit_sizes.specs.inner.Sizes.{item_sum, list_sum, zero_of, saved_of, len_of}

@@ -48,11 +48,12 @@ pub be_to_be : (w n : ℕ) (t : List ℕ) → n < 256 ^ w → be (to_be w n ++ t
 unfolding be to_be
 be_to_be zero n t h = omega arith
 be_to_be (suc w) n t h =
-    rw (append_assoc (to_be w (n / 256)) (n % 256 ∷ []) t)
-    (let a : be (to_be w (n / 256) ++ (n % 256 ∷ t)) 0 w ≡ n / 256 = be_to_be w (n / 256) (n % 256 ∷ t) (omega arith) in
+    let e : to_be (suc w) n ++ t ≡ to_be w (n / 256) ++ (n % 256 ∷ t) = append_assoc (to_be w (n / 256)) (n % 256 ∷ []) t in
+    let a : be (to_be w (n / 256) ++ (n % 256 ∷ t)) 0 w ≡ n / 256 = be_to_be w (n / 256) (n % 256 ∷ t) (omega arith) in
     let b : get_or (to_be w (n / 256) ++ (n % 256 ∷ t)) (0 + w) 0 ≡ n % 256 =
     get_or_at (to_be w (n / 256)) (n % 256) t 0 (0 + w) (let l = length_to_be w (n / 256) in omega arith) in
-    omega arith)
+    let g : be (to_be w (n / 256) ++ (n % 256 ∷ t)) 0 (suc w) ≡ n = omega arith in
+    ap (λ (s : List ℕ). be s 0 (suc w)) e ∙ g
 
 pub be_to_be_at : (s : List ℕ) (w n : ℕ) (t : List ℕ) → n < 256 ^ w → be (s ++ (to_be w n ++ t)) (length s) w ≡ n
 be_to_be_at s w n t h =

@@ -1,33 +1,23 @@
 -- Laws of `sets`, what a run of stores leaves: stores one after the other, in another order, and from the front on.
 use Prim.Native.Nat.{ℕ, suc, ◌+◌, ◌-◌, ◌/◌, ◌%◌, ◌≤◌, ◌<◌}
-use mathlib.Core.Path.{◌≡◌, sym, ap, ◌∙◌}
-use mathlib.Core.List.{List, [], ◌++◌, append-nil, append_assoc}
+use mathlib.Core.Path.{◌≡◌, refl, sym, ap, ◌∙◌}
+use mathlib.Core.List.{List, append_assoc}
 use native.Mathlib.Omega.{arith}
-use lib.ListN.{length, set, take, drop, length-drop, drop_of_length-le}
-use lib.Seq.{sets, sets-eq, take_all, take_at, take-add, take-length, length-take-le, drop-drop}
-use borrow.Rule.Slice.PartMut.{put_mid}
+use lib.ListN.{length, set, take, drop}
+use lib.Seq.{sets, sets-eq, take_at, take-add, length-take-le, drop-drop}
+use borrow.Rule.Slice.PartMut.{put_mid, mid_of}
 use Rattle.parse.proofs.General.{sets_append, sets_last}
 use Rattle.boxes.specs.Bytes.{to_be}
 use Rattle.boxes.proofs.Numbers.{length_to_be}
 
--- what a copy to a part that runs to the end leaves
-pub sets_copied : (d u ys : List ℕ) (i : ℕ) → i + length u ≤ length d
-    → ys ≡ take (length u) u ++ drop (length u) (take (length d - i) (drop i d)) → put_mid i (length d - i) d ys ≡ sets d i u
-sets_copied d u ys i h e =
-    let m : length (drop i d) ≡ length d - i = length-drop i d in
-    let t : take (length d - i) (drop i d) ≡ drop i d = take_all (length d - i) (drop i d) (omega arith) in
-    let z : drop (length d - i) (drop i d) ≡ [] = drop_of_length-le (drop i d) {i = length d - i} (omega arith) in
-    rw (e, t, z, take-length u, drop-drop (length u) i d, append-nil)
-    (sym (append_assoc (take i d) u (drop (i + length u) d)) ∙ sym (sets-eq u d i h))
-
--- bytes copied through a block, whose front holds the source, are stored as they are
-pub sets_by_block : (d s z b ys : List ℕ) (n i : ℕ) → n ≡ length s → b ≡ take (length s) s ++ drop (length s) z → i + length s ≤ length d
-    → ys ≡ take (length (take n b)) (take n b) ++ drop (length (take n b)) (take (length d - i) (drop i d))
-    → put_mid i (length d - i) d ys ≡ sets d i s
-sets_by_block d s z b ys n i l e h f =
-    let t : b ≡ s ++ drop (length s) z = e ∙ ap (λ (x : List ℕ). x ++ drop (length s) z) (take-length s) in
-    let u : take n b ≡ s = ap (take n) t ∙ take_at s (drop (length s) z) n (sym l) in
-    sets_copied d s ys i h (f ∙ ap (λ (x : List ℕ). take (length x) x ++ drop (length x) (take (length d - i) (drop i d))) u)
+-- bytes copied to the front of a block, and from there to a place, are stored there
+pub sets_by_block : (d s z c ys : List ℕ) (i : ℕ) → c ≡ s → i + length s ≤ length d
+    → ys ≡ mid_of 0 (length s - 0) (put_mid 0 (length s - 0) z c) → put_mid i (i + length s - i) d ys ≡ sets d i s
+sets_by_block d s z c ys i e h f =
+    let n : length s - 0 ≡ length s = omega arith in
+    let m : i + length s - i ≡ length s = omega arith in
+    let g : ys ≡ s = f ∙ rw (e, n) (take_at s (drop (length s) z) (length s) refl) in
+    rw (m, g, drop-drop (length s) i d) (sym (append_assoc (take i d) s (drop (i + length s) d)) ∙ sym (sets-eq s d i h))
 
 -- the next bytes of a source after those that are stored
 pub sets_next : (d s : List ℕ) (i k n : ℕ) → k ≤ length s → sets (sets d i (take k s)) (i + k) (take n (drop k s)) ≡ sets d i (take (k + n) s)

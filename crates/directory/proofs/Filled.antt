@@ -17,7 +17,7 @@ use Rattle.unit_list.specs.UnitList.{Array, decode, units_of, units_of_type}
 use Rattle.unit_list.proofs.Accepted.{accepted}
 use Rattle.directory.specs.Directory.{entries_of, entries_of_type, filled, fill_directory, totals_of, in_use, asked_for, part_of_list, unit_asked}
 use Rattle.directory.specs.Directory.{place_asked, part_asked, count_asked}
-use Rattle.directory.specs.Filled.{AnswersAsWalk, FilledAnswers}
+use Rattle.directory.specs.Filled.{AnswersAsWalk, FilledAnswers, FrontsAnswer}
 use Rattle.directory.specs.declared.Asked.{Asked}
 use Rattle.directory.specs.declared.Asked.TheVariants.{FirstOfType, Number}
 use Rattle.directory.specs.declared.Entry.{Entry}
@@ -102,9 +102,9 @@ module _ (s : List ℕ) where
     }
 
 -- filling has put the entries of the list at the directory's front
-pub filled_answers : FilledAnswers
+pub fronts_answer : FrontsAnswer
 unfolding fill_directory
-filled_answers s before d totals_before totals n f e h =
+fronts_answer s before d totals_before totals n f e h =
     fitted s (length before) (λ o. filled o before totals_before ≡ (accept n, (d, totals)) → AnswersAsWalk s e totals)
     (λ m f. absurd (let g = ap (λ (x : Outcome ℕ × (List Entry × List ℕ)). x.0) f in let z : ◌≡◌ {A = ℕ} 0 1 = cc in omega arith))
     (λ xs r k f.
@@ -119,7 +119,11 @@ filled_answers s before d totals_before totals n f e h =
 module _ (s : List ℕ) (before d : List Entry) (totals_before totals : List ℕ) (n : ℕ)
     (f : fill_directory s before totals_before ≡ (accept n, (d, totals))) where
   pub filled_itself : AnswersAsWalk s d totals
-  filled_itself = filled_answers s before d totals_before totals n f d refl
+  filled_itself = fronts_answer s before d totals_before totals n f d refl
 
   pub filled_front : AnswersAsWalk s (take n d) totals
-  filled_front = filled_answers s before d totals_before totals n f (take n d) (take-take n n d (omega arith))
+  filled_front = fronts_answer s before d totals_before totals n f (take n d) (take-take n n d (omega arith))
+
+-- the claim for the directory that was filled
+pub filled_answers : FilledAnswers
+filled_answers s before d totals_before totals n f = filled_itself s before d totals_before totals n f

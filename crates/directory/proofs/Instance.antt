@@ -15,7 +15,7 @@ use Rattle.directory.specs.Directory.{entries_of, entries_of_type, table_from, t
 use Rattle.directory.specs.Filled.{AnswersAsWalk}
 use Rattle.directory.specs.declared.Asked.TheVariants.{FirstOfType, Number}
 use Rattle.directory.specs.declared.Entry.{Entry}
-use Rattle.directory.proofs.Filled.{filled_answers, filled_itself}
+use Rattle.directory.proofs.Filled.{fronts_answer, filled_itself}
 
 -- type 15: AA BB and the empty unit; type 16: CC; type 15 again: DD EE FF
 abbrev listed : List ℕ
@@ -60,7 +60,7 @@ module _ (a b c d e f : Entry) (totals : List ℕ) where
 
   pub answers_begun : (rest : List Entry) → AnswersAsWalk listed (begun rest) list_totals
   answers_begun rest =
-      filled_answers listed (a ∷ b ∷ c ∷ d ∷ e ∷ f ∷ []) directory totals list_totals 4 filled_so (begun rest) refl
+      fronts_answer listed (a ∷ b ∷ c ∷ d ∷ e ∷ f ∷ []) directory totals list_totals 4 filled_so (begun rest) refl
 
   pub record Answers : Type 0 where
     -- the first of types 15, 16 and 20, numbers 1 and 3, and number 4, which is not in use

@@ -1,8 +1,5 @@
-pub mod EntryBytes
 pub mod ListEntries
 pub mod InUse
 pub mod Totals
 pub mod Filled
 pub mod Instance
-pub mod Values
-pub mod Lent

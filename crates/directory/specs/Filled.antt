@@ -17,8 +17,13 @@ pub record AnswersAsWalk (s : List ℕ) (d : List Entry) (totals : List ℕ) : T
   pub number_at : (k : ℕ) → place_asked (unit_asked (Number k) s d totals) ≡ place_found in_first (list_units s) k
   pub number : (k : ℕ) → part_asked (unit_asked (Number k) s d totals) ≡ found (list_units s) k
 
--- Whatever the directory and the totals held before: when filling has stored n entries in d, every directory e that begins with these n answers so.
--- Such are d itself and its first n entries alone (`filled_itself`, `filled_front`), and every front of d between them.
+-- whatever the directory and the totals held before
 abbrev pub FilledAnswers : Type 0
 FilledAnswers = (s : List ℕ) (before d : List Entry) (totals_before totals : List ℕ) (n : ℕ)
+    → fill_directory s before totals_before ≡ (accept n, (d, totals)) → AnswersAsWalk s d totals
+
+-- Whatever the directory and the totals held before: when filling has stored n entries in d, every directory e that begins with these n answers so.
+-- Such are d itself and its first n entries alone (`filled_itself`, `filled_front`), and every front of d between them.
+abbrev pub FrontsAnswer : Type 0
+FrontsAnswer = (s : List ℕ) (before d : List Entry) (totals_before totals : List ℕ) (n : ℕ)
     → fill_directory s before totals_before ≡ (accept n, (d, totals)) → (e : List Entry) → take n e ≡ take n d → AnswersAsWalk s e totals

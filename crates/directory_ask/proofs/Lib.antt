@@ -1,4 +1,3 @@
 pub mod Sums
 pub mod Asking
 pub mod Searching
-pub mod SearchValues

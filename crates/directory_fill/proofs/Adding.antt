@@ -1,13 +1,11 @@
 -- Laws of the walk that adds the units of a list to the totals of their types: what is added and what is left make the whole.
 use Prim.Native.Nat.{ℕ, ◌+◌, ◌-◌, ◌^◌, ◌≤◌, ◌<◌}
 use mathlib.Core.Path.{◌≡◌, refl, sym, ap, ◌∙◌}
-use mathlib.Core.List.{List, [], ◌∷◌, map}
+use mathlib.Core.List.{List, ◌∷◌, map}
 use native.Mathlib.Omega.{arith}
 use native.Mathlib.Decide.{ℕ_discrete}
 use lib.ListN.{length, get_or, set, replicate, length-set, length-replicate}
 use lib.Seq.{get_or-set_same, get_or-set_other}
-use types.Run.{OneOf}
-use denote.Enum.Declared.{tag_of}
 use Rattle.error.specs.declared.Refusal.{Refusal}
 use Rattle.parse.specs.Outcome.{Outcome, accept, refuse}
 use Rattle.parse.specs.inner.Walk.{more}
@@ -19,7 +17,6 @@ use Rattle.unit_list.specs.declared.ListStart.{ListStart}
 use Rattle.unit_list.specs.declared.ListStart.TheVariants as S
 use Rattle.unit_list.specs.declared.ListStep.{ListStep}
 use Rattle.unit_list.specs.declared.ListStep.TheVariants as L
-use Rattle.unit_list.specs.contracts.ListStep.{the_type}
 use Rattle.unit_list.proofs.Turns.{ListTurn, list_found, start_fits, start_typed, start_refusal}
 use Rattle.directory.specs.Directory.{entry_of, totals_of}
 use Rattle.directory.specs.inner.Entries.{TypesFit}
@@ -49,7 +46,7 @@ module _ (s : List ℕ) (c : ListCursor) (totals₀ : List ℕ) where
 
   module _ (here : ListCursor) (totals : List ℕ) (i : Adding here totals) (r : ListStep)
       (said : (stepped s r ≡ typed_units_from s here) × StepFits s here r) where
-    pub adding_end : OneOf (1 ∷ 2 ∷ []) (tag_of the_type r) → totals ≡ totals_plus totals₀ (entries_from s c)
+    pub adding_end : ((a : Span) (d : ListCursor) → r ≡ L.Unit a d → ⊥) → totals ≡ totals_plus totals₀ (entries_from s c)
     adding_end k = sym (plus_none totals i.adds.all) ∙ ap (totals_plus totals) (sym (entries_stop s here r said.0 k)) ∙ i.same
 
     -- one turn: the unit's type has a total, which can be one more, and the walk goes on to `next`

@@ -1,11 +1,8 @@
 -- What a step of the walk over a list says of the entries after a cursor.
 use Prim.Native.Nat.{ℕ}
-use mathlib.Core.Path.{◌≡◌, sym, ap, ◌∙◌}
+use mathlib.Core.Path.{◌≡◌, refl, sym, ap, ◌∙◌}
 use mathlib.Core.List.{List, [], ◌∷◌}
-use mathlib.Core.Logic.{⊎_elim}
 use native.Mathlib.Omega.{arith}
-use types.Run.{OneOf}
-use denote.Enum.Declared.{tag_of}
 use Rattle.parse.specs.Outcome.{Outcome, accept, refuse}
 use Rattle.parse.specs.inner.Walk.{more}
 use Rattle.boxes.specs.declared.Span.{Span}
@@ -13,7 +10,6 @@ use Rattle.unit_list.specs.inner.Walk.{TypedUnit, typed_units_from, stepped, Ste
 use Rattle.unit_list.specs.declared.ListCursor.{ListCursor}
 use Rattle.unit_list.specs.declared.ListStep.{ListStep}
 use Rattle.unit_list.specs.declared.ListStep.TheVariants as L
-use Rattle.unit_list.specs.contracts.ListStep.{the_type}
 use Rattle.unit_list.proofs.Turns.{list_found}
 use Rattle.directory.specs.Directory.{entry_of}
 use Rattle.directory.specs.inner.Entries.{no_entry}
@@ -28,8 +24,8 @@ first_entry u (refuse n) e es h = absurd (let z : ◌≡◌ {A = ℕ} 0 1 = cc i
 
 module _ (s : List ℕ) (c : ListCursor) where
   -- where no unit is found, there is no entry
-  pub entries_stop : (r : ListStep) → stepped s r ≡ typed_units_from s c → OneOf (1 ∷ 2 ∷ []) (tag_of the_type r) → entries_from s c ≡ []
-  entries_stop (L.Unit a d) e k = absurd (⊎_elim (λ h. omega arith) (λ h. omega arith) k)
+  pub entries_stop : (r : ListStep) → stepped s r ≡ typed_units_from s c → ((a : Span) (d : ListCursor) → r ≡ L.Unit a d → ⊥) → entries_from s c ≡ []
+  entries_stop (L.Unit a d) e k = absurd (k a d refl)
   entries_stop L.End e k = ap entries_found (sym e)
   entries_stop L.Malformed e k = ap entries_found (sym e)
 
@@ -40,5 +36,5 @@ module _ (s : List ℕ) (c : ListCursor) where
         let f = first_entry (record { unit = a; unit_type = d.unit_type }) (typed_units_from s d) e es (ap entries_found t.typed ∙ h) in
         (f.0, f.1, t.passed.fits)
 
-    pub next_none : OneOf (1 ∷ 2 ∷ []) (tag_of the_type r) → NextEntry s c (record { entry = no_entry; next = c })
+    pub next_none : ((a : Span) (d : ListCursor) → r ≡ L.Unit a d → ⊥) → NextEntry s c (record { entry = no_entry; next = c })
     next_none k e es h = absurd (let n = sym (entries_stop r said.0 k) ∙ h in let z : ◌≡◌ {A = ℕ} 0 1 = cc in omega arith)

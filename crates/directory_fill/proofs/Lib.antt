@@ -3,4 +3,3 @@ pub mod EntrySteps
 pub mod TotalsPlus
 pub mod Adding
 pub mod Filling
-pub mod StepValues

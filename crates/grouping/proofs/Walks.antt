@@ -4,8 +4,6 @@ use mathlib.Core.Path.{◌≡◌, refl, sym, ap, ◌∙◌, subst}
 use mathlib.Core.List.{List, [], ◌∷◌, map}
 use mathlib.Core.Logic.{⊎_elim}
 use native.Mathlib.Omega.{arith}
-use types.Run.{OneOf}
-use denote.Enum.Declared.{tag_of}
 use lib.ListN.{length}
 use Rattle.parse.specs.Outcome.{Outcome, accept, refuse}
 use Rattle.parse.specs.inner.Walk.{more}
@@ -18,14 +16,13 @@ use Rattle.unit_list.specs.inner.Walk.{units_left}
 use Rattle.unit_list.specs.declared.ListCursor.{ListCursor}
 use Rattle.unit_list.specs.declared.ListStep.{ListStep}
 use Rattle.unit_list.specs.declared.ListStep.TheVariants as L
-use Rattle.unit_list.specs.contracts.ListStep.{the_type}
 use Rattle.unit_list.proofs.Turns.{ListTurn, list_found, list_stops}
 use Rattle.grouping.specs.inner.Units.{spans_of, units_at, Readable, UnitStepped, Steps}
 use Rattle.grouping.specs.declared.units.UnitStep.{UnitStep}
 use Rattle.grouping.specs.declared.units.UnitStep.TheVariants as U
 
 -- a step that found no unit: none is left
-pub none_left : (s : List ℕ) (here : ListCursor) (r : ListStep) → stepped s r ≡ typed_units_from s here → OneOf (1 ∷ 2 ∷ []) (tag_of the_type r)
+pub none_left : (s : List ℕ) (here : ListCursor) (r : ListStep) → stepped s r ≡ typed_units_from s here → ((a : Span) (next : ListCursor) → r ≡ L.Unit a next → ⊥)
     → units_at s here ≡ []
 unfolding units_at
 none_left s here r e k =

@@ -19,7 +19,6 @@ use Rattle.boxes.specs.declared.Span.{Span}
 use Rattle.boxes.proofs.Walk.{total}
 use Rattle.boxes.proofs.Numbers.{length_to_be}
 use Rattle.boxes.proofs.Spans.{held_long}
-use Rattle.boxes.proofs.ChunkBytes.{length_to_chunk}
 use Rattle.nal.specs.Header.{nal_header}
 use Rattle.split.specs.Item.{item_unit, item_units}
 use Rattle.split.specs.inner.Walk.{item_units_from}

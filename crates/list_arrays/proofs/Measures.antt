@@ -91,9 +91,6 @@ module _ (s : List ℕ) (here : ListCursor) (r : ListStep) (f : (units_stepped s
   pub units_end : r ≡ L.End → array_units_from s here ≡ accept []
   units_end e = sym (sym (ap (units_stepped s) e) ∙ f.0)
 
-  pub units_malformed : r ≡ L.Malformed → array_units_from s here ≡ refuse 21
-  units_malformed e = sym (sym (ap (units_stepped s) e) ∙ f.0)
-
   module _ (a : Span) (next : ListCursor) (e : r ≡ L.Unit a next) where
     passed : (units_stepped s (L.Unit a next) ≡ array_units_from s here) × UnitStepFits s here (L.Unit a next)
     passed = subst (λ (r : ListStep). (units_stepped s r ≡ array_units_from s here) × UnitStepFits s here r) e f
@@ -153,19 +150,7 @@ module _ (w : ℕ) (s : List ℕ) (c : ListCursor) where
       (omega (arith, i.len, i.fits.before, i.end), omega (arith, i.count, i.fits.before, i.end)),
     )
 
-    pub units_refused : r ≡ L.Malformed → refuse 21 ≡ measured_by (units_measure w s) (array_units_from s c)
-    units_refused e =
-        ap (λ (o : Outcome (List Span)). after_measured v (measured_by (units_measure w s) o)) (sym (units_malformed s here r f e)) ∙ i.whole
-
     module _ (a : Span) (next : ListCursor) (e : r ≡ L.Unit a next) (small : w ≤ 4) where
-      pub unit_small : (a.len < 2 ^ 32) × (w ≤ 4)
-      unit_small = let h = ahead s here r f a next e in (omega (arith, h.on, h.room), small)
-
-      pub units_add : (v.count + (unit_measure w a.len).count < 2 ^ 32) × (v.len + (unit_measure w a.len).len < 2 ^ 32)
-      units_add =
-          let h = ahead s here r f a next e in
-          (omega (arith, i.count, h.on, h.room), omega (arith, i.len, h.on, h.room))
-
       pub units_again : MeasuringUnits w s c next (joined v (unit_measure w a.len))
       units_again =
           let h = ahead s here r f a next e in
@@ -229,12 +214,6 @@ module _ (s : List ℕ) (b t : ℕ) where
       let y : m ≡ units_measure (unit_width l) s us = cc in
       rw y (ap accept (array_more l us xs))
 
-  arrays_unread : (l : Layout) (u : Outcome (List Span)) (rest : Outcome (List (Array Span)))
-      → refuse 21 ≡ measured_by (units_measure (unit_width l) s) u
-      → refuse 21 ≡ measured_by (arrays_measure l s) (and_then u (λ us. more (array_with b t us) rest))
-  arrays_unread l (refuse n) rest e = e
-  arrays_unread l (accept us) rest e = absurd (let z : ◌≡◌ {A = ℕ} 0 1 = cc in omega arith)
-
 -- an array takes at most eight bytes besides its units, which is twice what it takes in a list
 array_room : (l : Layout) → unit_width l ≤ 4 → (b t : ℕ) (m : Measure) → ((array_by l b t m).count ≡ 1) × ((array_by l b t m).len ≤ 8 + m.len)
 array_room (Y.Record k) h b t m = let n = count_small (holds_one k t) in (refl, omega arith)
@@ -245,9 +224,6 @@ module _ (s : List ℕ) (here : ListCursor) (r : ArrayStep) (f : (arrays_stepped
   pub array_end : r ≡ A.End → arrays_from s here ≡ accept []
   array_end e = sym (sym (ap (arrays_stepped s) e) ∙ f.0)
 
-  pub array_malformed : r ≡ A.Malformed → arrays_from s here ≡ refuse 21
-  array_malformed e = sym (sym (ap (arrays_stepped s) e) ∙ f.0)
-
   pub entered : (b : ℕ) (c : ListCursor) → r ≡ A.Array b c → (arrays_stepped s (A.Array b c) ≡ arrays_from s here) × Entered TwoOrFour s here b c
   entered b c e = subst (λ (r : ArrayStep). (arrays_stepped s r ≡ arrays_from s here) × ArrayStepFits s here r) e f
 
@@ -256,22 +232,12 @@ module _ (l : Layout) (s : List ℕ) (here : ListCursor) (r : ArrayStep) (f : (a
   pub end_measured : r ≡ A.End → accept nothing ≡ measured_by (arrays_measure l s) (arrays_from s here)
   end_measured e = arrays_none l s ∙ ap (measured_by (arrays_measure l s)) (sym (array_end s here r f e))
 
-  pub malformed_measured : r ≡ A.Malformed → refuse 21 ≡ measured_by (arrays_measure l s) (arrays_from s here)
-  malformed_measured e = ap (measured_by (arrays_measure l s)) (sym (array_malformed s here r f e))
-
   module _ (b : ℕ) (c : ListCursor) (e : r ≡ A.Array b c) where
     step : (arrays_stepped s (A.Array b c) ≡ arrays_from s here) × Entered TwoOrFour s here b c
     step = entered s here r f b c e
 
-    pub unread_measured : refuse 21 ≡ measured_by (units_measure (unit_width l) s) (array_units_from s c)
-        → refuse 21 ≡ measured_by (arrays_measure l s) (arrays_from s here)
-    unread_measured h = arrays_unread s b c.unit_type l (array_units_from s c) (arrays_from s c) h ∙ ap (measured_by (arrays_measure l s)) step.0
-
     module _ (m : Measure) (h : accept m ≡ measured_by (units_measure (unit_width l) s) (array_units_from s c))
         (w : (2 * c.at + m.len ≤ 2 * c.end) × (c.at + m.count ≤ c.end)) where
-      pub units_few : m.len < 2 ^ 32
-      units_few = let g = step.1.fits in omega (arith, w.0, g.within, g.lent)
-
       pub array_measured_lem : array_measured l s (R.Array (array_by l b c.unit_type m) c) ≡ measured_by (arrays_measure l s) (arrays_from s here)
       array_measured_lem = arrays_more s b c.unit_type l m (array_units_from s c) (arrays_from s c) h ∙ ap (measured_by (arrays_measure l s)) step.0
 
@@ -299,27 +265,9 @@ module _ (l : Layout) (s : List ℕ) (c : ListCursor) where
 
   module _ (here : ListCursor) (v : Measure) (i : MeasuringArrays l s c here v) (r : ArrayMeasured)
       (f : (array_measured l s r ≡ measured_by (arrays_measure l s) (arrays_from s here)) × ArrayWithin s here r) where
-    pub arrays_ended : r ≡ R.End → (accept v ≡ measured_by (arrays_measure l s) (arrays_from s c)) × ((v.len ≤ 2 * length s) × (v.count ≤ length s))
-    arrays_ended e = (
-      after_end v ∙ ap (after_measured v) (sym (ap (array_measured l s) e) ∙ f.0) ∙ i.whole,
-      (omega (arith, i.len, i.fits.within), omega (arith, i.count, i.fits.within)),
-    )
-
-    pub arrays_refused : r ≡ R.Malformed → refuse 21 ≡ measured_by (arrays_measure l s) (arrays_from s c)
-    arrays_refused e = ap (after_measured v) (sym (ap (array_measured l s) e) ∙ f.0) ∙ i.whole
-
     module _ (m : Measure) (d : ListCursor) (e : r ≡ R.Array m d) where
       took : (array_measured l s (R.Array m d) ≡ measured_by (arrays_measure l s) (arrays_from s here)) × Takes s here m d
       took = subst (λ (r : ArrayMeasured). (array_measured l s r ≡ measured_by (arrays_measure l s) (arrays_from s here)) × ArrayWithin s here r) e f
-
-      pub arrays_add : (v.count + m.count < 2 ^ 32) × (v.len + m.len < 2 ^ 32)
-      arrays_add =
-          let t = took.1 in
-          let g = t.fits in
-          (omega (arith, i.count, t.one, t.on, g.within, g.lent), omega (arith, i.len, t.len, g.within, g.lent))
-
-      pub arrays_less : length s - d.end < length s - here.end
-      arrays_less = let t = took.1 in omega (arith, t.on, t.fits.within)
 
       pub arrays_again : MeasuringArrays l s c d (joined v m)
       arrays_again =

@@ -1,20 +1,17 @@
 -- Laws of storing what is found, one after the other: what is stored and what is left are the whole.
-use Prim.Native.Nat.{ℕ, ◌+◌, ◌-◌, ◌*◌, ◌/◌, ◌%◌, ◌≤◌, ◌<◌}
+use Prim.Native.Nat.{ℕ, ◌+◌, ◌-◌, ◌*◌, ◌/◌, ◌%◌, ◌≤◌}
 use mathlib.Core.Path.{◌≡◌, refl, sym, ap, ◌∙◌}
-use mathlib.Core.Bool.{true, false}
-use mathlib.Core.Logic.{⊎_elim}
+use mathlib.Core.Bool.{false}
 use mathlib.Core.List.{List, [], ◌∷◌, ◌++◌}
 use native.Mathlib.Omega.{arith}
 use native.Mathlib.Numerals.{add-one}
 use lib.ListN.{length, set, length-append, length-set}
 use lib.Seq.{sets, length-sets}
-use types.Run.{OneOf}
-use denote.Enum.Declared.{tag_of}
 use Rattle.parse.specs.Outcome.{Outcome, accept, refuse, and_then}
 use Rattle.parse.specs.inner.Walk.{more}
 use Rattle.parse.specs.inner.Stores.{Puts, bytes_of}
 use Rattle.parse.proofs.General.{sets_append}
-use Rattle.parse.proofs.Stores.{puts_found, Putting, putting_start, putting_never, putting_end, putting_room, putting_again}
+use Rattle.parse.proofs.Stores.{puts_found, Putting, putting_never, putting_end, putting_room, putting_again}
 use Rattle.boxes.specs.Bytes.{to_be, to_chunk}
 use Rattle.boxes.specs.Parts.{held}
 use Rattle.boxes.specs.declared.Span.{Span}
@@ -26,10 +23,8 @@ use Rattle.unit_list.specs.declared.ListStep.{ListStep}
 use Rattle.unit_list.specs.declared.ListStep.TheVariants as L
 use Rattle.unit_list.specs.declared.ArrayStep.{ArrayStep}
 use Rattle.unit_list.specs.declared.ArrayStep.TheVariants as A
-use Rattle.unit_list.specs.contracts.ListStep as list-step
-use Rattle.unit_list.specs.contracts.ArrayStep as array-step
 use Rattle.unit_list.proofs.Encode.{length_array}
-use Rattle.unit_list.proofs.StoredUnits.{Copying, copying_start, copying_never, copying_done, copying_room, copying_again}
+use Rattle.unit_list.proofs.StoredUnits.{Copying, copying_never, copying_done, copying_room, copying_again}
 use Rattle.unit_list.proofs.Written as written
 use Rattle.record_arrays.specs.Read.{holds_one}
 use Rattle.record_arrays.specs.Write.{array_bytes, arrays_bytes}
@@ -48,19 +43,16 @@ pub record PuttingUnits (w : ℕ) (s : List ℕ) (c : ListCursor) (out₀ : List
   pub putting : Copying w s out₀ to₀ (array_units_from s c) (array_units_from s here) out to
 
 module _ (w : ℕ) (s : List ℕ) (c : ListCursor) (out₀ : List ℕ) (to₀ : ℕ) where
-  pub units_start : Fits s c → Puts (unit_bytes w s) (array_units_from s c) out₀ to₀ → PuttingUnits w s c out₀ to₀ c out₀ to₀
-  units_start h p = record { fits = h; putting = copying_start w s out₀ to₀ (array_units_from s c) p }
-
   module _ (here : ListCursor) (out : List ℕ) (to : ℕ) (i : PuttingUnits w s c out₀ to₀ here out to) (r : ListStep)
       (f : (units_stepped s r ≡ array_units_from s here) × UnitStepFits s here r) where
-    pub units_done : OneOf (1 ∷ 2 ∷ []) (tag_of list-step.the_type r)
+    pub units_done : ((a : Span) (n : ListCursor) → r ≡ L.Unit a n → ⊥)
         → (to ≡ to₀ + length (bytes_of (unit_bytes w s) (array_units_from s c))) × (out ≡ sets out₀ to₀ (bytes_of (unit_bytes w s) (array_units_from s c)))
     units_done = go r f
       where
-        go : (r : ListStep) → (units_stepped s r ≡ array_units_from s here) × UnitStepFits s here r → OneOf (1 ∷ 2 ∷ []) (tag_of list-step.the_type r)
+        go : (r : ListStep) → (units_stepped s r ≡ array_units_from s here) × UnitStepFits s here r → ((a : Span) (n : ListCursor) → r ≡ L.Unit a n → ⊥)
             → (to ≡ to₀ + length (bytes_of (unit_bytes w s) (array_units_from s c)))
             × (out ≡ sets out₀ to₀ (bytes_of (unit_bytes w s) (array_units_from s c)))
-        go (L.Unit a next) f k = absurd (⊎_elim (λ h. omega arith) (λ h. omega arith) k)
+        go (L.Unit a next) f k = absurd (k a next refl)
         go L.End f k = copying_done w s out₀ to₀ (array_units_from s c) (array_units_from s here) out to i.putting (sym f.0)
         go L.Malformed f k = absurd (copying_never w s out₀ to₀ (array_units_from s c) (array_units_from s here) out to i.putting 21 (sym f.0))
 
@@ -72,9 +64,6 @@ module _ (w : ℕ) (s : List ℕ) (c : ListCursor) (out₀ : List ℕ) (to₀ : 
             copying_room w s out₀ to₀ (array_units_from s c) (array_units_from s here) out to i.putting a h (array_units_from s next)
                 (units_next s here r f a next e),
           )
-
-      pub units_less : length s - next.at < length s - here.at
-      units_less = (ahead s here r f a next e).less
 
       pub units_again : (d : List ℕ) → d ≡ sets out to (to_chunk w (held s a)) → PuttingUnits w s c out₀ to₀ next d (to + w + a.len)
       units_again d g =
@@ -102,26 +91,12 @@ module _ (k : Codec) (s : List ℕ) (b t : ℕ) (us : List Span) where
 
 -- the count: none, or two bytes
 module _ (k : Codec) (s : List ℕ) (t : ℕ) (o : Outcome (List Span)) where
-  pub count_none : holds_one k t ≡ true → bytes_of (count_bytes k s t) o ≡ []
-  count_none e = go o
-    where
-      go : (o : Outcome (List Span)) → bytes_of (count_bytes k s t) o ≡ []
-      go (accept us) = rw e
-      go (refuse n) = refl
-
   pub count_two : holds_one k t ≡ false → (m : Measure) → accept m ≡ measured_by (units_measure 2 s) o → bytes_of (count_bytes k s t) o ≡ to_be 2 m.count
   count_two e m = go o
     where
       go : (o : Outcome (List Span)) → accept m ≡ measured_by (units_measure 2 s) o → bytes_of (count_bytes k s t) o ≡ to_be 2 m.count
       go (accept us) h = let y : m ≡ units_measure 2 s us = cc in rw (e, y)
       go (refuse n) h = absurd (let z : ◌≡◌ {A = ℕ} 0 1 = cc in omega arith)
-
-  pub count_never : (out : List ℕ) (to n : ℕ) → Puts (count_bytes k s t) o out to → refuse n ≡ measured_by (units_measure 2 s) o → ⊥
-  count_never out to n p h = go o p.found h
-    where
-      go : (o : Outcome (List Span)) → o ≡ accept p.it → refuse n ≡ measured_by (units_measure 2 s) o → ⊥
-      go (accept us) e h = let z : ◌≡◌ {A = ℕ} 0 1 = cc in omega arith
-      go (refuse i) e h = let z : ◌≡◌ {A = ℕ} 0 1 = cc in omega arith
 
 -- what the three writes of an array need and leave
 module _ (k : Codec) (s : List ℕ) (b t : ℕ) (o : Outcome (List Span)) (out : List ℕ) (to : ℕ) (h : Puts (array_in_record k s b t) o out to) where
@@ -221,17 +196,14 @@ pub record PuttingArrays (l : Layout) (s : List ℕ) (c₀ : ListCursor) (out₀
   pub putting : Putting (arrays_laid l s) out₀ to₀ (arrays_from s c₀) (arrays_from s here) out to
 
 module _ (l : Layout) (s : List ℕ) (c₀ : ListCursor) (out₀ : List ℕ) (to₀ : ℕ) where
-  pub arrays_start : Fits s c₀ × Puts (arrays_laid l s) (arrays_from s c₀) out₀ to₀ → PuttingArrays l s c₀ out₀ to₀ c₀ out₀ to₀
-  arrays_start h = record { fits = h.0; putting = putting_start (arrays_laid l s) out₀ to₀ (arrays_from s c₀) h.1 }
-
   module _ (here : ListCursor) (out : List ℕ) (to : ℕ) (i : PuttingArrays l s c₀ out₀ to₀ here out to) (r : ArrayStep)
       (f : (arrays_stepped s r ≡ arrays_from s here) × ArrayStepFits s here r) where
-    pub arrays_done : OneOf (1 ∷ 2 ∷ []) (tag_of array-step.the_type r) → out ≡ sets out₀ to₀ (bytes_of (arrays_laid l s) (arrays_from s c₀))
+    pub arrays_done : ((b : ℕ) (c : ListCursor) → r ≡ A.Array b c → ⊥) → out ≡ sets out₀ to₀ (bytes_of (arrays_laid l s) (arrays_from s c₀))
     arrays_done = go r f
       where
-        go : (r : ArrayStep) → (arrays_stepped s r ≡ arrays_from s here) × ArrayStepFits s here r → OneOf (1 ∷ 2 ∷ []) (tag_of array-step.the_type r)
+        go : (r : ArrayStep) → (arrays_stepped s r ≡ arrays_from s here) × ArrayStepFits s here r → ((b : ℕ) (c : ListCursor) → r ≡ A.Array b c → ⊥)
             → out ≡ sets out₀ to₀ (bytes_of (arrays_laid l s) (arrays_from s c₀))
-        go (A.Array b c) f n = absurd (⊎_elim (λ h. omega arith) (λ h. omega arith) n)
+        go (A.Array b c) f n = absurd (n b c refl)
         go A.End f n =
             (putting_end (arrays_laid l s) out₀ to₀ (arrays_from s c₀) (arrays_from s here) out to i.putting (arrays_nil l s) (sym f.0)).1
         go A.Malformed f n =
@@ -272,9 +244,6 @@ module _ (l : Layout) (s : List ℕ) (c₀ : ListCursor) (out₀ : List ℕ) (to
                 (putting_room (arrays_laid l s) out₀ to₀ (arrays_from s c₀) (arrays_from s here) out to i.putting a
                 (array_laid l s b c.unit_type u.units) (arrays_first l s b c.unit_type u.units) (arrays_from s c) u.next),
           )
-
-      pub arrays_less : length s - c.end < length s - here.end
-      arrays_less = let g = (entered s here r f b c e).1 in omega (arith, g.first, g.fits.before, g.fits.within)
 
       pub arrays_again : (next : ℕ) (d : List ℕ)
           → (next ≡ to + length (bytes_of (array_laid l s b c.unit_type) (array_units_from s c)))

@@ -18,7 +18,6 @@ use Rattle.bit_reader.specs.declared.BitsRead.TheVariants.{Value, Refused}
 use Rattle.bit_reader.specs.declared.reader.BitReader.{BitReader}
 use Rattle.bit_reader.specs.declared.reader.ReaderStep.{ReaderStep}
 use Rattle.bit_reader.proofs.Chain.{passed_for_read}
-use Rattle.bit_reader.proofs.ReaderCalls.{AtStart}
 use Rattle.opi.specs.Opi.{where_read, opi_point}
 use Rattle.opi.specs.inner.Point.{point_of}
 
@@ -64,7 +63,7 @@ module _ (s : List ℕ) where
   three_reads p = first_read (u 1 s p) p
 
 -- what three steps of the reader return, from the first bit on
-module _ (s : Bor (List ℕ)) (d : BitReader) (t t₂ t₃ : ReaderStep) (from : AtStart s d) (h : Stepped (u 1) d t)
+module _ (s : Bor (List ℕ)) (d : BitReader) (t t₂ t₃ : ReaderStep) (from : (d.src ≡ s) × (d.pos.0 ≡ 0)) (h : Stepped (u 1) d t)
     (k : Stepped (skipping 1) t.reader t₂) (l : Stepped ue t₂.reader t₃) where
   pub read_through : point_of (parsed t.answer) (parsed t₂.answer) (parsed t₃.answer) ≡ opi_point s.now 0
   read_through = rw (three_reads s.now 0, h.answer, k.answer, l.answer, k.place, h.place, k.bytes, h.bytes, from.0, from.1)

@@ -17,7 +17,7 @@ use Rattle.grouping.proofs.Grouping.{grouped_as}
 use Rattle.expand.specs.declared.Picture.{Picture}
 use Rattle.access_unit.specs.declared.StartCodes.{StartCodes}
 use Rattle.path.specs.Still.{units_in, Still}
-use Rattle.path.specs.Path.{Path, WholePath}
+use Rattle.path.specs.Path.{Path, WholePath, WholePathEither}
 use Rattle.path.proofs.Carried.{splits, split_count, unit_below, unit_last}
 use Rattle.path.proofs.Steps.{config, expansion_of, list_of, stream_of, reads_as, carries, head_of, record_of}
 use Rattle.path.proofs.Steps.{head_back, item_of, is_expanded, is_written, is_read_back, is_restored, is_assembled}
@@ -82,9 +82,12 @@ module _ {codes : StartCodes} {C S C' S' : List ℕ} {pic pic' : Picture} {tols 
     same_picture = ap (drop 2)
         (sym p.last ∙ same_unit (length (units_in C)) ∙ ap (λ (k : ℕ). held q.stream (get_or q.spans k nowhere)) same_count ∙ q.last)
 
--- The claim (specs/Path.antt).
-pub whole_path : WholePath
+-- The claim (specs/Path.antt), under a choice of start codes, and under either.
+pub whole_path : (codes : StartCodes) → WholePath codes
 whole_path codes C S C' S' still still' pic pic' chroma depth chroma' depth' tols tols' =
     let p = path codes C S still pic chroma depth tols in
     let q = path codes C' S' still' pic' chroma' depth' tols' in
     record { first = p; second = q; same = (λ e. (cc (same_picture p q e), cc (same_grouped p q e)), λ e. same_streams p q e.0 e.1) }
+
+pub whole_path_either : WholePathEither
+whole_path_either = whole_path

@@ -59,10 +59,14 @@ pub record Paths (codes : StartCodes) (C S C' S' : List ℕ) (pic pic' : Picture
   pub second : Path codes C' S' pic' tols'
   pub same : (first.stream ≡ second.stream) ↔ ((S ≡ S') × (first.grouped ≡ second.grouped))
 
--- The claim: under either choice of start codes, for any two stills that meet the premises and any targets, with chroma at most 3, depth at most 15
--- and any dimensions.
-abbrev pub WholePath : Type 0
-WholePath =
-    (codes : StartCodes) (C S C' S' : List ℕ) → Still C S → Still C' S'
+-- The claim under a choice of start codes, for any two stills that meet the premises and any targets, with chroma at most 3, depth at most 15 and any
+-- dimensions.
+abbrev pub WholePath : StartCodes → Type 0
+WholePath codes =
+    (C S C' S' : List ℕ) → Still C S → Still C' S'
     → (pic pic' : Picture) → pic.chroma_format_idc ≤ 3 → pic.bit_depth ≤ 15 → pic'.chroma_format_idc ≤ 3 → pic'.bit_depth ≤ 15
     → (tols tols' : Option ℕ) → Paths codes C S C' S' pic pic' tols tols'
+
+-- The claim under either choice.
+abbrev pub WholePathEither : Type 0
+WholePathEither = (codes : StartCodes) → WholePath codes

@@ -113,7 +113,7 @@ all_placed_in_record k p (a ∷ xs) = placed_in_record k p a ∷ all_placed_in_r
 record FirstSays (k : Codec) (a : Array (List ℕ)) : Type 0 where
   complete : first_byte a / 128 ≡ a.complete
   reserved_bit : reserved_in k (first_byte a) ≡ a.reserved_bit
-  unit_type_of : type_in k (first_byte a) ≡ a.unit_type
+  unit_type : type_in k (first_byte a) ≡ a.unit_type
 
 first_says : (k : Codec) (a : Array (List ℕ)) → a.complete ≤ 1 → a.reserved_bit ≤ 1 → a.unit_type ≤ largest_type
     → first_fits k a.reserved_bit a.unit_type ≡ true → FirstSays k a

@@ -1,11 +1,11 @@
 -- Laws of a record with any head: its answers in the order of their tests, and its parts stored.
-use Prim.Native.Nat.{ℕ, ◌+◌, ◌^◌, ◌≤◌, ◌<◌}
+use Prim.Native.Nat.{ℕ, ◌+◌, ◌≤◌}
 use mathlib.Core.Path.{◌≡◌, refl, sym, ap, subst, ◌∙◌}
 use mathlib.Core.Bool.{Bool, true, false, ◌&&◌}
 use mathlib.Core.List.{List, [], ◌∷◌, ◌++◌, append_assoc}
 use native.Mathlib.Omega.{arith}
 use lib.Dec.{leb}
-use lib.ListN.{length, set, replicate, length-append, length-set, length-replicate}
+use lib.ListN.{length, set, replicate, length-append, length-replicate}
 use lib.Seq.{sets, length-sets}
 use borrow.Author.Tests.{leb-true}
 use Rattle.error.specs.Refusals.{number_of}
@@ -15,9 +15,9 @@ use Rattle.error.specs.declared.Written.{Written}
 use Rattle.error.specs.declared.Written.TheVariants as W
 use Rattle.parse.specs.Logic.{if◌then◌else◌}
 use Rattle.parse.specs.Outcome.{Outcome, accept, refuse, and_then, lent_output, counted}
-use Rattle.parse.specs.inner.Stores.{Puts, bytes_of}
+use Rattle.parse.specs.inner.Stores.{bytes_of}
 use Rattle.parse.proofs.General.{both_true, sets_then, sets_before}
-use Rattle.parse.proofs.Output.{written_short, written_fits}
+use Rattle.parse.proofs.Output.{written_fits}
 use Rattle.boxes.specs.Walk.{count_found}
 use Rattle.boxes.specs.declared.Span.{Span}
 use Rattle.unit_list.specs.UnitList.{Array, decode, held_arrays}
@@ -53,31 +53,16 @@ module _ (k : Codec) (s : List ℕ) where
       → leb m.count 255 && m.fits ≡ leb (length (held_arrays s a.arrays)) 255 && arrays_fit k (held_arrays s a.arrays)
   fits_by o m a = rw a.is
 
-  refused_of : (h : Outcome (List ℕ)) (o : Outcome (List (Array Span))) (n : ℕ) → refuse n ≡ measured_by (arrays_measure (Record k) s) o
-      → record_in k h s o ≡ refuse n
-  refused_of h (accept xs) n e = absurd (let z : ◌≡◌ {A = ℕ} 0 1 = cc in omega arith)
-  refused_of h (refuse i) n e = let z : i ≡ n = cc in ap refuse z
-
   -- ### the tests when the arrays after a cursor's end are measured
 
   module _ (c : ListCursor) (fits : Fits s c) (r : Measured)
       (f : (measure_of r ≡ measured_by (arrays_measure (Record k) s) (arrays_from s c)) × ArraysWithin s r) where
-    pub record_malformed : (h : Outcome (List ℕ)) → r ≡ M.Malformed → record_in k h s (arrays_from s c) ≡ refuse 21
-    record_malformed h e = refused_of h (arrays_from s c) 21 (sym (ap measure_of e) ∙ f.0)
-
     module _ (m : Measure) (e : r ≡ M.Is m) where
       a : Known (arrays_from s c) m
       a = known (arrays_from s c) m (sym (ap measure_of e) ∙ f.0)
 
       abbrev xs : List (Array (List ℕ))
       xs = held_arrays s a.arrays
-
-      -- the measured length is at most that of a list
-      pub arrays_short : m.len ≤ 2 ^ 31
-      arrays_short = let w = subst (ArraysWithin s) e f.1 in omega (arith, w.0, fits.lent)
-
-      pub record_headless : (h : Outcome (List ℕ)) (n : ℕ) → h ≡ refuse n → record_in k h s (arrays_from s c) ≡ refuse n
-      record_headless h n w = rw (a.found, w)
 
       record_given_lem : (h : Outcome (List ℕ)) (b : List ℕ) → h ≡ accept b → leb m.count 255 && m.fits ≡ true
           → record_in k h s (arrays_from s c) ≡ accept (b ++ (length xs ∷ []) ++ arrays_bytes k xs)
@@ -124,16 +109,7 @@ module _ (k : Codec) (s : List ℕ) (l : RecordLayout) (out : List ℕ) where
       let ys = held_arrays s w.laid.found in
       omega (arith, w.laid.long, w.head.long, length-append b (length ys ∷ []), length-append (b ++ (length ys ∷ [])) (arrays_bytes k ys))
 
-  pub record_short : length out < l.len → (h o : Outcome (List ℕ)) → Writable k s h o l
-      → ◌≡◌ {A = Outcome ℕ × List ℕ} (refuse 20, out) (lent_output (counted o) out)
-  record_short less h o w = written_short o out (whole h o w) w.bytes (omega (arith, length_record h o w))
-
   module _ (room : l.len ≤ length out) (d₁ : List ℕ) (e₁ : d₁ ≡ set out l.head_len l.count) where
-    pub arrays_put : Laid k s l → Puts (arrays_laid (Record k) s) (arrays_from s l.arrays) d₁ (l.head_len + 1)
-    arrays_put w =
-        let n : length d₁ ≡ length out = ap length e₁ ∙ length-set out l.head_len l.count in
-        record { it = w.found; found = w.is; room = omega (arith, w.long) }
-
     module _ (d₂ : List ℕ) (e₂ : d₂ ≡ sets d₁ (l.head_len + 1) (bytes_of (arrays_laid (Record k) s) (arrays_from s l.arrays)))
         (h o : Outcome (List ℕ))
         (w : Writable k s h o l) where

@@ -1,4 +1,5 @@
-// For speed/run alone: filling a directory, asking it for the first unit of a type, and walking over the list for it, as calls for C.
+// For speed/run alone: filling a directory, asking it for the first unit of a type, and walking over the list for it, with
+// answers of numbers. `speed_directory_c` exports these calls to C.
 #![tactic(auto)]
 
 ghost use Rattle.std.specs.Prelude.{◌≡◌};
@@ -66,8 +67,7 @@ fn refusal_of(counted: Counted) -> u32
 }
 
 // Fills a directory and totals, as `directory_fill::fill` does.
-#[unsafe(no_mangle)]
-pub extern "C" fn speed_fill(list: &[u8], dir: &mut [Entry], totals: &mut [usize; TYPES]) -> u32
+pub fn speed_fill(list: &[u8], dir: &mut [Entry], totals: &mut [usize; TYPES]) -> u32
     ensures { (result, (dir.new, totals.new))
         ≡ fill_numbers (fill_directory list.now dir.old totals.old) }
 {
@@ -76,13 +76,7 @@ pub extern "C" fn speed_fill(list: &[u8], dir: &mut [Entry], totals: &mut [usize
 }
 
 // Asks a directory for the first unit of a type.
-#[unsafe(no_mangle)]
-pub extern "C" fn speed_first(
-    list: &[u8],
-    dir: &[Entry],
-    totals: &[usize; TYPES],
-    t: u8,
-) -> UnitNumbers
+pub fn speed_first(list: &[u8], dir: &[Entry], totals: &[usize; TYPES], t: u8) -> UnitNumbers
     ensures { result
         ≡ numbers_of (place_asked (unit_asked (FirstOfType t) list.now dir.now totals.now)) }
 {
@@ -91,8 +85,7 @@ pub extern "C" fn speed_first(
 }
 
 // Walks over a list for the first unit of a type.
-#[unsafe(no_mangle)]
-pub extern "C" fn speed_walk(list: &[u8], t: u8) -> UnitNumbers
+pub fn speed_walk(list: &[u8], t: u8) -> UnitNumbers
     ensures { result ≡ numbers_of (place_found in_first (list_units_of_type t list.now) 0) }
 {
     let unit = list_units::nal_unit_of_type_at(list, t, 0);

@@ -1,4 +1,4 @@
-// For speed/run alone: SPS reading as a call for C.
+// For speed/run alone: SPS reading with an answer of numbers. `speed_sps_c` exports it to C.
 #![tactic(auto)]
 
 ghost use Rattle.std.specs.Prelude.{◌≡◌};
@@ -24,8 +24,7 @@ pub struct SpsNumbers {
 }
 
 // Reads the head of an SPS from its RBSP. Refusals: those of `SpsHead::parse_rbsp`.
-#[unsafe(no_mangle)]
-pub extern "C" fn speed_sps(rbsp: &[u8]) -> SpsNumbers
+pub fn speed_sps(rbsp: &[u8]) -> SpsNumbers
     ensures { result ≡ numbers_of (sps_rbsp_given rbsp.now) }
 {
     let read = SpsHead::parse_rbsp(rbsp);

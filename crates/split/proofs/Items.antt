@@ -9,8 +9,6 @@ use native.Mathlib.Omega.{arith}
 use native.Mathlib.Decide.{dec_le}
 use lib.ListN.{length}
 use borrow.Author.Tests.{le-leb, lt-leb, eq-eqb, ne_eqb, lt-ltb}
-use types.Run.{OneOf}
-use denote.Enum.Declared.{tag_of}
 use Rattle.error.specs.Refusals.{number_of}
 use Rattle.error.specs.declared.Refusal.{Refusal}
 use Rattle.parse.specs.Outcome.{Outcome, accept, refuse}
@@ -29,7 +27,6 @@ use Rattle.split.specs.Answers.{Next, next_of, unit_read, item_step, next_item_u
 use Rattle.split.specs.inner.Walk.{item_units_from, UnitAhead, Onward}
 use Rattle.split.specs.declared.NextUnit.{NextUnit}
 use Rattle.split.specs.declared.NextUnit.TheVariants as N
-use Rattle.split.specs.contracts.NextUnit.{the_type}
 use Rattle.split.proofs.Spans.{Apart}
 
 -- ### the unit at a place
@@ -272,9 +269,9 @@ found_onward size s p N.End e = tt
 found_onward size s p (N.Refused x) e = tt
 
 -- a step that found no unit: there is none
-pub found_none : (size : ℕ) (s : List ℕ) (p : ℕ) (r : NextUnit) → next_of r ≡ item_step size s p → OneOf (1 ∷ 2 ∷ []) (tag_of the_type r)
-    → total (item_units_from size s p) ≡ 0
-found_none size s p (N.Unit a next) e k = absurd (⊎_elim (λ h. omega arith) (λ h. omega arith) k)
+pub found_none : (size : ℕ) (s : List ℕ) (p : ℕ) (r : NextUnit) → next_of r ≡ item_step size s p
+    → ((a : Span) (next : ℕ) → r ≡ N.Unit a next → ⊥) → total (item_units_from size s p) ≡ 0
+found_none size s p (N.Unit a next) e k = absurd (k a next refl)
 found_none size s p N.End e k = ap total (sym (found_left size s p N.End e))
 found_none size s p (N.Refused x) e k = ap total (sym (found_left size s p (N.Refused x) e))
 

@@ -23,7 +23,7 @@ use Rattle.path.proofs.Worked.{P, Q, C, worked}
 use Rattle.path.proofs.Instance.{mixed, instances}
 use Rattle.path.proofs.Instance as I
 use Rattle.still.specs.Stills.{still_record, stream_with, still_stream}
-use Rattle.still_path.specs.Calls.{Calls, TwoCalls, WholeCalls}
+use Rattle.still_path.specs.Calls.{Calls, TwoCalls, WholeCalls, WholeCallsEither}
 use Rattle.still.proofs.Pictures.{any_picture_lem}
 
 -- one still: the steps of its path are those of the calls
@@ -50,10 +50,10 @@ module _ {codes : StartCodes} {C S : List ℕ} {pic : Picture} {tols : Option �
       (accepted_bytes (assemble codes p.head p.full_list p.item tols) p.stream p.assembles)
 
   calls : Calls codes C S pic tols p
-  calls = record { record_given_lem = counts_of _ _ is_record_lem; stream_given = counts_of _ _ is_stream }
+  calls = record { record_given = counts_of _ _ is_record_lem; stream_given = counts_of _ _ is_stream }
 
--- The claim (specs/Calls.antt).
-pub whole_calls : WholeCalls
+-- The claim (specs/Calls.antt), under a choice of start codes, and under either.
+pub whole_calls : (codes : StartCodes) → WholeCalls codes
 whole_calls codes C S C' S' still still' pic pic' chroma depth chroma' depth' tols tols' =
     let w = whole_path codes C S C' S' still still' pic pic' chroma depth chroma' depth' tols tols' in
     let e = is_stream still chroma depth w.first in
@@ -64,6 +64,9 @@ whole_calls codes C S C' S' still still' pic pic' chroma depth chroma' depth' to
       second = calls still' chroma' depth' w.second;
       same = (λ g. let x = w.same.0 (bytes_of (sym e ∙ g ∙ f)) in (cc x.0, cc x.1), λ g. e ∙ ap accept (w.same.1 g) ∙ sym f);
     }
+
+pub whole_calls_either : WholeCallsEither
+whole_calls_either = whole_calls
   where
     bytes_of : {a b : List ℕ} → accept a ≡ accept b → a ≡ b
     bytes_of e = cc

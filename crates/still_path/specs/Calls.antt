@@ -11,7 +11,7 @@ use Rattle.still.specs.Stills.{still_record, still_stream}
 -- One still: both calls are accepted with any output that is long enough. They return the full record and the stream of the path, which splits into
 -- the grouped units and 00 41 S.
 pub record Calls (codes : StartCodes) (C S : List ℕ) (pic : Picture) (tols : Option ℕ) (path : Path codes C S pic tols) : Type 0 where
-  pub record_given_lem : Writes (counted (still_record C pic)) (length path.bytes) path.bytes
+  pub record_given : Writes (counted (still_record C pic)) (length path.bytes) path.bytes
   pub stream_given : Writes (counted (still_stream codes C S tols)) (length path.stream) path.stream
 
 -- Two stills: both calls for each, and the streams are equal exactly when S = S' and the grouped units are equal, one by one in order.
@@ -21,10 +21,14 @@ pub record TwoCalls (codes : StartCodes) (C S C' S' : List ℕ) (pic pic' : Pict
   pub second : Calls codes C' S' pic' tols' paths.second
   pub same : (still_stream codes C S tols ≡ still_stream codes C' S' tols') ↔ ((S ≡ S') × (paths.first.grouped ≡ paths.second.grouped))
 
--- The claim: under either choice of start codes, for any two stills that meet the premises and any targets, with chroma at most 3, depth at most 15
--- and any dimensions.
-abbrev pub WholeCalls : Type 0
-WholeCalls =
-    (codes : StartCodes) (C S C' S' : List ℕ) → Still C S → Still C' S'
+-- The claim under a choice of start codes, for any two stills that meet the premises and any targets, with chroma at most 3, depth at most 15 and any
+-- dimensions.
+abbrev pub WholeCalls : StartCodes → Type 0
+WholeCalls codes =
+    (C S C' S' : List ℕ) → Still C S → Still C' S'
     → (pic pic' : Picture) → pic.chroma_format_idc ≤ 3 → pic.bit_depth ≤ 15 → pic'.chroma_format_idc ≤ 3 → pic'.bit_depth ≤ 15
     → (tols tols' : Option ℕ) → TwoCalls codes C S C' S' pic pic' tols tols'
+
+-- The claim under either choice.
+abbrev pub WholeCallsEither : Type 0
+WholeCallsEither = (codes : StartCodes) → WholeCalls codes

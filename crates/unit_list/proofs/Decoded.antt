@@ -78,7 +78,7 @@ record ArrayTaken (w : ℕ) (s : List ℕ) (p : ℕ) (x : Array Span) (q : ℕ) 
   chunked : chunk w s p ≡ value rest last
   two : 2 ≤ rest.len
   complete : complete_byte x ≡ get_or s rest.start 0
-  unit_type_of : x.unit_type ≡ get_or s (rest.start + 1) 0
+  unit_type : x.unit_type ≡ get_or s (rest.start + 1) 0
   units : many (chunk w) (take (rest.start + rest.len) s) (rest.start + 2) ≡ value x.units q
 
 module _ (w : ℕ) (s : List ℕ) (p : ℕ) (x : Array Span) (q : ℕ) where

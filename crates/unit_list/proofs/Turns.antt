@@ -1,12 +1,10 @@
 -- What the start and a step of the walk over a list say of its units.
 use Prim.Native.Nat.{ℕ, ◌+◌, ◌≤◌}
 use mathlib.Core.Path.{◌≡◌, refl, sym, ap, ◌∙◌, subst}
-use mathlib.Core.List.{List, [], ◌∷◌}
+use mathlib.Core.List.{List, []}
 use mathlib.Core.Logic.{◌⊎◌, ⊎_elim, inl, inr}
 use native.Mathlib.Omega.{arith}
 use lib.ListN.{length}
-use types.Run.{OneOf}
-use denote.Enum.Declared.{tag_of}
 use Rattle.error.specs.Refusals.{number_of}
 use Rattle.error.specs.declared.Refusal.{Refusal}
 use Rattle.parse.specs.Outcome.{Outcome, accept, refuse}
@@ -21,7 +19,6 @@ use Rattle.unit_list.specs.declared.ListStart.{ListStart}
 use Rattle.unit_list.specs.declared.ListStart.TheVariants as S
 use Rattle.unit_list.specs.declared.ListStep.{ListStep}
 use Rattle.unit_list.specs.declared.ListStep.TheVariants as L
-use Rattle.unit_list.specs.contracts.ListStep.{the_type}
 use Rattle.unit_list.proofs.Arrays.{two_to_four}
 use Rattle.unit_list.proofs.Units.{list_spans}
 
@@ -71,15 +68,15 @@ module _ (list : List ℕ) (here : ListCursor) (r : ListStep) (said : (stepped l
 
 -- a step that found no unit
 module _ (list : List ℕ) (here : ListCursor) where
-  pub list_stops : (r : ListStep) → stepped list r ≡ typed_units_from list here → OneOf (1 ∷ 2 ∷ []) (tag_of the_type r)
+  pub list_stops : (r : ListStep) → stepped list r ≡ typed_units_from list here → ((a : Span) (next : ListCursor) → r ≡ L.Unit a next → ⊥)
       → (units_left list here ≡ accept []) ⊎ (units_left list here ≡ refuse 21)
   unfolding unit_spans
-  list_stops (L.Unit a next) e k = absurd (⊎_elim (λ h. omega arith) (λ h. omega arith) k)
+  list_stops (L.Unit a next) e k = absurd (k a next refl)
   list_stops L.End e k = inl (ap untyped (sym e))
   list_stops L.Malformed e k = inr (ap untyped (sym e))
 
   -- where units are found: none are left
-  pub list_none : (r : ListStep) → stepped list r ≡ typed_units_from list here → OneOf (1 ∷ 2 ∷ []) (tag_of the_type r)
+  pub list_none : (r : ListStep) → stepped list r ≡ typed_units_from list here → ((a : Span) (next : ListCursor) → r ≡ L.Unit a next → ⊥)
       → (us : List Span) → units_left list here ≡ accept us → us ≡ []
   list_none r e k us f =
       ⊎_elim (λ h. let w : accept [] ≡ accept us = sym h ∙ f in cc)

@@ -21,7 +21,6 @@ use Rattle.bit_reader.specs.declared.reader.BitReader.{BitReader}
 use Rattle.bit_reader.specs.declared.reader.ReaderStep.{ReaderStep}
 use Rattle.bit_reader.proofs.Numbers.{u_read, skip_read}
 use Rattle.bit_reader.proofs.Chain.{passed_for_read}
-use Rattle.bit_reader.proofs.ReaderCalls.{AtStart}
 use Rattle.vps.specs.inner.Front.{vps_front, front_of}
 
 -- ---- the answers where the three reads before the layer test returned values
@@ -125,7 +124,7 @@ over P s d t e h = record {
 }
 
 -- the four steps, from the first bit on
-module _ (s : Bor (List ℕ)) (d : BitReader) (t₁ t₂ t₃ t₄ : ReaderStep) (from : AtStart s d) (h₁ : Stepped (skipping 4) d t₁)
+module _ (s : Bor (List ℕ)) (d : BitReader) (t₁ t₂ t₃ t₄ : ReaderStep) (from : (d.src ≡ s) × (d.pos.0 ≡ 0)) (h₁ : Stepped (skipping 4) d t₁)
     (h₂ : Stepped (u 6) t₁.reader t₂) (h₃ : Stepped (u 3) t₂.reader t₃) (h₄ : Stepped (skipping 6) t₃.reader t₄) where
   o₁ : Over (skipping 4) s d.pos.0 t₁
   o₁ = over (skipping 4) s d t₁ from.0 h₁

@@ -1,11 +1,9 @@
 -- The answer of `vps_first_ptl` (SCOPE 3.7).
 use Rattle.std.specs.Prelude.{ℕ, List}
 use Rattle.parse.specs.Outcome.{Outcome, hands_back}
-use Rattle.bit_reader.specs.declared.BitsRead.TheVariants as B
 use Rattle.ptl.specs.Ptl.{zero_ptl}
 use Rattle.ptl.specs.declared.VvcPtlRecord.{VvcPtlRecord}
 use Rattle.params.specs.Answers.{params_read_of}
-use Rattle.params.specs.declared.ParamsAnswer.TheVariants as A
 use Rattle.vps.specs.Vps.{vps_first_ptl}
 use Rattle.vps.specs.declared.PtlRead.{PtlRead}
 

@@ -1,4 +1,4 @@
-// The answers of the calls for C and Rust: structs of numbers. Crates above, one for each family of calls, export the calls.
+// The answers of the calls for C and Rust: structs of numbers. Crates above, one for each family, have the calls, and `vvcc_c` exports them.
 #![tactic(auto)]
 
 pub mod answers;

@@ -15,8 +15,7 @@ use vvcc_answers::{VvccRead, VvccWritten, answers};
 
 // The stream of a full record and an item. The record's unit list is written to `scratch`. Refusals: 23, those of `full_read::parse`, 20 where
 // `scratch` is too short, those of `access_unit_annex_b`.
-#[unsafe(no_mangle)]
-pub extern "C" fn vvcc_access_unit(
+pub fn vvcc_access_unit(
     record: &[u8],
     item: &[u8],
     has_target: u8,
@@ -49,8 +48,7 @@ pub extern "C" fn vvcc_access_unit(
 
 // Reads a full record strictly: whether an archive may store it. The record's unit list is written to `scratch`. Refusals: those of
 // `full_read::parse_strict`, where 20 is about `scratch`.
-#[unsafe(no_mangle)]
-pub extern "C" fn vvcc_strict_record(record: &[u8], scratch: &mut [u8]) -> VvccRead
+pub fn vvcc_strict_record(record: &[u8], scratch: &mut [u8]) -> VvccRead
     ensures { (result, scratch.new) ≡ read_given (parse_strict «record».now) scratch.old }
 {
     let read = full_read::parse_strict(record, scratch);

@@ -9,8 +9,7 @@ use expand::Picture;
 use vvcc_answers::{VvccWritten, answers};
 
 // The full record of a still. Refusals: those of `still_record`.
-#[unsafe(no_mangle)]
-pub extern "C" fn vvcc_still_record(
+pub fn vvcc_still_record(
     record: &[u8],
     chroma_format_idc: u8,
     bit_depth: u8,
@@ -32,8 +31,7 @@ pub extern "C" fn vvcc_still_record(
 }
 
 // The stream of a still. Refusals: those of `still_stream`.
-#[unsafe(no_mangle)]
-pub extern "C" fn vvcc_still_stream(
+pub fn vvcc_still_stream(
     record: &[u8],
     stored: &[u8],
     has_target: u8,

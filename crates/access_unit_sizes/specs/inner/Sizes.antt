@@ -1,5 +1,5 @@
 -- Internal: an access unit measured: the sums over the list and the item, and the sizes that they make.
-use Rattle.std.specs.Prelude.{ℕ, ◌+◌, ◌*◌, ◌-◌, ◌^◌, ◌≤◌, ◌<◌, Bool, ◌&&◌, ◌||◌, List, [], map, eqb, ltb, length}
+use Rattle.std.specs.Prelude.{ℕ, ◌+◌, ◌*◌, ◌-◌, ◌^◌, ◌≤◌, ◌<◌, Bool, ◌&&◌, ◌||◌, List, map, eqb, ltb, length}
 use Rattle.std.proofs.Math.Option.{Option}
 use Rattle.error.specs.Refusals.{number_of}
 use Rattle.parse.specs.Logic.{if◌then◌else◌}

@@ -1,6 +1,5 @@
 -- Internal: walks over the units of an item or a stream.
 use Rattle.std.specs.Prelude.{ℕ, ◌+◌, ◌≤◌, ◌<◌, ◌≡◌, List, length}
-use Rattle.std.proofs.Math.Option.{some}
 use Rattle.parse.specs.Outcome.{Outcome, accept}
 use Rattle.parse.specs.Parse.{many, outcome}
 use Rattle.boxes.specs.Walk.{count_found}

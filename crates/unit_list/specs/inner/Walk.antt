@@ -2,7 +2,7 @@
 use Rattle.std.specs.Prelude.{ℕ, ◌+◌, ◌^◌, ◌≤◌, ◌≡◌, List, [], ◌∷◌, ◌++◌, ◌⊎◌, length, take}
 use Rattle.error.specs.Refusals.{number_of}
 use Rattle.parse.specs.Outcome.{Outcome, accept, refuse, and_then}
-use Rattle.parse.specs.Parse.{Parsed, value, refused, many, outcome_or}
+use Rattle.parse.specs.Parse.{many, outcome_or}
 use Rattle.parse.specs.inner.Walk.{more}
 use Rattle.boxes.specs.Bytes.{chunk}
 use Rattle.boxes.specs.declared.Span.{Span}

@@ -1,12 +1,9 @@
 -- Laws of the walk over the kept units of an item.
 use Prim.Native.Nat.{ℕ, ◌≤◌}
 use mathlib.Core.Path.{◌≡◌, refl, sym, ap, ◌∙◌}
-use mathlib.Core.Logic.{⊎_elim}
-use mathlib.Core.List.{List, [], ◌∷◌}
+use mathlib.Core.List.{List}
 use mathlib.Core.Option.{Option}
 use native.Mathlib.Omega.{arith}
-use types.Run.{OneOf}
-use denote.Enum.Declared.{tag_of}
 use Rattle.parse.specs.inner.Walk.{more}
 use Rattle.boxes.specs.declared.Span.{Span}
 use Rattle.boxes.proofs.Walk.{total}
@@ -14,7 +11,6 @@ use Rattle.split.specs.Answers.{next_of, item_step}
 use Rattle.split.specs.inner.Walk.{UnitAhead, Onward}
 use Rattle.split.specs.declared.NextUnit.{NextUnit}
 use Rattle.split.specs.declared.NextUnit.TheVariants as N
-use Rattle.split.specs.contracts.NextUnit.{the_type}
 use Rattle.split.proofs.Items.{found_end, found_refusal}
 use Rattle.access_unit.specs.AccessUnit.{kept}
 use Rattle.access_unit.specs.inner.Gathered.{kept_left}
@@ -28,10 +24,10 @@ onward_earlier item p q h (N.Refused e) f = tt
 
 module _ (size : ℕ) (target : Option ℕ) (item : List ℕ) where
   -- a step that found no unit says the same for the kept units
-  pub over_none : (p : ℕ) (r : NextUnit) → OneOf (1 ∷ 2 ∷ []) (tag_of the_type r) → next_of r ≡ item_step size item p
+  pub over_none : (p : ℕ) (r : NextUnit) → ((a : Span) (next : ℕ) → r ≡ N.Unit a next → ⊥) → next_of r ≡ item_step size item p
       → kept_stepped size target item r ≡ kept_left size target item p
   unfolding kept_left kept
-  over_none p (N.Unit a next) k e = absurd (⊎_elim (λ h. omega arith) (λ h. omega arith) k)
+  over_none p (N.Unit a next) k e = absurd (k a next refl)
   over_none p N.End k e = rw (found_end size item p N.End e refl)
   over_none p (N.Refused x) k e = rw (found_refusal size item p (N.Refused x) e x refl)
 
@@ -45,8 +41,8 @@ module _ (size : ℕ) (target : Option ℕ) (item : List ℕ) where
     kept_found a next e = record { here = rw e at said.1; rest = sym said.0 ∙ ap (kept_stepped size target item) e }
 
   -- a step that found no unit: none is left
-  pub kept_none : (p : ℕ) (r : NextUnit) → kept_stepped size target item r ≡ kept_left size target item p → OneOf (1 ∷ 2 ∷ []) (tag_of the_type r)
+  pub kept_none : (p : ℕ) (r : NextUnit) → kept_stepped size target item r ≡ kept_left size target item p → ((a : Span) (next : ℕ) → r ≡ N.Unit a next → ⊥)
       → total (kept_left size target item p) ≡ 0
-  kept_none p (N.Unit a next) e k = absurd (⊎_elim (λ h. omega arith) (λ h. omega arith) k)
+  kept_none p (N.Unit a next) e k = absurd (k a next refl)
   kept_none p N.End e k = ap total (sym e)
   kept_none p (N.Refused x) e k = ap total (sym e)

@@ -1,12 +1,8 @@
 -- The part that is returned for unit k: of the list or of the item, by its place.
 use Prim.Native.Nat.{ℕ}
 use mathlib.Core.Path.{◌≡◌, refl, sym, ap, ◌∙◌, subst}
-use mathlib.Core.List.{List, [], ◌∷◌}
-use mathlib.Core.Logic.{⊎_elim}
-use native.Mathlib.Omega.{arith}
+use mathlib.Core.List.{List, []}
 use denote.Ref.{Bor}
-use types.Run.{OneOf}
-use denote.Enum.Declared.{tag_of}
 use Rattle.parse.specs.Outcome.{Outcome, accept, refuse}
 use Rattle.boxes.specs.Parts.{PartOf, nowhere}
 use Rattle.boxes.specs.Places.{Place, in_first, in_second, place_of, place_found, PlaceFits}
@@ -14,16 +10,15 @@ use Rattle.boxes.specs.inner.Places.{lying, span_in_first}
 use Rattle.boxes.specs.declared.Span.{Span}
 use Rattle.boxes.specs.declared.UnitPlace.{UnitPlace}
 use Rattle.boxes.specs.declared.UnitPlace.TheVariants as U
-use Rattle.boxes.specs.contracts.UnitPlace.{the_type}
 use Rattle.boxes.proofs.Places.{place_lies}
 use Rattle.access_unit.specs.AccessUnit.{Source, of_list, of_item}
 use Rattle.access_unit.specs.Answers.{source_at, PartOfEither}
 use Rattle.access_unit_nal.specs.Answers.{source_place}
 
 -- a place that is not in the item is one in the list
-pub not_second : (s t : List ℕ) (r : UnitPlace) → OneOf (0 ∷ 2 ∷ 3 ∷ []) (tag_of the_type r) → PlaceFits s t r → PlaceFits s [] r
+pub not_second : (s t : List ℕ) (r : UnitPlace) → ((a : Span) → r ≡ U.Second a → ⊥) → PlaceFits s t r → PlaceFits s [] r
 not_second s t (U.First a) k h = h
-not_second s t (U.Second a) k h = absurd (⊎_elim (λ h. omega arith) (⊎_elim (λ h. omega arith) (λ h. omega arith)) k)
+not_second s t (U.Second a) k h = absurd (k a refl)
 not_second s t U.Past k h = tt
 not_second s t (U.Refused e) k h = tt
 
@@ -45,13 +40,13 @@ module _ (r list item : Bor (List ℕ)) where
     given : At (lying (place_of u)) → PartOfEither r list item (source_at o k)
     given h = either (source_at o k) (subst At (ap lying said ∙ source_lies o k) h)
 
-    pub part_listed : OneOf (0 ∷ 2 ∷ 3 ∷ []) (tag_of the_type u) → PartOf r list (span_in_first (lying (place_of u)))
+    pub part_listed : ((a : Span) → u ≡ U.Second a → ⊥) → PartOf r list (span_in_first (lying (place_of u)))
         → PartOfEither r list item (source_at o k)
     part_listed t h = given (go u t h)
       where
-        go : (u : UnitPlace) → OneOf (0 ∷ 2 ∷ 3 ∷ []) (tag_of the_type u) → PartOf r list (span_in_first (lying (place_of u))) → At (lying (place_of u))
+        go : (u : UnitPlace) → ((a : Span) → u ≡ U.Second a → ⊥) → PartOf r list (span_in_first (lying (place_of u))) → At (lying (place_of u))
         go (U.First a) k h = h
-        go (U.Second a) k h = absurd (⊎_elim (λ h. omega arith) (⊎_elim (λ h. omega arith) (λ h. omega arith)) k)
+        go (U.Second a) k h = absurd (k a refl)
         go U.Past k h = h
         go (U.Refused e) k h = h
 

@@ -14,7 +14,7 @@ use Rattle.boxes.specs.Places.{Place, in_first, in_second, place_found}
 use Rattle.boxes.specs.declared.Span.{Span}
 use Rattle.boxes.proofs.Places.{nth_there, place_past}
 use Rattle.unit_list.specs.Answers.{list_units}
-use Rattle.access_unit.specs.AccessUnit.{leading, following, kept, Source, of_list, of_item}
+use Rattle.access_unit.specs.AccessUnit.{leading, following, Source, of_list, of_item}
 use Rattle.access_unit.specs.inner.Gathered.{Gathered, gather, in_order, sources, Walks, kept_left}
 use Rattle.access_unit_sizes.specs.declared.sizes.Sizes.{Sizes}
 use Rattle.access_unit.proofs.KeptUnits.{leads_and_follows}

@@ -52,6 +52,9 @@ module _ {codes : StartCodes} {C S : List ℕ} {pic : Picture} {tols : Option �
   calls : Calls codes C S pic tols p
   calls = record { record_given = counts_of _ _ is_record_lem; stream_given = counts_of _ _ is_stream }
 
+bytes_of : {a b : List ℕ} → accept a ≡ accept b → a ≡ b
+bytes_of e = cc
+
 -- The claim (specs/Calls.antt), under a choice of start codes, and under either.
 pub whole_calls : (codes : StartCodes) → WholeCalls codes
 whole_calls codes C S C' S' still still' pic pic' chroma depth chroma' depth' tols tols' =
@@ -67,9 +70,6 @@ whole_calls codes C S C' S' still still' pic pic' chroma depth chroma' depth' to
 
 pub whole_calls_either : WholeCallsEither
 whole_calls_either = whole_calls
-  where
-    bytes_of : {a b : List ℕ} → accept a ≡ accept b → a ≡ b
-    bytes_of e = cc
 
 -- The theorem for the two stills of crates/path/proofs/Instance.antt. The record of the first is that of SCOPE 7; its stream is P, Q and 00 41 9A
 -- after start codes: with short codes 00 41 9A, of type 8, is after 00 00 01.

@@ -8,8 +8,8 @@ use Rattle.vvcc_answers.specs.Answers.{written_answer, written_given, read_answe
 use Rattle.vvcc_records.specs.Records.{read_given}
 
 -- 5 n / 2, rounded down
-abbrev pub two_and_aHalf : ℕ → ℕ
-two_and_aHalf n = 5 * n / 2
+abbrev pub two_and_a_half : ℕ → ℕ
+two_and_a_half n = 5 * n / 2
 
 -- multi_layer_flag, the first bit of a compact record
 abbrev pub multi_layer : List ℕ → Bool
@@ -25,7 +25,7 @@ record_room C = 1100 + 5 * length C
 
 -- `vvcc_still_stream`: the stream of C and stored bytes S, where layers is the multi-layer flag
 abbrev pub still_room_with : Bool → List ℕ → List ℕ → ℕ
-still_room_with layers C S = 4 * length C + (if layers then two_and_aHalf (length S) else length S + 6)
+still_room_with layers C S = 4 * length C + (if layers then two_and_a_half (length S) else length S + 6)
 
 -- the stream of C and stored bytes S, with the multi-layer flag that C has
 abbrev pub still_room : List ℕ → List ℕ → ℕ
@@ -41,7 +41,7 @@ scratch_room rec = 4 * length rec
 
 -- `vvcc_access_unit`, output: the stream of a record and an item, where four is whether the prefix size is 4
 abbrev pub stream_room_with : Bool → List ℕ → List ℕ → ℕ
-stream_room_with four rec item = 2 * length rec + (if four then length item else two_and_aHalf (length item))
+stream_room_with four rec item = 2 * length rec + (if four then length item else two_and_a_half (length item))
 
 -- the stream of a record and an item, with the prefix size that the record has
 abbrev pub stream_room : List ℕ → List ℕ → ℕ

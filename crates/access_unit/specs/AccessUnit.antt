@@ -1,7 +1,6 @@
 -- The access unit of a still (SCOPE 3.12; ISO/IEC 23008-12 L.2.2.2 and L.2.2.1.2; ISO/IEC 14496-15:2024 11.2.4.2, note 4).
-use Rattle.std.specs.Prelude.{ℕ, zero, suc, Bool, true, ◌&&◌, ◌||◌, List, [], ◌∷◌, ◌++◌, map, leb, eqb}
+use Rattle.std.specs.Prelude.{ℕ, zero, suc, Bool, true, ◌&&◌, ◌||◌, List, [], ◌∷◌, ◌++◌, map, leb, eqb, if◌then◌else◌}
 use Rattle.std.proofs.Math.Option.{Option, none, some}
-use Rattle.parse.specs.Logic.{if◌then◌else◌}
 use Rattle.parse.specs.Outcome.{Outcome, accept, refuse, lent_input}
 use Rattle.parse.specs.Steps.{◌>>=◌}
 use Rattle.boxes.specs.Parts.{held}

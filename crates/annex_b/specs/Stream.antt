@@ -1,6 +1,5 @@
 -- Annex B streams: units between start codes, trailing zeros cut off, empty units left out (SCOPE 3.13; H.266 annex B).
-use Rattle.std.specs.Prelude.{ℕ, zero, suc, ◌+◌, ◌-◌, List, [], ◌∷◌, ◌++◌, eqb, length, take, drop}
-use Rattle.parse.specs.Logic.{if◌then◌else◌}
+use Rattle.std.specs.Prelude.{ℕ, zero, suc, ◌+◌, ◌-◌, List, [], ◌∷◌, ◌++◌, eqb, length, take, drop, if◌then◌else◌}
 use Rattle.parse.specs.Outcome.{Outcome, accept, lent_input}
 use Rattle.parse.specs.Parse.{Parsed, value, refused, Parser, many}
 use Rattle.boxes.specs.declared.Span.{Span}

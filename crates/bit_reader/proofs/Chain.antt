@@ -9,7 +9,7 @@ use lib.ListN.{length}
 use lib.Pow.{pow_pos}
 use Rattle.error.specs.Refusals.{number_of}
 use Rattle.error.specs.declared.Refusal.{Refusal}
-use Rattle.parse.specs.Logic.{if◌then◌else◌}
+use Rattle.std.specs.Prelude.{if◌then◌else◌}
 use Rattle.parse.specs.Parse.{Parsed, value, refused, bind, give}
 use Rattle.bit_reader.specs.Bits.{bits_at, u, skip}
 use Rattle.bit_reader.specs.inner.Answers.{parsed, refusal_of, number_in, place_in, part_after}

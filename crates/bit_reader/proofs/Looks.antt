@@ -8,7 +8,7 @@ use native.Mathlib.Omega.{arith}
 use lib.Dec.{leb}
 use lib.ListN.{length, take, length-take}
 use lib.Seq.{get_or-take}
-use Rattle.parse.specs.Logic.{if◌then◌else◌}
+use Rattle.std.specs.Prelude.{if◌then◌else◌}
 use Rattle.parse.specs.Parse.{Parsed, value, refused, bind, Parser, ◌>>=◌, give, refusing, refuse_if, here, times}
 use Rattle.parse.proofs.General.{leb_same}
 use Rattle.bit_reader.specs.Bits.{bit_at, bits_at, u, is_set, skip, align, zeros_before_one, ue}

@@ -9,7 +9,7 @@ use lib.Dec.{leb, lit<}
 use lib.Pow.{pow_mono, pow_pos}
 use lib.ListN.{length}
 use borrow.Author.Tests.{leb-true, eq-eqb, ne_eqb}
-use Rattle.parse.specs.Logic.{if◌then◌else◌}
+use Rattle.std.specs.Prelude.{if◌then◌else◌}
 use Rattle.parse.specs.Parse.{Parsed, value, refused, bind, give}
 use Rattle.bit_reader.specs.Bits.{bit_at, bits_at, u, is_set, skip, align, zeros_before_one, ue}
 

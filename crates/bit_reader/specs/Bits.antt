@@ -1,6 +1,5 @@
 -- Bits of a list of bytes at a bit position, the highest bit of each byte first (SCOPE 3.5; H.266 7.2, read_bits; 9.2, u(n) and ue(v)).
-use Rattle.std.specs.Prelude.{Bool, List, ℕ, zero, suc, ◌+◌, ◌-◌, ◌*◌, ◌/◌, ◌%◌, ◌^◌, leb, eqb, length, get_or}
-use Rattle.parse.specs.Logic.{if◌then◌else◌}
+use Rattle.std.specs.Prelude.{Bool, List, ℕ, zero, suc, ◌+◌, ◌-◌, ◌*◌, ◌/◌, ◌%◌, ◌^◌, leb, eqb, length, get_or, if◌then◌else◌}
 use Rattle.parse.specs.Parse.{value, refused, Parser, ◌>>=◌, give, refusing}
 
 -- bit p of the bytes

@@ -1,6 +1,5 @@
 // Internal: reads that follow another read and pass on its refusal, so that a chain of reads has no branches.
-ghost use Rattle.std.specs.Prelude.{◌≡◌, List, ℕ, ◌≤◌, ◌^◌, length};
-ghost use Rattle.parse.specs.Logic.{if◌then◌else◌};
+ghost use Rattle.std.specs.Prelude.{◌≡◌, List, ℕ, ◌≤◌, ◌^◌, length, if◌then◌else◌};
 ghost use Rattle.parse.specs.Parse.{bind, give};
 ghost use Rattle.bit_reader.specs.Bits.{u, ue, skip, align};
 ghost use Rattle.bit_reader.specs.inner.Answers.{parsed, number_in, place_in, part_after};

@@ -1,6 +1,5 @@
 -- Big-endian numbers of whole bytes, read at a place and written (SCOPE 3.1).
-use Rattle.std.specs.Prelude.{ℕ, zero, suc, ◌+◌, ◌*◌, ◌/◌, ◌%◌, ◌<◌, List, [], ◌∷◌, ◌++◌, leb, ltb, eqb, length, get_or, take, Bool, ◌||◌}
-use Rattle.parse.specs.Logic.{if◌then◌else◌}
+use Rattle.std.specs.Prelude.{ℕ, zero, suc, ◌+◌, ◌*◌, ◌/◌, ◌%◌, ◌<◌, List, [], ◌∷◌, ◌++◌, leb, ltb, eqb, length, get_or, take, Bool, ◌||◌, if◌then◌else◌}
 use Rattle.parse.specs.Parse.{value, refused, Parser, ◌>>=◌}
 use Rattle.boxes.specs.declared.Span.{Span}
 

@@ -1,6 +1,6 @@
 -- The compact record, read and written (SCOPE 3.2 and 4.2; CompactVvcDecoderConfigurationRecord, ISO/IEC 23008-12 Amd 2 L.4.3.3).
-use Rattle.std.specs.Prelude.{ℕ, ◌+◌, ◌-◌, ◌*◌, ◌/◌, ◌%◌, Bool, true, not, ◌&&◌, List, [], ◌∷◌, map, leb, ltb, eqb, length}
-use Rattle.parse.specs.Logic.{if◌then◌else◌, bit}
+use Rattle.std.specs.Prelude.{ℕ, ◌+◌, ◌-◌, ◌*◌, ◌/◌, ◌%◌, Bool, true, not, ◌&&◌, List, [], ◌∷◌, map, leb, ltb, eqb, length, if◌then◌else◌}
+use Rattle.parse.specs.Logic.{bit}
 use Rattle.parse.specs.Outcome.{Outcome, accept, refuse, lent_input, and_then}
 use Rattle.parse.specs.Parse.{value, refused, Parser, ◌>>=◌, ◌>>◌, give, times, outcome}
 use Rattle.boxes.specs.Bytes.{uint, chunk, outside}

@@ -1,7 +1,6 @@
 -- Item data restored from stored bytes and stripped to them (SCOPE 3.11 and 4.1; ISO/IEC 23008-12 Amd 2 L.4.3.3.3).
-use Rattle.std.specs.Prelude.{ℕ, ◌^◌, Bool, false, ◌&&◌, List, [], ◌∷◌, ◌++◌, leb, eqb, length, drop}
+use Rattle.std.specs.Prelude.{ℕ, ◌^◌, Bool, false, ◌&&◌, List, [], ◌∷◌, ◌++◌, leb, eqb, length, drop, if◌then◌else◌}
 use Rattle.std.proofs.Math.Option.{Option, none, some}
-use Rattle.parse.specs.Logic.{if◌then◌else◌}
 use Rattle.parse.specs.Outcome.{Outcome, accept, refuse, lent_input}
 use Rattle.boxes.specs.Bytes.{to_chunk, outside}
 use Rattle.boxes.specs.Parts.{held}

@@ -1,6 +1,5 @@
 -- The size inside the conformance window (SCOPE 4.4; H.266 7.4.3.4, sps_conf_win offsets in units of SubWidthC and SubHeightC).
-use Rattle.std.specs.Prelude.{ℕ, ◌+◌, ◌*◌, ◌-◌, ◌^◌, min, max, ◌||◌, eqb}
-use Rattle.parse.specs.Logic.{if◌then◌else◌}
+use Rattle.std.specs.Prelude.{ℕ, ◌+◌, ◌*◌, ◌-◌, ◌^◌, min, max, ◌||◌, eqb, if◌then◌else◌}
 use Rattle.sps.specs.declared.SpsHead.{SpsHead}
 use Rattle.cropped_size.specs.declared.PictureSize.{PictureSize}
 

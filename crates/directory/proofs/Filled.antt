@@ -8,7 +8,7 @@ use lib.Dec.{eqb}
 use lib.ListN.{length, get_or, take, drop, length-take, length-map}
 use lib.Seq.{take_at, take-take}
 use borrow.Author.Tests.{le-leb}
-use Rattle.parse.specs.Logic.{if◌then◌else◌}
+use Rattle.std.specs.Prelude.{if◌then◌else◌}
 use Rattle.parse.specs.Outcome.{Outcome, accept, overlay}
 use Rattle.boxes.specs.Parts.{nowhere}
 use Rattle.boxes.specs.Places.{in_first, nth}

@@ -1,7 +1,6 @@
 -- A directory of the units of a list (SCOPE 4.12): how it is filled, and what a question to any directory and totals answers.
-use Rattle.std.specs.Prelude.{ℕ, zero, suc, ◌+◌, List, [], ◌∷◌, ◌++◌, map, eqb, leb, length, get_or, take}
+use Rattle.std.specs.Prelude.{ℕ, zero, suc, ◌+◌, List, [], ◌∷◌, ◌++◌, map, eqb, leb, length, get_or, take, if◌then◌else◌}
 use Rattle.std.proofs.Math.Option.{Option, none, some}
-use Rattle.parse.specs.Logic.{if◌then◌else◌}
 use Rattle.parse.specs.Outcome.{Outcome, accept, refuse, and_then, lent_input, overlay}
 use Rattle.boxes.specs.Parts.{nowhere}
 use Rattle.boxes.specs.Places.{Place, in_first, nth}

@@ -9,7 +9,8 @@ use native.Mathlib.Numerals.{add-one}
 use lib.Dec.{T as Holds, eqb, ltb, ltb→lt, nltb→le}
 use lib.ListN.{length, get_or, take}
 use lib.Seq.{slice, slice_empty, slice-cons, get_or-take, length-take-le}
-use Rattle.parse.specs.Logic.{if◌then◌else◌, bit}
+use Rattle.std.specs.Prelude.{if◌then◌else◌}
+use Rattle.parse.specs.Logic.{bit}
 use Rattle.boxes.specs.Places.{nth}
 use Rattle.directory.specs.Directory.{entries_of_type, asked_for}
 use Rattle.directory.specs.inner.Entries.{no_entry}

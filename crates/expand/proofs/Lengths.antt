@@ -5,7 +5,7 @@ use mathlib.Core.Path.{◌≡◌}
 use mathlib.Core.Bool.{Bool, true, false}
 use mathlib.Core.List.{List, [], ◌∷◌, ◌++◌}
 use lib.ListN.{length, length-append}
-use Rattle.parse.specs.Logic.{if◌then◌else◌}
+use Rattle.std.specs.Prelude.{if◌then◌else◌}
 use Rattle.boxes.specs.Bytes.{to_be, to_chunk}
 use Rattle.boxes.proofs.Numbers.{length_to_be}
 use Rattle.unit_list.specs.UnitList.{Array, units_of, encode_units}

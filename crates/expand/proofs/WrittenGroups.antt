@@ -8,7 +8,7 @@ use lib.Dec.{eqb, leb}
 use lib.ListN.{length, length-append}
 use native.Mathlib.Decide.{dec_le}
 use borrow.Author.Tests.{le-leb, lt-leb, eq-eqb, ne_eqb, eqb-true, eqb-false}
-use Rattle.parse.specs.Logic.{if◌then◌else◌}
+use Rattle.std.specs.Prelude.{if◌then◌else◌}
 use Rattle.nal.specs.Header.{largest_unit_type, type_or31}
 use Rattle.grouping.specs.Grouping.{having_type, without, firsts, group, grouped}
 use Rattle.grouping.proofs.GroupedFits.{Every, EachOf, without_of, every_having, having_le, Has-units, types_have}

@@ -1,6 +1,5 @@
 -- Expansion of a compact record to a full one (SCOPE 3.8; ISO/IEC 23008-12 Amd 2 L.4.3.3.4).
-use Rattle.std.specs.Prelude.{ℕ, ◌-◌, min, Bool, true, false, List, map, length}
-use Rattle.parse.specs.Logic.{if◌then◌else◌}
+use Rattle.std.specs.Prelude.{ℕ, ◌-◌, min, Bool, true, false, List, map, length, if◌then◌else◌}
 use Rattle.parse.specs.Outcome.{Outcome, accept}
 use Rattle.parse.specs.Steps.{◌>>=◌, ◌>>◌, or_refuse}
 use Rattle.boxes.specs.Parts.{held}

@@ -1,8 +1,7 @@
 -- What the calls of a head return (SCOPE 4.3), and the outcomes that their answers mean.
-use Rattle.std.specs.Prelude.{ℕ, ◌+◌, List, ltb}
+use Rattle.std.specs.Prelude.{ℕ, ◌+◌, List, ltb, if◌then◌else◌}
 use Rattle.std.proofs.Math.Option.{Option}
 use Rattle.error.specs.Refusals.{number_of}
-use Rattle.parse.specs.Logic.{if◌then◌else◌}
 use Rattle.parse.specs.Outcome.{Outcome, accept, refuse}
 use Rattle.boxes.specs.Walk.{found}
 use Rattle.boxes.specs.Places.{Place, in_first, place_found}

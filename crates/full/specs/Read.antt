@@ -1,6 +1,5 @@
 -- The full record read (SCOPE 3.10; VvcDecoderConfigurationRecord, ISO/IEC 14496-15:2024 11.2.4.2). Reserved bits are ignored.
-use Rattle.std.specs.Prelude.{ℕ, ◌+◌, ◌/◌, ◌%◌, true, false, List, eqb}
-use Rattle.parse.specs.Logic.{if◌then◌else◌}
+use Rattle.std.specs.Prelude.{ℕ, ◌+◌, ◌/◌, ◌%◌, true, false, List, eqb, if◌then◌else◌}
 use Rattle.parse.specs.Outcome.{Outcome, lent_input}
 use Rattle.parse.specs.Parse.{Parser, ◌>>=◌, ◌>>◌, give, refuse_if, times}
 use Rattle.boxes.specs.Bytes.{uint}

@@ -1,7 +1,6 @@
 -- The two rules of strict reading (SCOPE 4.10): the reserved bits, by place, and the types of the arrays. The places are those of the tables in
 -- ISO/IEC 14496-15:2024 11.2.4.1 and 11.2.4.2, as `vvc_record` reads them.
-use Rattle.std.specs.Prelude.{ℕ, ◌+◌, ◌-◌, ◌/◌, ◌%◌, ◌^◌, Bool, true, ◌&&◌, List, [], ◌∷◌, ltb, eqb, get_or}
-use Rattle.parse.specs.Logic.{if◌then◌else◌}
+use Rattle.std.specs.Prelude.{ℕ, ◌+◌, ◌-◌, ◌/◌, ◌%◌, ◌^◌, Bool, true, ◌&&◌, List, [], ◌∷◌, ltb, eqb, get_or, if◌then◌else◌}
 use Rattle.parse.specs.Parse.{value, Parser, ◌>>=◌, ◌>>◌, give, times}
 use Rattle.boxes.specs.Bytes.{uint}
 use Rattle.nal.specs.Kinds.{is_record_type}

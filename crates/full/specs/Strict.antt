@@ -1,6 +1,5 @@
 -- The full record read strictly (SCOPE 4.10): as `parse_full` reads it, and then the two rules of Rules.antt.
-use Rattle.std.specs.Prelude.{ℕ, Bool, List}
-use Rattle.parse.specs.Logic.{if◌then◌else◌}
+use Rattle.std.specs.Prelude.{ℕ, Bool, List, if◌then◌else◌}
 use Rattle.parse.specs.Outcome.{Outcome, accept, refuse}
 use Rattle.parse.specs.Parse.{outcome}
 use Rattle.parse.specs.Steps.{◌>>=◌, ◌>>◌}

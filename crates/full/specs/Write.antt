@@ -1,6 +1,6 @@
 -- The full record written (SCOPE 3.9; ISO/IEC 14496-15:2024 11.2.4.2). Reserved bits are those of the standard.
-use Rattle.std.specs.Prelude.{ℕ, ◌+◌, ◌-◌, ◌*◌, Bool, true, ◌&&◌, not, List, [], ◌∷◌, ◌++◌, leb, eqb, length}
-use Rattle.parse.specs.Logic.{if◌then◌else◌, bit}
+use Rattle.std.specs.Prelude.{ℕ, ◌+◌, ◌-◌, ◌*◌, Bool, true, ◌&&◌, not, List, [], ◌∷◌, ◌++◌, leb, eqb, length, if◌then◌else◌}
+use Rattle.parse.specs.Logic.{bit}
 use Rattle.parse.specs.Outcome.{Outcome, accept, refuse, and_then}
 use Rattle.boxes.specs.Bytes.{to_be, outside}
 use Rattle.unit_list.specs.UnitList.{Array, decode, held_arrays}

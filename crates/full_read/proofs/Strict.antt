@@ -7,7 +7,7 @@ use native.Mathlib.Decide.{dec_le}
 use lib.Dec.{eqb, ltb}
 use lib.ListN.{length, get_or}
 use borrow.Author.Tests.{le-leb, lt-leb}
-use Rattle.parse.specs.Logic.{if◌then◌else◌}
+use Rattle.std.specs.Prelude.{if◌then◌else◌}
 use Rattle.parse.specs.Outcome.{Outcome, accept, refuse, and_then}
 use Rattle.parse.specs.Parse.{Parsed, value, refused, bind, Parser, give, refuse_if, times, outcome}
 use Rattle.parse.proofs.Gives.{Gives, gives_value, gives_any, gives_bind}

@@ -6,7 +6,8 @@ use mathlib.Core.List.{List, [], ◌∷◌, ◌++◌, append_assoc}
 use native.Mathlib.Omega.{arith}
 use lib.ListN.{length, set, length-append}
 use lib.Seq.{sets}
-use Rattle.parse.specs.Logic.{if◌then◌else◌, bit}
+use Rattle.std.specs.Prelude.{if◌then◌else◌}
+use Rattle.parse.specs.Logic.{bit}
 use Rattle.parse.proofs.General.{both_true, sets_then}
 use Rattle.boxes.specs.Bytes.{to_be, outside}
 use Rattle.boxes.proofs.Numbers.{length_to_be}

@@ -8,7 +8,7 @@ use mathlib.Core.List.{List, [], ◌∷◌, ◌++◌, map}
 use lib.Dec.{eqb}
 use lib.ListN.{length, get_or, length-append, length-map}
 use borrow.Author.Tests.{eq-eqb}
-use Rattle.parse.specs.Logic.{if◌then◌else◌}
+use Rattle.std.specs.Prelude.{if◌then◌else◌}
 use Rattle.boxes.specs.Bytes.{to_chunk}
 use Rattle.boxes.proofs.ChunkBytes.{length_to_chunk}
 use Rattle.nal.specs.Header.{largest_unit_type, type_or31}

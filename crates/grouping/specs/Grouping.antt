@@ -1,7 +1,6 @@
 -- Units grouped by type (SCOPE 3.8, step 4; ISO/IEC 23008-12 Amd 2 L.4.3.3.4). A unit without byte 1 has type 31.
-use Rattle.std.specs.Prelude.{ℕ, List, [], ◌∷◌, map, eqb}
+use Rattle.std.specs.Prelude.{ℕ, List, [], ◌∷◌, map, eqb, if◌then◌else◌}
 use Rattle.std.proofs.Math.Option.{Option, none, some}
-use Rattle.parse.specs.Logic.{if◌then◌else◌}
 use Rattle.nal.specs.Header.{type_or31}
 use Rattle.unit_list.specs.UnitList.{Array}
 

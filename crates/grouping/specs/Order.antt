@@ -1,6 +1,5 @@
 -- The order of the grouped units of a compact record (SCOPE 5.2).
-use Rattle.std.specs.Prelude.{ℕ, suc, ◌<◌, ◌≡◌, ◌⊎◌, List, [], ◌∷◌, map, eqb, length, get_or}
-use Rattle.parse.specs.Logic.{if◌then◌else◌}
+use Rattle.std.specs.Prelude.{ℕ, suc, ◌<◌, ◌≡◌, ◌⊎◌, List, [], ◌∷◌, map, eqb, length, get_or, if◌then◌else◌}
 use Rattle.nal.specs.Header.{type_or31}
 
 -- the number of the first unit of type t; the number of units where no unit has that type

@@ -1,6 +1,6 @@
 -- The HEVC record written (SCOPE 4.11; ISO/IEC 14496-15 8.3.3.1). Reserved bits of the head are those of the standard.
-use Rattle.std.specs.Prelude.{ℕ, ◌+◌, ◌-◌, ◌*◌, ◌^◌, Bool, ◌&&◌, not, List, [], ◌∷◌, ◌++◌, leb, ltb, length}
-use Rattle.parse.specs.Logic.{if◌then◌else◌, bit}
+use Rattle.std.specs.Prelude.{ℕ, ◌+◌, ◌-◌, ◌*◌, ◌^◌, Bool, ◌&&◌, not, List, [], ◌∷◌, ◌++◌, leb, ltb, length, if◌then◌else◌}
+use Rattle.parse.specs.Logic.{bit}
 use Rattle.parse.specs.Outcome.{Outcome, accept, refuse, and_then}
 use Rattle.boxes.specs.Bytes.{to_be, outside}
 use Rattle.unit_list.specs.UnitList.{Array, decode, held_arrays}

@@ -10,7 +10,7 @@ use denote.Enum.Declared.{tag_of}
 use lib.Dec.{leb, eqb}
 use types.Run.{OneOf}
 use borrow.Author.Tests.{le-leb, lt-leb, leb-true, leb-false, ne_eqb}
-use Rattle.parse.specs.Logic.{if◌then◌else◌}
+use Rattle.std.specs.Prelude.{if◌then◌else◌}
 use Rattle.nal.specs.Kinds.{is_record_type, unit_kind, is_picture_data, is_record, is_aud, is_record_of}
 use Rattle.nal.specs.inner.Kinds.{is_picture_data_of}
 use Rattle.nal.specs.declared.UnitKind.{UnitKind}

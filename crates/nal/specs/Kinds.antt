@@ -1,6 +1,5 @@
 -- The kinds of units, by type (SCOPE 3.3; H.266 table 5; ISO/IEC 14496-15 11.2.4.2 for those that a record may have).
-use Rattle.std.specs.Prelude.{ℕ, Bool, true, false, ◌&&◌, ◌||◌, List, leb, eqb}
-use Rattle.parse.specs.Logic.{if◌then◌else◌}
+use Rattle.std.specs.Prelude.{ℕ, Bool, true, false, ◌&&◌, ◌||◌, List, leb, eqb, if◌then◌else◌}
 use Rattle.nal.specs.Header.{type_or31}
 use Rattle.nal.specs.declared.UnitKind.{UnitKind}
 use Rattle.nal.specs.declared.UnitKind.TheVariants.{PictureData, Record, Aud, Other}

@@ -1,6 +1,5 @@
 -- Conversion of unit lists between the versions (SCOPE 4.13). Both conversions take a list of either version.
-use Rattle.std.specs.Prelude.{ℕ, List}
-use Rattle.parse.specs.Logic.{if◌then◌else◌}
+use Rattle.std.specs.Prelude.{ℕ, List, if◌then◌else◌}
 use Rattle.parse.specs.Outcome.{Outcome, accept, refuse, and_then}
 use Rattle.unit_list.specs.UnitList.{encode_as, contents, in_version, lengths_fit}
 

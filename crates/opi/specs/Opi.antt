@@ -1,7 +1,6 @@
 -- The operating point of an OPI as bits (SCOPE 3.12; H.266 7.3.2.2), read from a unit.
-use Rattle.std.specs.Prelude.{List, ℕ, drop}
+use Rattle.std.specs.Prelude.{List, ℕ, drop, if◌then◌else◌}
 use Rattle.std.proofs.Math.Option.{Option, none, some}
-use Rattle.parse.specs.Logic.{if◌then◌else◌}
 use Rattle.parse.specs.Parse.{Parsed, value, refused, Parser, ◌>>=◌, ◌>>◌, refusing}
 use Rattle.rbsp.specs.Rbsp.{rbsp}
 use Rattle.bit_reader.specs.Bits.{u, is_set, ue}

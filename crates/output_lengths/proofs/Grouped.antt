@@ -7,7 +7,7 @@ use native.Mathlib.Omega.{arith}
 use lib.Dec.{eqb}
 use lib.ListN.{length}
 use borrow.Author.Tests.{eqb-true, eqb-false, ne_eqb}
-use Rattle.parse.specs.Logic.{if◌then◌else◌}
+use Rattle.std.specs.Prelude.{if◌then◌else◌}
 use Rattle.nal.specs.Header.{type_or31}
 use Rattle.unit_list.specs.UnitList.{units_of}
 use Rattle.grouping.specs.Grouping.{having_type, without, firsts, group, grouped}

@@ -7,7 +7,7 @@ use mathlib.Core.Option.{Option, none, some}
 use native.Mathlib.Omega.{arith}
 use lib.Dec.{leb, ltb, eqb}
 use lib.ListN.{length, get_or, drop}
-use Rattle.parse.specs.Logic.{if◌then◌else◌}
+use Rattle.std.specs.Prelude.{if◌then◌else◌}
 use Rattle.parse.specs.Outcome.{Outcome, accept, refuse, and_then}
 use Rattle.parse.specs.Steps.{or_refuse}
 use Rattle.parse.specs.Parse.{Parsed, value, refused, bind, Parser, ◌>>=◌, give, refusing, refuse_if, here, times, many, many_up_to, outcome, outcome_or}

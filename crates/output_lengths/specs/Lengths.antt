@@ -1,7 +1,6 @@
 -- How many bytes always suffice for an output of the calls for C (SCOPE 4.8, also in include/vvcc.h), and what such a call returns. The theorems, for
 -- records that are lists of bytes, are in proofs/Stills.antt, proofs/AccessUnit.antt and proofs/StrictRecord.antt.
-use Rattle.std.specs.Prelude.{ℕ, ◌+◌, ◌*◌, ◌/◌, ◌%◌, ◌≤◌, ◌≡◌, Bool, List, eqb, length, get_or}
-use Rattle.parse.specs.Logic.{if◌then◌else◌}
+use Rattle.std.specs.Prelude.{ℕ, ◌+◌, ◌*◌, ◌/◌, ◌%◌, ◌≤◌, ◌≡◌, Bool, List, eqb, length, get_or, if◌then◌else◌}
 use Rattle.parse.specs.Outcome.{Outcome, accept, and_then}
 use Rattle.full.specs.Read.{FullParsed}
 use Rattle.vvcc_answers.specs.Answers.{written_answer, written_given, read_answer}

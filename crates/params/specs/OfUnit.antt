@@ -1,6 +1,5 @@
 -- A parameter set read from its unit (SCOPE 3.7).
-use Rattle.std.specs.Prelude.{List, ℕ, eqb, drop}
-use Rattle.parse.specs.Logic.{if◌then◌else◌}
+use Rattle.std.specs.Prelude.{List, ℕ, eqb, drop, if◌then◌else◌}
 use Rattle.parse.specs.Outcome.{Outcome, refuse, lent_input}
 use Rattle.parse.specs.Parse.{Parser, outcome}
 use Rattle.nal.specs.Header.{type_or31}

@@ -7,7 +7,7 @@ use native.Mathlib.Decide.{dec_le}
 use lib.Dec.{leb}
 use lib.ListN.{length}
 use borrow.Author.Tests.{le-leb, lt-leb}
-use Rattle.parse.specs.Logic.{if◌then◌else◌}
+use Rattle.std.specs.Prelude.{if◌then◌else◌}
 use Rattle.parse.specs.Parse.{Parsed, value, refused, bind, Parser, many, many_up_to, times}
 
 -- whatever P reads in s takes at least one place

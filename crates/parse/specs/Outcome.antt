@@ -1,6 +1,5 @@
 -- What a call returns, and what it leaves in the output that it was lent (SCOPE 6.1).
-use Rattle.std.specs.Prelude.{ℕ, ◌^◌, ◌≤◌, ◌≡◌, List, ◌++◌, leb, length, drop}
-use Rattle.parse.specs.Logic.{if◌then◌else◌}
+use Rattle.std.specs.Prelude.{ℕ, ◌^◌, ◌≤◌, ◌≡◌, List, ◌++◌, leb, length, drop, if◌then◌else◌}
 
 -- a value, or a refusal by its number (SCOPE 6.2)
 pub data Outcome (A : Type 0) : Type 0 where

@@ -1,7 +1,6 @@
 -- Parsers: reading a list of bytes from a position on. The position is a place, which counts bytes, for fields of bytes (SCOPE 3.1), and
 -- counts bits for fields of bits (SCOPE 3.5).
-use Rattle.std.specs.Prelude.{ℕ, zero, suc, Bool, List, [], ◌∷◌, leb, length}
-use Rattle.parse.specs.Logic.{if◌then◌else◌}
+use Rattle.std.specs.Prelude.{ℕ, zero, suc, Bool, List, [], ◌∷◌, leb, length, if◌then◌else◌}
 use Rattle.parse.specs.Outcome.{Outcome, accept, refuse}
 
 -- a value and the position after it, or a refusal's number

@@ -9,7 +9,7 @@ use lib.ListN.{length, get_or, length-append, get_or-append}
 use lib.Seq.{get_or_at}
 use native.Mathlib.Decide.{dec_le}
 use borrow.Author.Tests.{eqb-true}
-use Rattle.parse.specs.Logic.{if◌then◌else◌}
+use Rattle.std.specs.Prelude.{if◌then◌else◌}
 use Rattle.nal.specs.Header.{type_or31}
 use Rattle.start_code.specs.Splittable.{Clean, Splittable}
 use Rattle.start_code.proofs.StartCodes.{CodeAt}

@@ -1,6 +1,5 @@
 -- Profile, tier and level as bits (SCOPE 3.6; H.266 7.3.3.1, profile_tier_level( 1, s ), where the 1 says that the profile is present).
-use Rattle.std.specs.Prelude.{Bool, false, List, [], ◌∷◌, ◌++◌, ℕ, zero, suc, ◌-◌, ◌*◌, ◌/◌, ◌%◌, ltb, length, take, drop, replicate}
-use Rattle.parse.specs.Logic.{if◌then◌else◌}
+use Rattle.std.specs.Prelude.{Bool, false, List, [], ◌∷◌, ◌++◌, ℕ, zero, suc, ◌-◌, ◌*◌, ◌/◌, ◌%◌, ltb, length, take, drop, replicate, if◌then◌else◌}
 use Rattle.parse.specs.Parse.{value, Parser, ◌>>=◌, ◌>>◌, give, here, times}
 use Rattle.bit_reader.specs.Bits.{u, is_set, skip, align}
 use Rattle.ptl.specs.declared.VvcPtlRecord.{VvcPtlRecord}

@@ -1,6 +1,5 @@
 // Internal: passes over general_constraints_info( ) (H.266 7.3.3.2), and copies the bytes that hold it.
-ghost use Rattle.std.specs.Prelude.{◌≡◌, ◌-◌, ◌%◌, ◌≤◌, ◌^◌, length, take, drop};
-ghost use Rattle.parse.specs.Logic.{if◌then◌else◌};
+ghost use Rattle.std.specs.Prelude.{◌≡◌, ◌-◌, ◌%◌, ◌≤◌, ◌^◌, length, take, drop, if◌then◌else◌};
 ghost use Rattle.parse.specs.Parse.{bind, give};
 ghost use Rattle.bit_reader.specs.Bits.{is_set};
 ghost use Rattle.bit_reader.specs.inner.Answers.{parsed, place_in, part_after};

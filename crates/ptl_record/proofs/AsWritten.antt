@@ -10,7 +10,8 @@ use native.Mathlib.Decide.{dec_le}
 use lib.ListN.{length, get_or, take, replicate, length-append, get_or-replicate, get_or-append}
 use lib.Seq.{length-take-le, get_or-take, get_or_at, get_or-append-add, ext_get_or, take-suc, take_at}
 use borrow.Author.Tests.{ne_eqb, lt-ltb}
-use Rattle.parse.specs.Logic.{if◌then◌else◌, bit}
+use Rattle.std.specs.Prelude.{if◌then◌else◌}
+use Rattle.parse.specs.Logic.{bit}
 use Rattle.ptl.specs.Ptl.{padded, without_flags}
 use Rattle.ptl.specs.declared.VvcPtlRecord.{VvcPtlRecord}
 use Rattle.ptl.proofs.Arrays.{length_padded}

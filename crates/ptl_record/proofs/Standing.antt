@@ -7,7 +7,8 @@ use native.Mathlib.Nat.{add-zero, add_assoc}
 use native.Mathlib.Omega.{arith}
 use lib.ListN.{length, get_or, take, drop, length-append, length-take, length-drop, get_or-append}
 use lib.Seq.{get_or-append-add, get_or-take, get_or-drop, ext_get_or}
-use Rattle.parse.specs.Logic.{if◌then◌else◌, bit}
+use Rattle.std.specs.Prelude.{if◌then◌else◌}
+use Rattle.parse.specs.Logic.{bit}
 use Rattle.parse.proofs.General.{bit_le}
 use Rattle.boxes.specs.Bytes.{be, to_be}
 use Rattle.boxes.proofs.Numbers.{be_same, be_to_be, length_to_be}

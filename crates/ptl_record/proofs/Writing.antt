@@ -9,7 +9,8 @@ use lib.Dec.{leb, ltb}
 use lib.ListN.{length, get_or, set, take, length-append}
 use lib.Seq.{length-take-le}
 use borrow.Author.Tests.{leb-true, eq-eqb, ne_eqb}
-use Rattle.parse.specs.Logic.{if◌then◌else◌, bit}
+use Rattle.std.specs.Prelude.{if◌then◌else◌}
+use Rattle.parse.specs.Logic.{bit}
 use Rattle.parse.proofs.General.{both_true}
 use Rattle.boxes.proofs.Numbers.{length_to_be}
 use Rattle.ptl.specs.declared.VvcPtlRecord.{VvcPtlRecord}

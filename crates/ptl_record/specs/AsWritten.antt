@@ -1,6 +1,5 @@
 -- What reading (SCOPE 3.10) returns of a PTL that was written (SCOPE 3.9): what its bytes keep of it, 0 and false elsewhere.
-use Rattle.std.specs.Prelude.{ℕ, zero, suc, ◌-◌, false, List, [], ◌∷◌, ◌++◌, length, get_or, take}
-use Rattle.parse.specs.Logic.{if◌then◌else◌}
+use Rattle.std.specs.Prelude.{ℕ, zero, suc, ◌-◌, false, List, [], ◌∷◌, ◌++◌, length, get_or, take, if◌then◌else◌}
 use Rattle.ptl.specs.Ptl.{padded, without_flags}
 use Rattle.ptl.specs.declared.VvcPtlRecord.{VvcPtlRecord}
 use Rattle.ptl_record.specs.Write.{constraint_info, has_level}

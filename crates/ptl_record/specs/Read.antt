@@ -1,6 +1,5 @@
 -- The PTL of a full record, read (VvcPTLRecord: ISO/IEC 14496-15 11.2.4.1; SCOPE 3.10). Reserved bits are ignored.
-use Rattle.std.specs.Prelude.{ℕ, ◌-◌, ◌/◌, ◌%◌, false, List, ltb, eqb, get_or}
-use Rattle.parse.specs.Logic.{if◌then◌else◌}
+use Rattle.std.specs.Prelude.{ℕ, ◌-◌, ◌/◌, ◌%◌, false, List, ltb, eqb, get_or, if◌then◌else◌}
 use Rattle.parse.specs.Parse.{value, bind, Parser, ◌>>=◌, ◌>>◌, give, refuse_if, times}
 use Rattle.boxes.specs.Bytes.{uint, bytes}
 use Rattle.boxes.specs.Parts.{held}

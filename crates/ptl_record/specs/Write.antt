@@ -1,6 +1,6 @@
 -- The PTL of a full record, written (VvcPTLRecord: ISO/IEC 14496-15 11.2.4.1; SCOPE 3.9). Reserved bits are those of the standard.
-use Rattle.std.specs.Prelude.{ℕ, zero, suc, ◌+◌, ◌-◌, ◌*◌, ◌/◌, ◌%◌, Bool, false, ◌&&◌, List, [], ◌∷◌, ◌++◌, leb, ltb, eqb, length, get_or, take}
-use Rattle.parse.specs.Logic.{if◌then◌else◌, bit}
+use Rattle.std.specs.Prelude.{ℕ, zero, suc, ◌+◌, ◌-◌, ◌*◌, ◌/◌, ◌%◌, Bool, false, ◌&&◌, List, [], ◌∷◌, ◌++◌, leb, ltb, eqb, length, get_or, take, if◌then◌else◌}
+use Rattle.parse.specs.Logic.{bit}
 use Rattle.boxes.specs.Bytes.{to_be}
 use Rattle.ptl.specs.declared.VvcPtlRecord.{VvcPtlRecord}
 

@@ -1,7 +1,6 @@
 -- The RBSP of a payload, which is what follows a unit's two header bytes: emulation prevention removed (SCOPE 3.4; H.266 7.3.1.1, the loop
 -- over rbsp_byte and emulation_prevention_three_byte).
-use Rattle.std.specs.Prelude.{Bool, ◌&&◌, List, [], ◌∷◌, ℕ, ◌+◌, leb, eqb}
-use Rattle.parse.specs.Logic.{if◌then◌else◌}
+use Rattle.std.specs.Prelude.{Bool, ◌&&◌, List, [], ◌∷◌, ℕ, ◌+◌, leb, eqb, if◌then◌else◌}
 use Rattle.parse.specs.Outcome.{Outcome, accept, lent_input, lent_output, counted}
 
 -- whether b is left out: a 03 after two or more zeros; `zeros` is how many come directly before b

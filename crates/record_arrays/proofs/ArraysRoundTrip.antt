@@ -8,7 +8,7 @@ use lib.Dec.{leb, eqb}
 use lib.ListN.{length, length-append}
 use lib.Seq.{get_or_at}
 use borrow.Author.Tests.{leb-true, eqb-true}
-use Rattle.parse.specs.Logic.{if◌then◌else◌}
+use Rattle.std.specs.Prelude.{if◌then◌else◌}
 use Rattle.parse.specs.Parse.{value, times, give}
 use Rattle.parse.proofs.Many.{times_nil, times_step}
 use Rattle.parse.proofs.General.{both_true}

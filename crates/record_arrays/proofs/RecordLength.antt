@@ -9,7 +9,7 @@ use mathlib.Core.Logic.{◌⊎◌, ⊎_elim, inl, inr}
 use lib.Dec.{leb}
 use lib.ListN.{length, get_or, length-append}
 use borrow.Author.Tests.{leb-true}
-use Rattle.parse.specs.Logic.{if◌then◌else◌}
+use Rattle.std.specs.Prelude.{if◌then◌else◌}
 use Rattle.parse.specs.Outcome.{Outcome, accept, refuse, and_then}
 use Rattle.parse.proofs.General.{both_true}
 use Rattle.boxes.specs.Bytes.{to_be, to_chunk, AllBytes}

@@ -1,6 +1,5 @@
 -- An array of a full record read: VVC's (SCOPE 3.10; ISO/IEC 14496-15:2024 11.2.4.2) and HEVC's (SCOPE 4.11; 8.3.3.1).
-use Rattle.std.specs.Prelude.{ℕ, ◌/◌, ◌%◌, Bool, false, ◌||◌, eqb}
-use Rattle.parse.specs.Logic.{if◌then◌else◌}
+use Rattle.std.specs.Prelude.{ℕ, ◌/◌, ◌%◌, Bool, false, ◌||◌, eqb, if◌then◌else◌}
 use Rattle.parse.specs.Parse.{Parser, ◌>>=◌, give, times}
 use Rattle.boxes.specs.Bytes.{uint, chunk}
 use Rattle.boxes.specs.declared.Span.{Span}

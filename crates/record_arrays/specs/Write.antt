@@ -1,7 +1,6 @@
 -- The arrays of a full record written, and whether they fit their fields: VVC's (SCOPE 3.9; ISO/IEC 14496-15:2024 11.2.4.2) and HEVC's (SCOPE 4.11;
 -- 8.3.3.1).
-use Rattle.std.specs.Prelude.{ℕ, ◌+◌, ◌*◌, Bool, true, ◌&&◌, List, [], ◌∷◌, ◌++◌, leb, eqb, length}
-use Rattle.parse.specs.Logic.{if◌then◌else◌}
+use Rattle.std.specs.Prelude.{ℕ, ◌+◌, ◌*◌, Bool, true, ◌&&◌, List, [], ◌∷◌, ◌++◌, leb, eqb, length, if◌then◌else◌}
 use Rattle.boxes.specs.Bytes.{to_be}
 use Rattle.unit_list.specs.UnitList.{Array, encode_units, units_fit}
 use Rattle.record_arrays.specs.Read.{holds_one}

@@ -7,7 +7,7 @@ use lib.Dec.{leb}
 use lib.ListN.{length}
 use Rattle.error.specs.Refusals.{number_of}
 use Rattle.error.specs.declared.Refusal.{Refusal}
-use Rattle.parse.specs.Logic.{if◌then◌else◌}
+use Rattle.std.specs.Prelude.{if◌then◌else◌}
 use Rattle.parse.specs.Outcome.{Outcome, accept, refuse, hands_back, lent_output, overlay}
 use Rattle.parse.specs.Parse.{Parsed, value, refused, bind, Parser, times}
 use Rattle.parse.specs.inner.Answers.{or_zeros}

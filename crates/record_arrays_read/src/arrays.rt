@@ -1,6 +1,5 @@
 // Internal: the head of an array, and the arrays of a full record read into a unit list.
-ghost use Rattle.std.specs.Prelude.{◌≡◌, ◌+◌, ◌≤◌, ◌^◌, length};
-ghost use Rattle.parse.specs.Logic.{if◌then◌else◌};
+ghost use Rattle.std.specs.Prelude.{◌≡◌, ◌+◌, ◌≤◌, ◌^◌, length, if◌then◌else◌};
 ghost use Rattle.parse.specs.Outcome.{lent_output};
 ghost use Rattle.boxes.specs.Bytes.{be};
 ghost use Rattle.record_arrays.specs.Read.{holds_one};

@@ -13,7 +13,7 @@ use Rattle.error.specs.declared.Refusal.{Refusal}
 use Rattle.error.specs.declared.Refusal.TheVariants.{FieldTooWide}
 use Rattle.error.specs.declared.Written.{Written}
 use Rattle.error.specs.declared.Written.TheVariants as W
-use Rattle.parse.specs.Logic.{if◌then◌else◌}
+use Rattle.std.specs.Prelude.{if◌then◌else◌}
 use Rattle.parse.specs.Outcome.{Outcome, accept, refuse, and_then, lent_output, counted}
 use Rattle.parse.specs.inner.Stores.{bytes_of}
 use Rattle.parse.proofs.General.{both_true, sets_then, sets_before}

@@ -8,7 +8,7 @@ use native.Mathlib.Omega.{arith}
 use lib.Dec.{eqb}
 use lib.ListN.{length, get_or, length-append, length-map}
 use borrow.Author.Tests.{le-leb, eq-eqb, eqb-true}
-use Rattle.parse.specs.Logic.{if◌then◌else◌}
+use Rattle.std.specs.Prelude.{if◌then◌else◌}
 use Rattle.parse.specs.Parse.{value, Parser, ◌>>=◌, ◌>>◌, give, times}
 use Rattle.parse.proofs.Gives.{Gives, gives_value, gives_bind, with_read}
 use Rattle.parse.proofs.Many.{times_step}

@@ -7,7 +7,8 @@ use native.Mathlib.Omega.{arith}
 use lib.Dec.{eqb}
 use lib.ListN.{length, get_or, length-append}
 use borrow.Author.Tests.{le-leb, eq-eqb, ne_eqb, eqb-true, eqb-false}
-use Rattle.parse.specs.Logic.{if◌then◌else◌, bit}
+use Rattle.std.specs.Prelude.{if◌then◌else◌}
+use Rattle.parse.specs.Logic.{bit}
 use Rattle.parse.specs.Parse.{Parsed, bind, give, refuse_if}
 use Rattle.parse.proofs.General.{bit_flag}
 use Rattle.parse.proofs.Gives.{Gives, gives_value, gives_refused, gives_bind}

@@ -1,6 +1,5 @@
 -- An HEVC record that was read, written again (SCOPE 4.11): the bytes that were consumed, with the head's reserved bits as the standard has them.
-use Rattle.std.specs.Prelude.{ℕ, ◌+◌, ◌/◌, ◌%◌, ◌^◌, ◌≤◌, ◌<◌, ◌≡◌, Bool, true, ◌&&◌, List, eqb, length, get_or, take}
-use Rattle.parse.specs.Logic.{if◌then◌else◌}
+use Rattle.std.specs.Prelude.{ℕ, ◌+◌, ◌/◌, ◌%◌, ◌^◌, ◌≤◌, ◌<◌, ◌≡◌, Bool, true, ◌&&◌, List, eqb, length, get_or, take, if◌then◌else◌}
 use Rattle.parse.specs.Outcome.{accept, counted, Writes}
 use Rattle.boxes.specs.Bytes.{AllBytes}
 use Rattle.hvcc.specs.Read.{HevcParsed, parse_hevc}

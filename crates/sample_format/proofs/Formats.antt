@@ -11,7 +11,7 @@ use types.Run.{OneOf}
 use denote.Enum.Declared.{tag_of}
 use Rattle.error.specs.Refusals.{number_of}
 use Rattle.error.specs.declared.Refusal.{Refusal}
-use Rattle.parse.specs.Logic.{if◌then◌else◌}
+use Rattle.std.specs.Prelude.{if◌then◌else◌}
 use Rattle.parse.specs.Outcome.{Outcome, accept, refuse, and_then, hands_back}
 use Rattle.boxes.specs.Parts.{held}
 use Rattle.boxes.specs.Places.{Place, in_first, in_second, place_of, nth, place_found, PlaceFits}

@@ -1,8 +1,7 @@
 -- The answer of a step over an item or a stream, and the steps over an item (SCOPE 3.12).
-use Rattle.std.specs.Prelude.{ℕ, List, leb, length}
+use Rattle.std.specs.Prelude.{ℕ, List, leb, length, if◌then◌else◌}
 use Rattle.std.proofs.Math.Option.{Option, none, some}
 use Rattle.error.specs.Refusals.{number_of}
-use Rattle.parse.specs.Logic.{if◌then◌else◌}
 use Rattle.parse.specs.Outcome.{Outcome, accept, refuse, lent_input}
 use Rattle.parse.specs.Parse.{Parsed, value, refused}
 use Rattle.boxes.specs.Bytes.{outside}

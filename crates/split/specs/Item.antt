@@ -1,6 +1,5 @@
 -- Items: units, each after its length (SCOPE 3.12; ISO/IEC 14496-15 4.3.3, the sample format).
-use Rattle.std.specs.Prelude.{ℕ, List, [], ◌∷◌, ◌++◌, eqb}
-use Rattle.parse.specs.Logic.{if◌then◌else◌}
+use Rattle.std.specs.Prelude.{ℕ, List, [], ◌∷◌, ◌++◌, eqb, if◌then◌else◌}
 use Rattle.parse.specs.Outcome.{Outcome, refuse, lent_input}
 use Rattle.parse.specs.Parse.{Parser, ◌>>=◌, ◌>>◌, refuse_if, many, outcome}
 use Rattle.boxes.specs.Bytes.{uint, bytes, to_chunk, outside}

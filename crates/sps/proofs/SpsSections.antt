@@ -3,7 +3,7 @@ use mathlib.Core.Path.{◌≡◌, refl}
 use mathlib.Core.List.{List}
 use Prim.Native.Nat.{ℕ}
 use lib.Dec.{ltb}
-use Rattle.parse.specs.Logic.{if◌then◌else◌}
+use Rattle.std.specs.Prelude.{if◌then◌else◌}
 use Rattle.parse.specs.Parse.{value, bind, give, refuse_if}
 use Rattle.parse.proofs.Binds.{same_first, into_section}
 use Rattle.bit_reader.specs.Bits.{u, is_set, ue}

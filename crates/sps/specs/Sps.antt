@@ -1,6 +1,5 @@
 -- The head of an SPS as bits (SCOPE 3.7; H.266 7.3.2.4), read from a unit or from an RBSP.
-use Rattle.std.specs.Prelude.{false, List, ℕ, ◌+◌, ltb}
-use Rattle.parse.specs.Logic.{if◌then◌else◌}
+use Rattle.std.specs.Prelude.{false, List, ℕ, ◌+◌, ltb, if◌then◌else◌}
 use Rattle.parse.specs.Outcome.{Outcome, lent_input}
 use Rattle.parse.specs.Parse.{Parser, ◌>>=◌, ◌>>◌, give, refuse_if, outcome}
 use Rattle.bit_reader.specs.Bits.{u, is_set, ue}

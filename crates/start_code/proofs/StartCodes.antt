@@ -8,7 +8,7 @@ use native.Mathlib.Decide.{dec_le}
 use lib.Dec.{eqb}
 use lib.ListN.{length, get_or, drop, length-drop, length-append}
 use borrow.Author.Tests.{eqb-true, eq-eqb}
-use Rattle.parse.specs.Logic.{if◌then◌else◌}
+use Rattle.std.specs.Prelude.{if◌then◌else◌}
 use Rattle.parse.proofs.General.{both_true}
 use Rattle.start_code.specs.StartCode.{bytes_before, starts_with_code, scan}
 use Rattle.start_code.proofs.FirstPlaces.{

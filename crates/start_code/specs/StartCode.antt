@@ -1,6 +1,5 @@
 -- Start codes 00 00 01 (SCOPE 3.13; H.266 annex B).
-use Rattle.std.specs.Prelude.{ℕ, suc, ◌+◌, Bool, false, ◌&&◌, List, [], ◌∷◌, eqb, drop}
-use Rattle.parse.specs.Logic.{if◌then◌else◌}
+use Rattle.std.specs.Prelude.{ℕ, suc, ◌+◌, Bool, false, ◌&&◌, List, [], ◌∷◌, eqb, drop, if◌then◌else◌}
 
 -- how many bytes come before the first place from which on the bytes pass a test; all of them where there is none
 unfoldable pub bytes_before : (List ℕ → Bool) → List ℕ → ℕ

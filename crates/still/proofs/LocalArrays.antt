@@ -10,7 +10,7 @@ use lib.ListN.{length, take, drop, length-append}
 use lib.Seq.{take_at}
 use Rattle.error.specs.Refusals.{number_of}
 use Rattle.error.specs.declared.Refusal.{Refusal}
-use Rattle.parse.specs.Logic.{if◌then◌else◌}
+use Rattle.std.specs.Prelude.{if◌then◌else◌}
 use Rattle.parse.specs.Outcome.{Outcome, accept, refuse, and_then, lent_output, counted, hands_back}
 use Rattle.parse.specs.Parse.{outcome}
 use Rattle.parse.proofs.Lent.{lent_too_long, lent_within}

@@ -11,7 +11,7 @@ use lib.Seq.{take_all, take-length}
 use borrow.Author.Tests.{lt-ltb, le-ltb}
 use Rattle.error.specs.declared.Written.{Written}
 use Rattle.error.specs.declared.Written.TheVariants as W
-use Rattle.parse.specs.Logic.{if◌then◌else◌}
+use Rattle.std.specs.Prelude.{if◌then◌else◌}
 use Rattle.parse.specs.Outcome.{Outcome, accept, refuse, overlay, lent_output, counted}
 use Rattle.parse.specs.Parse.{Parsed, value, refused}
 use Rattle.parse.specs.Answers.{written_of}

@@ -1,7 +1,6 @@
 -- What the program answers to its standard input: the length of a compact record in two bytes, the record, and the stored bytes.
-use Rattle.std.specs.Prelude.{ℕ, ◌+◌, List, ltb, length, drop}
+use Rattle.std.specs.Prelude.{ℕ, ◌+◌, List, ltb, length, drop, if◌then◌else◌}
 use Rattle.std.proofs.Math.Option.{none}
-use Rattle.parse.specs.Logic.{if◌then◌else◌}
 use Rattle.parse.specs.Outcome.{Outcome, refuse}
 use Rattle.parse.specs.Parse.{outcome}
 use Rattle.parse.specs.Steps.{◌>>=◌}

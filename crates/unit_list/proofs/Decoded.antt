@@ -9,7 +9,7 @@ use native.Mathlib.Numerals.{add-one}
 use lib.Dec.{ltb}
 use lib.ListN.{length, get_or, take, drop, length-append, length-drop, take-append-drop, drop_of_length-le}
 use lib.Seq.{take-suc, drop-cons, drop-drop, get_or-drop, get_or-take, length-take-le}
-use Rattle.parse.specs.Logic.{if◌then◌else◌}
+use Rattle.std.specs.Prelude.{if◌then◌else◌}
 use Rattle.parse.specs.Outcome.{accept}
 use Rattle.parse.specs.Parse.{Parsed, value, refused, bind, give, refusing, many}
 use Rattle.boxes.specs.Bytes.{be, to_be, uint, chunk, to_chunk, inside, AllBytes}

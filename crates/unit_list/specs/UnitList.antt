@@ -1,8 +1,7 @@
 -- The unit list (SCOPE 2; the original's `arrays`): the version, then arrays. An array: a length for all that follows in it, the complete byte (bit 0
 -- complete, bit 1 the array's reserved bit, no other bits), type (0 to 63), then units, each after its length. Lengths have 4 bytes in version 01 and
 -- 2 bytes in version 02; all else is equal.
-use Rattle.std.specs.Prelude.{ℕ, ◌+◌, ◌*◌, ◌/◌, ◌%◌, Bool, true, ◌&&◌, List, [], ◌∷◌, ◌++◌, map, eqb, leb, ltb, length}
-use Rattle.parse.specs.Logic.{if◌then◌else◌}
+use Rattle.std.specs.Prelude.{ℕ, ◌+◌, ◌*◌, ◌/◌, ◌%◌, Bool, true, ◌&&◌, List, [], ◌∷◌, ◌++◌, map, eqb, leb, ltb, length, if◌then◌else◌}
 use Rattle.parse.specs.Outcome.{Outcome, accept, and_then, lent_input}
 use Rattle.parse.specs.Parse.{Parser, ◌>>=◌, ◌>>◌, give, refuse_if, many, outcome_or}
 use Rattle.boxes.specs.Bytes.{uint, chunk, to_chunk, inside}

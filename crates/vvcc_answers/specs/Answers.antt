@@ -1,8 +1,7 @@
 -- What the exported functions return to C: structs of numbers, made from the outcomes of the called functions. A refusal is its number and zeros;
 -- 0 is no refusal. Last, the operating point and the start codes that a caller's numbers ask for.
-use Rattle.std.specs.Prelude.{ℕ, Bool, true, false, List, eqb}
+use Rattle.std.specs.Prelude.{ℕ, Bool, true, false, List, eqb, if◌then◌else◌}
 use Rattle.std.proofs.Math.Option.{Option, none, some}
-use Rattle.parse.specs.Logic.{if◌then◌else◌}
 use Rattle.parse.specs.Outcome.{Outcome, accept, refuse, lent_output, counted}
 use Rattle.split.specs.Answers.{Next}
 use Rattle.full.specs.Read.{FullParsed}

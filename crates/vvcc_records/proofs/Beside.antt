@@ -10,7 +10,7 @@ use lib.Dec.{leb}
 use lib.ListN.{length, take, drop, length-append}
 use lib.Seq.{take_at}
 use borrow.Author.Tests.{le-leb, lt-leb}
-use Rattle.parse.specs.Logic.{if◌then◌else◌}
+use Rattle.std.specs.Prelude.{if◌then◌else◌}
 use Rattle.parse.specs.Outcome.{Outcome, accept, refuse, and_then, lent_output, counted, hands_back}
 use Rattle.parse.proofs.Lent.{lent_too_long, lent_within}
 use Rattle.parse.proofs.Output.{OutputAccepted, output_accepted}

@@ -1,7 +1,6 @@
 -- Internal: a search among the entries in use.
-use Rattle.std.specs.Prelude.{ℕ, ◌+◌, Bool, true, false, eqb, ltb}
+use Rattle.std.specs.Prelude.{ℕ, ◌+◌, Bool, true, false, eqb, ltb, if◌then◌else◌}
 use Rattle.std.proofs.Math.Option.{Option, none, some}
-use Rattle.parse.specs.Logic.{if◌then◌else◌}
 use Rattle.directory.specs.inner.Entries.{no_entry}
 use Rattle.directory.specs.declared.Entry.{Entry}
 use Rattle.directory.specs.declared.Asked.{Asked}

@@ -1,6 +1,5 @@
 -- Internal: the rules of strict reading on a record, by themselves; a law ties them to `parse_strict` (proofs/Strict.antt).
-use Rattle.std.specs.Prelude.{ℕ, ◌^◌, List, leb, length}
-use Rattle.parse.specs.Logic.{if◌then◌else◌}
+use Rattle.std.specs.Prelude.{ℕ, ◌^◌, List, leb, length, if◌then◌else◌}
 use Rattle.parse.specs.Outcome.{Outcome, accept}
 use Rattle.parse.specs.Parse.{Parsed, value, refused, outcome}
 use Rattle.full.specs.Read.{vvc_head}

@@ -1,6 +1,5 @@
 -- Internal: the head of a full record before its arrays are known.
-use Rattle.std.specs.Prelude.{ℕ, List, eqb}
-use Rattle.parse.specs.Logic.{if◌then◌else◌}
+use Rattle.std.specs.Prelude.{ℕ, List, eqb, if◌then◌else◌}
 use Rattle.parse.specs.Outcome.{Outcome, accept, refuse}
 use Rattle.full.specs.Write.{head_bytes, head_fits}
 use Rattle.full.specs.declared.VvcConfig.{VvcConfig}

@@ -1,6 +1,5 @@
 -- Internal: the head of an HEVC record, and parts of it and of its test; proofs/Heads.antt ties them to `hevc_head_bytes` and `hevc_head_fits`.
-use Rattle.std.specs.Prelude.{ℕ, ◌+◌, Bool, ◌&&◌, not, List, [], ◌∷◌, ◌++◌, leb}
-use Rattle.parse.specs.Logic.{if◌then◌else◌}
+use Rattle.std.specs.Prelude.{ℕ, ◌+◌, Bool, ◌&&◌, not, List, [], ◌∷◌, ◌++◌, leb, if◌then◌else◌}
 use Rattle.parse.specs.Outcome.{Outcome, accept, refuse}
 use Rattle.boxes.specs.Bytes.{to_be, outside}
 use Rattle.hvcc.specs.Write.{profile_byte, hevc_head_bytes, hevc_head_fits}

@@ -1,6 +1,5 @@
 -- Internal: the arrays of a list as they are written in a layout: units and arrays measured and stored.
-use Rattle.std.specs.Prelude.{ℕ, ◌+◌, ◌*◌, ◌/◌, ◌≤◌, ◌<◌, ◌≡◌, Bool, true, ◌&&◌, List, [], map, leb, eqb, length}
-use Rattle.parse.specs.Logic.{if◌then◌else◌}
+use Rattle.std.specs.Prelude.{ℕ, ◌+◌, ◌*◌, ◌/◌, ◌≤◌, ◌<◌, ◌≡◌, Bool, true, ◌&&◌, List, [], map, leb, eqb, length, if◌then◌else◌}
 use Rattle.parse.specs.Outcome.{Outcome, accept, refuse, and_then}
 use Rattle.boxes.specs.Bytes.{to_be}
 use Rattle.boxes.specs.Parts.{held}

@@ -1,6 +1,5 @@
 -- Internal: what a walk over the wanted units of a list counts and finds.
-use Rattle.std.specs.Prelude.{ℕ, ◌+◌, ◌≤◌, ◌≡◌, Bool, true, List, [], ◌∷◌, eqb, length}
-use Rattle.parse.specs.Logic.{if◌then◌else◌}
+use Rattle.std.specs.Prelude.{ℕ, ◌+◌, ◌≤◌, ◌≡◌, Bool, true, List, [], ◌∷◌, eqb, length, if◌then◌else◌}
 use Rattle.parse.specs.Outcome.{Outcome, accept, and_then}
 use Rattle.parse.specs.Answers.{count_of}
 use Rattle.boxes.specs.Walk.{count_found, found}

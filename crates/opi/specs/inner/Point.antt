@@ -1,6 +1,5 @@
 -- Internal: the operating point from the answers of the reads.
-use Rattle.std.specs.Prelude.{ℕ}
-use Rattle.parse.specs.Logic.{if◌then◌else◌}
+use Rattle.std.specs.Prelude.{ℕ, if◌then◌else◌}
 use Rattle.parse.specs.Parse.{Parsed, refused, bind}
 use Rattle.bit_reader.specs.Bits.{is_set}
 

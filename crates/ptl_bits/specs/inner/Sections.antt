@@ -1,7 +1,6 @@
 -- Internal: profile_tier_level( 1, s ) in the sections that the code reads one by one; `sections`
 -- (proofs/Whole.antt) ties them to `profile_tier_level`.
-use Rattle.std.specs.Prelude.{false, ℕ, ltb, length}
-use Rattle.parse.specs.Logic.{if◌then◌else◌}
+use Rattle.std.specs.Prelude.{false, ℕ, ltb, length, if◌then◌else◌}
 use Rattle.parse.specs.Parse.{Parser, ◌>>=◌, ◌>>◌, give, here, times}
 use Rattle.bit_reader.specs.Bits.{u, is_set}
 use Rattle.ptl.specs.Ptl.{padded, present_flags, levels, general_constraints_info, constraint_bytes}

@@ -1,6 +1,5 @@
 -- Internal: the values of a PTL record's fields by their places, a byte past the end being 0: those of the definition without its refusals.
-use Rattle.std.specs.Prelude.{ℕ, zero, suc, ◌+◌, ◌*◌, ◌/◌, ◌%◌, ◌-◌, Bool, List, [], ◌∷◌, ◌++◌, ltb, get_or, take, drop}
-use Rattle.parse.specs.Logic.{if◌then◌else◌}
+use Rattle.std.specs.Prelude.{ℕ, zero, suc, ◌+◌, ◌*◌, ◌/◌, ◌%◌, ◌-◌, Bool, List, [], ◌∷◌, ◌++◌, ltb, get_or, take, drop, if◌then◌else◌}
 use Rattle.boxes.specs.Bytes.{be}
 use Rattle.bit_reader.specs.Bits.{is_set}
 use Rattle.ptl.specs.Ptl.{padded, without_flags}

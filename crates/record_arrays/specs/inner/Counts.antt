@@ -1,6 +1,5 @@
 -- Internal: the length of an array's count of units.
-use Rattle.std.specs.Prelude.{ℕ}
-use Rattle.parse.specs.Logic.{if◌then◌else◌}
+use Rattle.std.specs.Prelude.{ℕ, if◌then◌else◌}
 use Rattle.record_arrays.specs.Read.{holds_one}
 use Rattle.record_arrays.specs.declared.Codec.{Codec}
 

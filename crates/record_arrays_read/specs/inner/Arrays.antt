@@ -1,7 +1,6 @@
 -- Internal: the arrays of a full record read into a unit list: their heads, and their bytes in a list.
-use Rattle.std.specs.Prelude.{ℕ, ◌+◌, ◌/◌, ◌≤◌, List, length}
+use Rattle.std.specs.Prelude.{ℕ, ◌+◌, ◌/◌, ◌≤◌, List, length, if◌then◌else◌}
 use Rattle.error.specs.Refusals.{number_of}
-use Rattle.parse.specs.Logic.{if◌then◌else◌}
 use Rattle.parse.specs.Outcome.{Outcome, accept, refuse}
 use Rattle.parse.specs.Parse.{Parsed, value, refused, Parser, ◌>>=◌, give, times}
 use Rattle.boxes.specs.Bytes.{uint}

@@ -1,11 +1,10 @@
 -- Internal: a record of a head and of the arrays of a list, whichever head it has. A head is given by its bytes, or by its refusal.
-use Rattle.std.specs.Prelude.{ℕ, ◌+◌, ◌≤◌, ◌≡◌, ◌&&◌, List, [], ◌∷◌, ◌++◌, leb, length}
+use Rattle.std.specs.Prelude.{ℕ, ◌+◌, ◌≤◌, ◌≡◌, ◌&&◌, List, [], ◌∷◌, ◌++◌, leb, length, if◌then◌else◌}
 use Rattle.std.proofs.lemmas.List.Edits.{sets}
 use Rattle.error.specs.Refusals.{number_of}
 use Rattle.error.specs.declared.Refusal.TheVariants.{FieldTooWide}
 use Rattle.error.specs.declared.Written.{Written}
 use Rattle.error.specs.declared.Written.TheVariants as W
-use Rattle.parse.specs.Logic.{if◌then◌else◌}
 use Rattle.parse.specs.Outcome.{Outcome, accept, refuse, and_then, lent_output, counted}
 use Rattle.boxes.specs.declared.Span.{Span}
 use Rattle.unit_list.specs.UnitList.{Array, decode, held_arrays}

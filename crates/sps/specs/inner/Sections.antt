@@ -1,7 +1,6 @@
 -- Internal: the head of an SPS in the sections that the code reads one by one; `sps_sections` (proofs/SpsSections.antt) ties them to
 -- `sps_head`.
-use Rattle.std.specs.Prelude.{Bool, ℕ, ◌+◌, ltb}
-use Rattle.parse.specs.Logic.{if◌then◌else◌}
+use Rattle.std.specs.Prelude.{Bool, ℕ, ◌+◌, ltb, if◌then◌else◌}
 use Rattle.parse.specs.Parse.{Parser, ◌>>=◌, ◌>>◌, give, refuse_if}
 use Rattle.bit_reader.specs.Bits.{u, is_set, ue}
 use Rattle.ptl.specs.Ptl.{profile_tier_level, zero_ptl}

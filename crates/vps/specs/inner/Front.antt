@@ -1,6 +1,5 @@
 -- Internal: the fields of a VPS before its PTL.
-use Rattle.std.specs.Prelude.{not, ℕ, eqb}
-use Rattle.parse.specs.Logic.{if◌then◌else◌}
+use Rattle.std.specs.Prelude.{not, ℕ, eqb, if◌then◌else◌}
 use Rattle.parse.specs.Parse.{Parsed, value, refused, bind, Parser, ◌>>=◌, ◌>>◌, give, refuse_if}
 use Rattle.bit_reader.specs.Bits.{u, align}
 use Rattle.bit_reader.specs.declared.BitsRead.{BitsRead}

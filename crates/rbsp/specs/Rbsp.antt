@@ -3,19 +3,19 @@
 use Rattle.std.specs.Prelude.{Bool, ◌&&◌, List, [], ◌∷◌, ℕ, ◌+◌, leb, eqb, if◌then◌else◌}
 use Rattle.parse.specs.Outcome.{Outcome, accept, lent_input, lent_output, counted}
 
--- whether b is left out: a 03 after two or more zeros; `zeros` is how many come directly before b
+-- whether b is left out: a 03 after two or more zeros; `n` is how many come directly before b
 unfoldable pub drops : ℕ → ℕ → Bool
-drops zeros b = leb 2 zeros && eqb b 3
+drops n b = leb 2 n && eqb b 3
 
 -- how many zeros come directly before the byte after b; counting starts again after a 03 that is left out
 unfoldable pub next_zeros : ℕ → ℕ → ℕ
-next_zeros zeros b = if eqb b 0 then zeros + 1 else 0
+next_zeros n b = if eqb b 0 then n + 1 else 0
 
--- what is kept of bytes that come directly after `zeros` zeros
+-- what is kept of bytes that come directly after n zeros
 unfoldable pub unescape : ℕ → List ℕ → List ℕ
-unescape zeros [] = []
-unescape zeros (b ∷ bs) =
-    if drops zeros b then unescape (next_zeros zeros b) bs else b ∷ unescape (next_zeros zeros b) bs
+unescape n [] = []
+unescape n (b ∷ bs) =
+    if drops n b then unescape (next_zeros n b) bs else b ∷ unescape (next_zeros n b) bs
 
 -- zeros of the header do not count
 abbrev pub rbsp : List ℕ → List ℕ

@@ -1,14 +1,10 @@
 -- The sample format by cases: of the head, of an SPS, of a list.
 use Prim.Native.Nat.{ℕ, ◌+◌, ◌≤◌}
-use native.Mathlib.Omega.{arith}
 use mathlib.Core.Path.{◌≡◌, refl, sym, ap, ◌∙◌, subst}
 use mathlib.Core.Bool.{true, false}
 use mathlib.Core.List.{List, [], ◌∷◌, map}
 use mathlib.Core.Option.{Option, none, some}
-use mathlib.Core.Logic.{⊎_elim}
 use lib.ListN.{length}
-use types.Run.{OneOf}
-use denote.Enum.Declared.{tag_of}
 use Rattle.error.specs.Refusals.{number_of}
 use Rattle.error.specs.declared.Refusal.{Refusal}
 use Rattle.std.specs.Prelude.{if◌then◌else◌}
@@ -18,7 +14,6 @@ use Rattle.boxes.specs.Places.{Place, in_first, in_second, place_of, nth, place_
 use Rattle.boxes.specs.declared.Span.{Span}
 use Rattle.boxes.specs.declared.UnitPlace.{UnitPlace}
 use Rattle.boxes.specs.declared.UnitPlace.TheVariants as U
-use Rattle.boxes.specs.contracts.UnitPlace.{the_type}
 use Rattle.unit_list.specs.UnitList.{Array, decode, units_of_type}
 use Rattle.params.specs.Answers.{params_read_of}
 use Rattle.params.specs.declared.ParamsAnswer.TheVariants as A
@@ -70,9 +65,6 @@ first_at s (some (in_second a)) = refuse 17
 abbrev by_place : VvcConfig → List ℕ → UnitPlace → Outcome Format
 by_place h s r = and_then (place_of r) (λ p. if h.ptl_present_flag then head_format h else first_at s p)
 
-not_refused : (n : Refusal) → OneOf (0 ∷ 1 ∷ 2 ∷ []) (tag_of the_type (U.Refused n)) → ⊥
-not_refused n k = ⊎_elim (λ h. omega arith) (⊎_elim (λ h. omega arith) (λ h. omega arith)) k
-
 module _ (h : VvcConfig) (s : List ℕ) (r : UnitPlace) (e : place_of r ≡ sps_place s) where
   by_place_lem : by_place h s r ≡ sample_format h s
   unfolding sample_format first_format nth
@@ -93,25 +85,25 @@ module _ (h : VvcConfig) (s : List ℕ) (r : UnitPlace) (e : place_of r ≡ sps_
   list_refused n f = sym (ap (by_place h s) f) ∙ by_place_lem
 
   -- the list was read, so there is no refusal
-  module _ (k : OneOf (0 ∷ 1 ∷ 2 ∷ []) (tag_of the_type r)) where
+  module _ (k : (n : Refusal) → r ≡ U.Refused n → ⊥) where
     pub list_head_lem : h.ptl_present_flag ≡ true → head_format h ≡ sample_format h s
     list_head_lem b = go r k ∙ by_place_lem
       where
-        go : (r : UnitPlace) → OneOf (0 ∷ 1 ∷ 2 ∷ []) (tag_of the_type r) → head_format h ≡ by_place h s r
+        go : (r : UnitPlace) → ((n : Refusal) → r ≡ U.Refused n → ⊥) → head_format h ≡ by_place h s r
         go (U.First a) k = rw b
         go (U.Second a) k = rw b
         go U.Past k = rw b
-        go (U.Refused n) k = absurd (not_refused n k)
+        go (U.Refused n) k = absurd (k n refl)
 
     module _ (b : h.ptl_present_flag ≡ false) where
-      pub list_none : OneOf (1 ∷ 2 ∷ 3 ∷ []) (tag_of the_type r) → refuse 17 ≡ sample_format h s
+      pub list_none : ((a : Span) → r ≡ U.First a → ⊥) → refuse 17 ≡ sample_format h s
       list_none j = go r k j ∙ by_place_lem
         where
-          go : (r : UnitPlace) → OneOf (0 ∷ 1 ∷ 2 ∷ []) (tag_of the_type r) → OneOf (1 ∷ 2 ∷ 3 ∷ []) (tag_of the_type r) → refuse 17 ≡ by_place h s r
-          go (U.First a) k j = absurd (⊎_elim (λ h. omega arith) (⊎_elim (λ h. omega arith) (λ h. omega arith)) j)
+          go : (r : UnitPlace) → ((n : Refusal) → r ≡ U.Refused n → ⊥) → ((a : Span) → r ≡ U.First a → ⊥) → refuse 17 ≡ by_place h s r
+          go (U.First a) k j = absurd (j a refl)
           go (U.Second a) k j = rw b
           go U.Past k j = rw b
-          go (U.Refused n) k j = absurd (not_refused n k)
+          go (U.Refused n) k j = absurd (k n refl)
 
       pub list_first : (a : Span) → r ≡ U.First a → sps_format_of (held s a) ≡ sample_format h s
       list_first a f = (rw b) ∙ sym (ap (by_place h s) f) ∙ by_place_lem

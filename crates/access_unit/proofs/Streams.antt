@@ -4,7 +4,7 @@ use mathlib.Core.Path.{◌≡◌, refl, sym, ap, ◌∙◌}
 use mathlib.Core.List.{List, [], ◌∷◌, ◌++◌, append_assoc, append-nil}
 use native.Mathlib.Omega.{arith}
 use lib.ListN.{length}
-use borrow.Author.Tests.{le-leb, lt-leb}
+use borrow.Author.Tests.{lt-leb}
 use Rattle.boxes.specs.Bytes.{to_be}
 use Rattle.annex_b.specs.Stream.{StartCode, three, four, code_bytes, annex_b}
 use Rattle.annex_b.specs.RoundTrip.{one_if_three, threes}
@@ -111,24 +111,8 @@ unfolding annex_b
 four_throughout [] = refl
 four_throughout (u ∷ us) = refl
 
--- ### the cases of the code's tests
-
-module _ (t : ℕ) where
-  pub none_saved : 12 ≤ t → t ≤ 18 → 0 ≡ one_if_three (code_of_type Short t)
-  none_saved low high = rw (le-leb 12 t low, le-leb t 18 high)
-
-  pub one_below : t < 12 → 1 ≡ one_if_three (code_of_type Short t)
-  one_below low = rw (lt-leb 12 t low)
-
-  pub one_above : 18 < t → 1 ≡ one_if_three (code_of_type Short t)
-  one_above high = rw (le-leb 12 t (omega arith), lt-leb t 18 high)
-
-module _ (codes : StartCodes) (t : ℕ) where
-  pub all_four : codes ≡ Four → 4 ≡ length (code_bytes (code_of_type codes t))
-  all_four e = rw e
-
-  pub less_saved : codes ≡ Short → (n : ℕ) → n ≡ one_if_three (code_of_type Short t) → 4 - n ≡ length (code_bytes (code_of_type codes t))
-  less_saved e n f = rw (e, f) (code_saves (code_of_type Short t)).0
+pub one_below : (t : ℕ) → t < 12 → 1 ≡ one_if_three (code_of_type Short t)
+one_below t low = rw (lt-leb 12 t low)
 
 pub lengths_append : (us vs : List (List ℕ)) → lengths (us ++ vs) ≡ lengths us + lengths vs
 unfolding lengths

@@ -1,5 +1,5 @@
 -- Laws of the target, of the units that are dropped, and of those that may lead, by the cases of the code.
-use Prim.Native.Nat.{ℕ, ◌+◌, ◌^◌, ◌≤◌, ◌<◌}
+use Prim.Native.Nat.{ℕ, ◌^◌, ◌≤◌, ◌<◌}
 use mathlib.Core.Path.{◌≡◌, refl, sym, ap, ◌∙◌}
 use mathlib.Core.Bool.{Bool, true, false, ◌||◌}
 use mathlib.Core.List.{List}
@@ -9,14 +9,9 @@ use native.Mathlib.Decide.{dec_le}
 use lib.Dec.{eqb}
 use lib.ListN.{length}
 use borrow.Author.Tests.{lt-leb}
-use Rattle.error.specs.Refusals.{number_of}
-use Rattle.error.specs.declared.Refusal.{Refusal}
 use Rattle.std.specs.Prelude.{if◌then◌else◌}
-use Rattle.parse.specs.Outcome.{accept, refuse}
+use Rattle.parse.specs.Outcome.{accept}
 use Rattle.parse.proofs.Lent.{lent_within}
-use Rattle.boxes.specs.Parts.{held}
-use Rattle.boxes.specs.declared.Span.{Span}
-use Rattle.boxes.proofs.Spans.{held_long}
 use Rattle.nal.specs.Header.{type_or31}
 use Rattle.nal.specs.Kinds.{is_record_type, unit_kind, kind_of, is_picture_data, is_aud, is_record_of}
 use Rattle.nal.specs.declared.UnitKind.{UnitKind}
@@ -26,28 +21,9 @@ use Rattle.opi.specs.Opi.{opi_ols_idx}
 use Rattle.opi.specs.Answers.{ols_idx_of, ols_idx_given}
 use Rattle.opi.specs.declared.OlsIdx.{OlsIdx}
 use Rattle.opi.specs.declared.OlsIdx.TheVariants as O
-use Rattle.full.specs.declared.VvcConfig.{VvcConfig}
-use Rattle.access_unit.specs.AccessUnit.{target_of, agrees, is_opi, keeps, leading_kind, may_lead}
-use Rattle.access_unit.specs.Answers.{tols_of}
-use Rattle.access_unit.specs.declared.Target.{Target}
-use Rattle.access_unit.specs.declared.Target.TheVariants as T
+use Rattle.access_unit.specs.AccessUnit.{agrees, is_opi, keeps, leading_kind, may_lead}
 use Rattle.access_unit.specs.inner.Gathered.{saved}
 use Rattle.access_unit.proofs.Streams.{one_below}
-
--- the target
-module _ (h : VvcConfig) (x : Target) where
-  pub target_caller : (t : ℕ) → x ≡ T.Ols t → some t ≡ target_of h (tols_of x)
-  target_caller t e = rw e
-
-  pub target_head : x ≡ T.Unset → h.ptl_present_flag ≡ true → some h.ols_idx ≡ target_of h (tols_of x)
-  target_head e f = rw (e, f)
-
-  pub target_none : x ≡ T.Unset → h.ptl_present_flag ≡ false → none ≡ target_of h (tols_of x)
-  target_none e f = rw (e, f)
-
--- a unit at a span of the item is no longer than the item
-pub unit_within : (item u : List ℕ) (a : Span) → u ≡ held item a → a.start + a.len ≤ length item → length item ≤ 2 ^ 30 → length u ≤ 2 ^ 30
-unit_within item u a e inside lent = let l = ap length e ∙ held_long item a inside in omega arith
 
 -- whether a unit may lead
 pub leads : (u : List ℕ) (k : UnitKind) → k ≡ kind_of u → may_lead u ≡ leading_kind k
@@ -116,7 +92,3 @@ module _ (target : Option ℕ) (u : List ℕ) (opi : is_opi u ≡ true) where
         any : (o : Option ℕ) → true ≡ agrees o none
         any none = refl
         any (some t) = refl
-
-    pub keeps_never : (e : Refusal) → r ≡ O.Refused e → true ≡ keeps target u
-    keeps_never e w =
-        absurd (let x : refuse (number_of e) ≡ accept (opi_ols_idx u) = ap ols_idx_of (sym w) ∙ given in let z : ◌≡◌ {A = ℕ} 0 1 = cc in omega arith)

@@ -9,7 +9,7 @@ use Rattle.parse.specs.Outcome.{Outcome, accept, refuse}
 use Rattle.parse.specs.inner.Walk.{more}
 use Rattle.parse.specs.inner.Stores.{bytes_of}
 use Rattle.parse.proofs.General.{sets_append}
-use Rattle.parse.proofs.Stores.{puts_found, Putting, putting_start, putting_end, putting_room, putting_again}
+use Rattle.parse.proofs.Stores.{Putting, putting_end, putting_room, putting_again}
 use Rattle.boxes.specs.Bytes.{to_be}
 use Rattle.boxes.specs.Parts.{held}
 use Rattle.boxes.specs.declared.Span.{Span}
@@ -18,7 +18,6 @@ use Rattle.annex_b.specs.Stream.{StartCode, three, four, code_bytes}
 use Rattle.access_unit.specs.inner.Gathered.{later_code, coded, bytes_at}
 use Rattle.access_unit.specs.declared.StartCodes.{StartCodes}
 use Rattle.access_unit.proofs.Streams.{stream_none, stream_one}
-use Rattle.access_unit_annex_b.specs.inner.Stream.{first_units, rest_units}
 
 -- a start code is the number 1 in three or four bytes
 pub code_number : (c : StartCode) → to_be (length (code_bytes c)) 1 ≡ code_bytes c
@@ -82,13 +81,6 @@ pub record FirstLeft (codes : StartCodes) (s out₀ : List ℕ) (to₀ : ℕ) (o
   pub enough : left ≤ length rest
   pub next : accept (drop left rest) ≡ then
   pub storing : Remaining codes s out₀ to₀ o₀ (accept (take left rest)) out to
-
-pub first_start : (codes : StartCodes) (s : List ℕ) (o : Outcome (List Span)) (us : List Span) → o ≡ accept us
-    → (k : ℕ) → k ≤ length us → (out : List ℕ) (to : ℕ) → to + length (bytes_at codes s (take k us)) ≤ length out
-    → FirstLeft codes s out to (first_units k o) (rest_units k o) o k out to
-first_start codes s o us e k h out to r =
-    let p = puts_found (bytes_at codes s) (accept (take k us)) out to (take k us) refl r in
-    rw e (record { rest = us; found = refl; enough = h; next = refl; storing = putting_start (bytes_at codes s) out to (accept (take k us)) p })
 
 module _ (codes : StartCodes) (s out₀ : List ℕ) (to₀ : ℕ) (o₀ then o : Outcome (List Span)) where
   pub first_end : (left : ℕ) (out : List ℕ) (to : ℕ) → FirstLeft codes s out₀ to₀ o₀ then o left out to → left ≤ 0

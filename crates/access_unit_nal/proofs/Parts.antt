@@ -1,11 +1,11 @@
 -- The part that is returned for unit k: of the list or of the item, by its place.
 use Prim.Native.Nat.{ℕ}
 use mathlib.Core.Path.{◌≡◌, refl, sym, ap, ◌∙◌, subst}
-use mathlib.Core.List.{List, []}
+use mathlib.Core.List.{List}
 use denote.Ref.{Bor}
 use Rattle.parse.specs.Outcome.{Outcome, accept, refuse}
 use Rattle.boxes.specs.Parts.{PartOf, nowhere}
-use Rattle.boxes.specs.Places.{Place, in_first, in_second, place_of, place_found, PlaceFits}
+use Rattle.boxes.specs.Places.{Place, in_first, in_second, place_of, place_found}
 use Rattle.boxes.specs.inner.Places.{lying, span_in_first}
 use Rattle.boxes.specs.declared.Span.{Span}
 use Rattle.boxes.specs.declared.UnitPlace.{UnitPlace}
@@ -14,13 +14,6 @@ use Rattle.boxes.proofs.Places.{place_lies}
 use Rattle.access_unit.specs.AccessUnit.{Source, of_list, of_item}
 use Rattle.access_unit.specs.Answers.{source_at, PartOfEither}
 use Rattle.access_unit_nal.specs.Answers.{source_place}
-
--- a place that is not in the item is one in the list
-pub not_second : (s t : List ℕ) (r : UnitPlace) → ((a : Span) → r ≡ U.Second a → ⊥) → PlaceFits s t r → PlaceFits s [] r
-not_second s t (U.First a) k h = h
-not_second s t (U.Second a) k h = absurd (k a refl)
-not_second s t U.Past k h = tt
-not_second s t (U.Refused e) k h = tt
 
 source_lies : (o : Outcome (List Source)) (k : ℕ) → lying (place_found source_place o k) ≡ source_place (source_at o k)
 source_lies (accept us) k = place_lies source_place (of_list nowhere) refl (accept us) k

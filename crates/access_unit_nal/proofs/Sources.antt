@@ -7,7 +7,7 @@ use mathlib.Core.Logic.{⊎_elim}
 use native.Mathlib.Omega.{arith}
 use lib.ListN.{length, get_or, length-append, length-map, get_or-append}
 use lib.Seq.{get_or-append-add}
-use Rattle.parse.specs.Outcome.{Outcome, accept, refuse}
+use Rattle.parse.specs.Outcome.{Outcome, accept}
 use Rattle.boxes.specs.Parts.{nowhere}
 use Rattle.boxes.specs.Walk.{found}
 use Rattle.boxes.specs.Places.{Place, in_first, in_second, place_found}
@@ -15,7 +15,7 @@ use Rattle.boxes.specs.declared.Span.{Span}
 use Rattle.boxes.proofs.Places.{nth_there, place_past}
 use Rattle.unit_list.specs.Answers.{list_units}
 use Rattle.access_unit.specs.AccessUnit.{leading, following, Source, of_list, of_item}
-use Rattle.access_unit.specs.inner.Gathered.{Gathered, gather, in_order, sources, Walks, kept_left}
+use Rattle.access_unit.specs.inner.Gathered.{Gathered, in_order, sources, Walks, kept_left}
 use Rattle.access_unit_sizes.specs.declared.sizes.Sizes.{Sizes}
 use Rattle.access_unit.proofs.KeptUnits.{leads_and_follows}
 use Rattle.access_unit.proofs.KeptUnits.{leading_le}
@@ -97,9 +97,6 @@ module _ (size : ℕ) (target : Option ℕ) (list item : List ℕ) (k : ℕ) whe
   -- where unit k of the access unit lies
   abbrev unit_place : Outcome (Option Place)
   unit_place = place_found source_place (sources size target list item) k
-
-  pub source_unknown : (n : ℕ) → gather size target list item ≡ refuse n → refuse n ≡ unit_place
-  source_unknown n e = rw e
 
   module _ (v : Sizes) (n : Known Four size target list item v) (s : ℕ) (same : s ≡ size) where
     made : From size target list item n.parts

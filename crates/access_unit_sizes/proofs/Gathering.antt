@@ -1,5 +1,5 @@
 -- Laws of the units that are gathered: from the sums over list and item, in their order, and bounds of the sums.
-use Prim.Native.Nat.{ℕ, suc, ◌+◌, ◌*◌, ◌-◌, ◌^◌, ◌≤◌, ◌<◌}
+use Prim.Native.Nat.{ℕ, suc, ◌+◌, ◌^◌, ◌≤◌, ◌<◌}
 use mathlib.Core.Path.{◌≡◌, refl, sym, ap, ◌∙◌}
 use mathlib.Core.Bool.{Bool, true, false, ◌||◌}
 use mathlib.Core.List.{List, [], ◌∷◌, map}
@@ -8,7 +8,7 @@ use native.Mathlib.Omega.{arith}
 use native.Mathlib.Decide.{dec_le}
 use lib.Dec.{eqb, ltb}
 use lib.ListN.{length, drop, length-take, length-map}
-use borrow.Author.Tests.{eq-eqb, ne_eqb, le-leb, lt-leb}
+use borrow.Author.Tests.{le-leb, lt-leb}
 use Rattle.std.specs.Prelude.{if◌then◌else◌}
 use Rattle.parse.specs.Outcome.{Outcome, accept, refuse, and_then}
 use Rattle.boxes.specs.Parts.{held}
@@ -24,7 +24,7 @@ use Rattle.split.proofs.Items.{split_sound, split_lent, split_apart, items_outsi
 use Rattle.split.proofs.Spans.{apart_sum}
 use Rattle.access_unit.specs.AccessUnit.{keeps, leading, kept}
 use Rattle.access_unit.specs.inner.Gathered.{kept_left, Gathered, some_gathered, gather, zero_byte_of, gathered_units, gathered_bytes, lengths}
-use Rattle.access_unit_sizes.specs.inner.Sizes.{sum_of, item_sum, list_sum, SmallSum, sizes_of, zero_of, saved_of, len_of, both_sums, sizes_with}
+use Rattle.access_unit_sizes.specs.inner.Sizes.{sum_of, item_sum, list_sum, SmallSum, sizes_of, zero_of, len_of, both_sums, sizes_with}
 use Rattle.access_unit.specs.declared.StartCodes.{StartCodes}
 use Rattle.access_unit.specs.declared.StartCodes.TheVariants.{Four, Short}
 use Rattle.access_unit_sizes.specs.declared.sizes.UnitSum.{UnitSum}
@@ -107,20 +107,6 @@ module _ (codes : StartCodes) (size : ℕ) (target : Option ℕ) (item : List �
           let k = item_few size target item xs s in
           rw (← x) (sum_small item (kept item target xs) (length (leading item (kept item target xs))) (omega arith))
 
-module _ (codes : StartCodes) (v w : UnitSum) where
-  pub sums_none : v.count + w.count ≡ 0 → refuse 19 ≡ both_sums codes v w
-  sums_none e = rw (eq-eqb (v.count + w.count) 0 e)
-
-  pub sums_some : (first less : ℕ) → (v.count + w.count ≡ 0 → ⊥) → first ≡ zero_of codes v w → less ≡ saved_of codes v w
-      → accept (record {
-        listed = v.count;
-        kept = w.count;
-        lead = w.lead;
-        zero_byte = first;
-        len = 4 * (v.count + w.count) + v.lengths + w.lengths + first - less;
-      }) ≡ both_sums codes v w
-  sums_some first less e z l = rw (z, l, ne_eqb (v.count + w.count) 0 e)
-
 -- what is added for the first unit, and what is taken off
 pub zero_few : (codes : StartCodes) (v w : UnitSum) → SmallSum v → SmallSum w → zero_of codes v w ≤ 1
 zero_few Four v w x y = omega arith
@@ -129,10 +115,6 @@ zero_few Short v w x y = go (ltb 0 w.lead || eqb v.count 0)
     go : (b : Bool) → (if b then w.zero_byte else v.zero_byte) ≤ 1
     go true = y.2
     go false = x.2
-
-pub saved_less : (codes : StartCodes) (v w : UnitSum) → SmallSum v → SmallSum w → saved_of codes v w ≤ v.count + w.count
-saved_less Four v w x y = omega arith
-saved_less Short v w x y = omega (arith, x.1, y.1)
 
 pub gather_too_long : (size : ℕ) (target : Option ℕ) (list item : List ℕ) → 2 ^ 30 < length item → gather size target list item ≡ refuse 23
 unfolding gather

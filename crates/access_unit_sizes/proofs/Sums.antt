@@ -1,14 +1,14 @@
 -- Laws of the sums of a walk: one unit added, and bounds of the sums.
 use Prim.Native.Nat.{ℕ, suc, ◌+◌, ◌^◌, ◌≤◌, ◌<◌}
 use mathlib.Core.Path.{◌≡◌, refl, sym, ap, ◌∙◌}
-use mathlib.Core.Bool.{Bool, true, false, ◌&&◌, ◌||◌}
+use mathlib.Core.Bool.{Bool, true, false, ◌&&◌}
 use mathlib.Core.List.{List, [], ◌∷◌, ◌++◌, map, map-append}
 use mathlib.Core.Option.{Option}
 use native.Mathlib.Omega.{arith}
 use native.Mathlib.Decide.{dec_le}
-use lib.Dec.{eqb, ltb}
+use lib.Dec.{eqb}
 use lib.ListN.{length, length-append}
-use borrow.Author.Tests.{eq-eqb, ne_eqb, lt-ltb, le-ltb}
+use borrow.Author.Tests.{eq-eqb, ne_eqb}
 use Rattle.std.specs.Prelude.{if◌then◌else◌}
 use Rattle.parse.specs.Outcome.{Outcome, accept, refuse, and_then}
 use Rattle.parse.specs.inner.Walk.{more}
@@ -20,8 +20,8 @@ use Rattle.split.proofs.Items.{Turn}
 use Rattle.annex_b.specs.RoundTrip.{threes}
 use Rattle.access_unit.specs.AccessUnit.{keeps, may_lead, leading}
 use Rattle.access_unit.specs.inner.Gathered.{kept_left, later_code, zero_byte_of, lengths, saved, saved_in}
-use Rattle.access_unit_sizes.specs.inner.Sizes.{lead_with, zero_with, adding}
-use Rattle.access_unit_sizes.specs.inner.Sizes.{adding_unit, RoomFor, adding_kept, item_sum, list_sum, first_zero}
+use Rattle.access_unit_sizes.specs.inner.Sizes.{adding}
+use Rattle.access_unit_sizes.specs.inner.Sizes.{adding_unit, RoomFor, adding_kept, item_sum, list_sum}
 use Rattle.access_unit.specs.declared.StartCodes.TheVariants.{Short}
 use Rattle.access_unit_sizes.specs.declared.sizes.UnitSum.{UnitSum}
 use Rattle.access_unit.proofs.KeptUnits.{over_kept, over_dropped, leading_le}
@@ -193,36 +193,3 @@ item_sum_none item = refl
 pub list_sum_none : (list : List ℕ) → no_units ≡ list_sum list []
 unfolding lengths threes
 list_sum_none list = refl
-
--- ### the cases of the code's tests
-
-module _ (leads : Bool) (v : UnitSum) where
-  pub lead_more : leads ≡ true → v.lead ≡ v.count → v.count + 1 ≡ lead_with leads v
-  lead_more e f = rw (e, eq-eqb v.lead v.count f)
-
-  pub lead_after : leads ≡ true → (v.lead ≡ v.count → ⊥) → v.lead ≡ lead_with leads v
-  lead_after e f = rw (e, ne_eqb v.lead v.count f)
-
-  pub lead_none : leads ≡ false → v.lead ≡ lead_with leads v
-  lead_none e = rw e
-
-module _ (saves : ℕ) (v : UnitSum) where
-  pub zero_begins : v.count ≡ 0 → saves ≡ zero_with saves v
-  zero_begins e = rw (eq-eqb v.count 0 e)
-
-  pub zero_stays : (v.count ≡ 0 → ⊥) → v.zero_byte ≡ zero_with saves v
-  zero_stays e = rw (ne_eqb v.count 0 e)
-
-module _ (v w : UnitSum) where
-  pub zero_leads : 0 < w.lead → w.zero_byte ≡ first_zero v w
-  zero_leads h = rw (lt-ltb 0 w.lead h)
-
-  pub zero_alone : v.count ≡ 0 → w.zero_byte ≡ first_zero v w
-  zero_alone e = rw (eq-eqb v.count 0 e) (go (ltb 0 w.lead))
-    where
-      go : (b : Bool) → w.zero_byte ≡ (if b || true then w.zero_byte else v.zero_byte)
-      go true = refl
-      go false = refl
-
-  pub zero_listed : w.lead ≤ 0 → (v.count ≡ 0 → ⊥) → v.zero_byte ≡ first_zero v w
-  zero_listed l e = rw (le-ltb 0 w.lead l, ne_eqb v.count 0 e)

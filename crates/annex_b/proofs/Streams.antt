@@ -8,8 +8,6 @@ use native.Mathlib.Omega.{arith}
 use native.Mathlib.Decide.{dec_le}
 use lib.ListN.{length, take, drop, length-take, length-drop}
 use borrow.Author.Tests.{le-leb, lt-leb, eq-eqb, ne_eqb}
-use Rattle.error.specs.Refusals.{number_of}
-use Rattle.error.specs.declared.Refusal.{Refusal}
 use Rattle.parse.specs.Outcome.{Outcome, accept, refuse, lent_input}
 use Rattle.parse.specs.Parse.{value, many}
 use Rattle.parse.specs.inner.Walk.{more}
@@ -297,9 +295,3 @@ module _ (s : List ℕ) where
         let w : accept none ≡ next_given s p = ap next_of (sym e) ∙ said in
         ⊎_elim (λ h. let v = h.1 in let z : ◌≡◌ {A = ℕ} 0 1 = cc in absurd (omega arith))
         (λ h. let v = h.1 in left_lent p h.0 ∙ ap accept (first_none (stream_units_from s p) cc)) (given_is p)
-
-    pub next_refused : (e : Refusal) → r ≡ N.Refused e → stream_left p ≡ refuse (number_of e)
-    next_refused e k =
-        let w : refuse (number_of e) ≡ next_given s p = ap next_of (sym k) ∙ said in
-        ⊎_elim (λ h. let v = h.1 in rw (lt-leb (length s) (2 ^ 30) h.0) cc)
-        (λ h. let v = h.1 in let z : ◌≡◌ {A = ℕ} 0 1 = cc in absurd (omega arith)) (given_is p)

@@ -50,9 +50,6 @@ pub record TypeMeasured (t : ℕ) (us left : List (List ℕ)) (p len : ℕ) : Ty
   pub whole : len + length (bytes_of t left) ≡ length (bytes_of t us)
 
 module _ (t : ℕ) (us : List (List ℕ)) where
-  pub measured_start : (p : ℕ) → TypeMeasured t us us p 0
-  measured_start p = record { few = omega arith; whole = omega arith }
-
   module _ (left : List (List ℕ)) (p len : ℕ) (i : TypeMeasured t us left p len) where
     pub measured_end : left ≡ [] → len ≡ length (bytes_of t us)
     measured_end e = let z = ap length (bytes_none t left e) in omega (arith, i.whole)
@@ -75,9 +72,6 @@ pub record Stored (t : ℕ) (us : List (List ℕ)) (out₀ : List ℕ) (at : ℕ
   pub whole : sets out to (bytes_of t left) ≡ sets out₀ at (bytes_of t us)
 
 module _ (t : ℕ) (us : List (List ℕ)) (out₀ : List ℕ) (at : ℕ) where
-  pub stored_start : Stored t us out₀ at us out₀ at
-  stored_start = record { same = refl; place = refl; whole = refl }
-
   module _ (left : List (List ℕ)) (out : List ℕ) (to : ℕ) (i : Stored t us out₀ at left out to) where
     pub stored_end : left ≡ [] → (to ≡ at + length (bytes_of t us)) × (out ≡ sets out₀ at (bytes_of t us))
     stored_end e =

@@ -22,10 +22,3 @@ module _ (s : List ℕ) (c : ListCursor) (n : ℕ) where
           → (accept (map (held s) (spans_of (units_left s c))) ≡ held_units s (units_left s c)) × Readable s c
       go (accept us) g = (rw g, record { fits = f; spans = us; left = g })
       go (refuse m) g = absurd (let z : ◌≡◌ {A = ℕ} 0 1 = cc (ap count_found g) in omega arith)
-
-  pub units_refused : refuse n ≡ count_found (units_left s c) → refuse n ≡ held_units s (units_left s c)
-  units_refused e = go (units_left s c) e
-    where
-      go : (o : Outcome (List Span)) → refuse n ≡ count_found o → refuse n ≡ held_units s o
-      go (accept us) g = absurd (let z : ◌≡◌ {A = ℕ} 0 1 = cc in omega arith)
-      go (refuse m) g = let z : n ≡ m = cc in ap refuse z

@@ -1,5 +1,5 @@
 -- Laws of a walk over the units of a list that reads: a step to the next unit, and the end.
-use Prim.Native.Nat.{ℕ, ◌+◌, ◌-◌, ◌≤◌, ◌<◌}
+use Prim.Native.Nat.{ℕ, ◌-◌, ◌≤◌, ◌<◌}
 use mathlib.Core.Path.{◌≡◌, refl, sym, ap, ◌∙◌, subst}
 use mathlib.Core.List.{List, [], ◌∷◌, map}
 use mathlib.Core.Logic.{⊎_elim}
@@ -42,9 +42,6 @@ module _ (s : List ℕ) (here : ListCursor) (r : ListStep) (f : (stepped s r ≡
       ap (λ (o : Outcome (List Span)). map (held s) (spans_of o)) (turn.rest ∙ ap (more a) g)
           ∙ ap (λ (o : Outcome (List Span)). held s a ∷ map (held s) (spans_of o)) (sym g),
     )
-
-    pub found_inside : a.start + a.len ≤ length s
-    found_inside = turn.inside
 
     pub found_step : (t : ℕ) → t ≡ type_or31 (held s a) → t ≤ largest_unit_type → UnitStepped s here a t next
     found_step t type small =

@@ -32,9 +32,6 @@ pub wanted_none : (w : Wanted) (o : Outcome (List TypedUnit)) → o ≡ accept [
 unfolding wanted_units
 wanted_none w o e = ap (wanted_of w) e
 
-pub wanted_refused : (w : Wanted) (o : Outcome (List TypedUnit)) (n : ℕ) → o ≡ refuse n → wanted_of w o ≡ refuse n
-wanted_refused w o n e = ap (wanted_of w) e
-
 -- all units
 every_spans : (xs : List TypedUnit) → wanted_units Every xs ≡ unit_spans xs
 unfolding wanted_units unit_spans

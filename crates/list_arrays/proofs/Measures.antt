@@ -51,14 +51,6 @@ joined_assoc a b c = same_measure (omega arith) (omega arith) (and_assoc a.fits 
 joined_nothing : (m : Measure) → joined m nothing ≡ m
 joined_nothing m = same_measure (omega arith) (omega arith) (and_yes m.fits)
 
-nothing_joined : (m : Measure) → joined nothing m ≡ m
-nothing_joined m = same_measure (omega arith) (omega arith) refl
-
--- nothing measured, one more, all
-pub after_start : (o : Outcome Measure) → after_measured nothing o ≡ o
-after_start (accept m) = ap accept (nothing_joined m)
-after_start (refuse e) = refl
-
 pub after_more : (v m : Measure) (o : Outcome Measure) → after_measured (joined v m) o ≡ after_measured v (after_measured m o)
 after_more v m (accept n) = ap accept (joined_assoc v m n)
 after_more v m (refuse e) = refl
@@ -130,16 +122,6 @@ pub record MeasuringUnits (w : ℕ) (s : List ℕ) (c here : ListCursor) (v : Me
   pub whole : after_measured v (measured_by (units_measure w s) (array_units_from s here)) ≡ measured_by (units_measure w s) (array_units_from s c)
 
 module _ (w : ℕ) (s : List ℕ) (c : ListCursor) where
-  pub units_start : Fits s c → MeasuringUnits w s c c nothing
-  units_start h =
-      record {
-        fits = h;
-        end = refl;
-        len = omega arith;
-        count = omega arith;
-        whole = after_start (measured_by (units_measure w s) (array_units_from s c));
-      }
-
   module _ (here : ListCursor) (v : Measure) (i : MeasuringUnits w s c here v) (r : ListStep)
       (f : (units_stepped s r ≡ array_units_from s here) × UnitStepFits s here r) where
     pub units_ended : r ≡ L.End
@@ -260,9 +242,6 @@ pub record MeasuringArrays (l : Layout) (s : List ℕ) (c here : ListCursor) (v 
   pub whole : after_measured v (measured_by (arrays_measure l s) (arrays_from s here)) ≡ measured_by (arrays_measure l s) (arrays_from s c)
 
 module _ (l : Layout) (s : List ℕ) (c : ListCursor) where
-  pub arrays_start : Fits s c → MeasuringArrays l s c c nothing
-  arrays_start h = record { fits = h; len = omega arith; count = omega arith; whole = after_start (measured_by (arrays_measure l s) (arrays_from s c)) }
-
   module _ (here : ListCursor) (v : Measure) (i : MeasuringArrays l s c here v) (r : ArrayMeasured)
       (f : (array_measured l s r ≡ measured_by (arrays_measure l s) (arrays_from s here)) × ArrayWithin s here r) where
     module _ (m : Measure) (d : ListCursor) (e : r ≡ R.Array m d) where

@@ -3,11 +3,10 @@ use Prim.Native.Nat.{ℕ, ◌+◌, ◌≤◌, ◌<◌}
 use mathlib.Core.Path.{◌≡◌, ap, ◌∙◌}
 use mathlib.Core.List.{List}
 use native.Mathlib.Omega.{arith}
-use lib.ListN.{length, get_or, set, length-set}
+use lib.ListN.{length, get_or, set}
 use lib.Seq.{sets}
 use Rattle.parse.specs.Outcome.{Outcome, accept, refuse, lent_output}
-use Rattle.parse.specs.Parse.{Parsed, value, refused, times, outcome}
-use Rattle.parse.specs.inner.Stores.{Puts}
+use Rattle.parse.specs.Parse.{Parsed, value, refused, times}
 use Rattle.parse.proofs.Output.{output_short, output_fits}
 use Rattle.boxes.specs.declared.Span.{Span}
 use Rattle.boxes.proofs.Fields.{uint_short}
@@ -54,12 +53,6 @@ module _ (k : Codec) (s : List ℕ) (at : ℕ) where
         list_too_long h = let l = list_long in output_short (list_given s (counted_arrays k s at)) out (q, 1 + room) list given (omega arith)
 
         module _ (h : 1 + room ≤ length out) where
-          pub arrays_fit_lem : (d : List ℕ) → d ≡ set out 0 1 → Puts (arrays_in_list s) (outcome (times n (record_array k) s (at + 1))) d 1
-          arrays_fit_lem d e =
-              let k = ap length e ∙ length-set out 0 1 in
-              let l = found.long in
-              record { it = found.what; found = ap outcome found.read; room = omega arith }
-
           stored : (d e : List ℕ) → d ≡ set out 0 1 → e ≡ sets d 1 (stored_bytes arrays_in_list s (times n (record_array k) s (at + 1)))
               → e ≡ sets out 0 list
           unfolding encode

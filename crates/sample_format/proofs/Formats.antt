@@ -1,16 +1,15 @@
 -- The sample format by cases: of the head, of an SPS, of a list.
-use Prim.Native.Nat.{ℕ, ◌+◌, ◌≤◌}
-use mathlib.Core.Path.{◌≡◌, refl, sym, ap, ◌∙◌, subst}
+use Prim.Native.Nat.{ℕ}
+use mathlib.Core.Path.{◌≡◌, refl, sym, ap, ◌∙◌}
 use mathlib.Core.Bool.{true, false}
 use mathlib.Core.List.{List, [], ◌∷◌, map}
 use mathlib.Core.Option.{Option, none, some}
-use lib.ListN.{length}
 use Rattle.error.specs.Refusals.{number_of}
 use Rattle.error.specs.declared.Refusal.{Refusal}
 use Rattle.std.specs.Prelude.{if◌then◌else◌}
 use Rattle.parse.specs.Outcome.{Outcome, accept, refuse, and_then, hands_back}
 use Rattle.boxes.specs.Parts.{held}
-use Rattle.boxes.specs.Places.{Place, in_first, in_second, place_of, nth, place_found, PlaceFits}
+use Rattle.boxes.specs.Places.{Place, in_first, in_second, place_of, nth, place_found}
 use Rattle.boxes.specs.declared.Span.{Span}
 use Rattle.boxes.specs.declared.UnitPlace.{UnitPlace}
 use Rattle.boxes.specs.declared.UnitPlace.TheVariants as U
@@ -107,7 +106,3 @@ module _ (h : VvcConfig) (s : List ℕ) (r : UnitPlace) (e : place_of r ≡ sps_
 
       pub list_first : (a : Span) → r ≡ U.First a → sps_format_of (held s a) ≡ sample_format h s
       list_first a f = (rw b) ∙ sym (ap (by_place h s) f) ∙ by_place_lem
-
--- a unit lies in its list
-pub first_inside : (s : List ℕ) (r : UnitPlace) → PlaceFits s [] r → (a : Span) → r ≡ U.First a → a.start + a.len ≤ length s
-first_inside s r h a f = subst (PlaceFits s []) f h

@@ -62,7 +62,7 @@ fn unit_at(start: usize, len: usize) -> NextUnit
 }
 
 // How many of the bytes between two places are left when trailing zeros are cut off; none where the first place is not before the second.
-fn trimmed(s: &[u8], from: usize, to: usize) -> usize
+pub fn trimmed(s: &[u8], from: usize, to: usize) -> usize
     requires { to ≤ length s.now }
     ensures { (result ≡ length (trim (take (to - from) (drop from s.now)))) × (result ≤ to - from) }
 {

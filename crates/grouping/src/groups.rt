@@ -1,7 +1,7 @@
 // Internal: the units after a cursor measured and stored as arrays, one for each type, in the order in which the types first occur.
 ghost use Rattle.std.specs.Prelude.{◌≡◌, ◌+◌, ◌≤◌, ◌<◌, ◌^◌, length};
 ghost use Rattle.std.proofs.lemmas.List.Edits.{sets};
-ghost use Rattle.unit_list.specs.UnitList.{encode_units, encode_array, encode_arrays, encode, list_width};
+ghost use Rattle.unit_list.specs.UnitList.{encode_units, encode_array, encode_arrays, encode};
 ghost use Rattle.grouping.specs.Grouping.{having_type, group, grouped};
 ghost use Rattle.grouping.specs.inner.Units.{Readable, units_at};
 
@@ -14,7 +14,7 @@ use unit_list::{ARRAY_HEAD, LIST_WIDTH, ListCursor, write};
 // The bytes of the units of type t in a list, each after its length.
 fn group_len(list: &[u8], c: ListCursor, t: u8) -> usize
     requires { Readable list.now c }
-    ensures { (result ≡ length (encode_units list_width (having_type t (units_at list.now c)))) × (result ≤ 2 ^ 31) }
+    ensures { (result ≡ length (encode_units 4 (having_type t (units_at list.now c)))) × (result ≤ 2 ^ 31) }
 {
     let mut here = c;
     let mut len: usize = 0;
@@ -32,7 +32,7 @@ fn group_len(list: &[u8], c: ListCursor, t: u8) -> usize
 // The bytes of all arrays. An array is its length, complete, type and units; it is counted at the first unit of its type.
 pub fn groups_len(list: &[u8], c: ListCursor) -> usize
     requires { Readable list.now c }
-    ensures { (result ≡ length (encode_arrays list_width (grouped (units_at list.now c)))) × (result < 2 ^ 62) }
+    ensures { (result ≡ length (encode_arrays 4 (grouped (units_at list.now c)))) × (result < 2 ^ 62) }
 {
     let mut here = c;
     let mut seen = [false; UNIT_TYPES];
@@ -52,9 +52,9 @@ pub fn groups_len(list: &[u8], c: ListCursor) -> usize
 
 // Stores the units of type t from place `at` on and returns the place after them.
 fn put_group_units(list: &[u8], c: ListCursor, t: u8, out: &mut [u8], at: usize) -> usize
-    requires { Readable list.now c × (at + length (encode_units list_width (having_type t (units_at list.now c))) ≤ length out.old) }
-    ensures { (result ≡ at + length (encode_units list_width (having_type t (units_at list.now c))))
-        × (out.new ≡ sets out.old at (encode_units list_width (having_type t (units_at list.now c)))) }
+    requires { Readable list.now c × (at + length (encode_units 4 (having_type t (units_at list.now c))) ≤ length out.old) }
+    ensures { (result ≡ at + length (encode_units 4 (having_type t (units_at list.now c))))
+        × (out.new ≡ sets out.old at (encode_units 4 (having_type t (units_at list.now c)))) }
 {
     let mut here = c;
     let mut to = at;
@@ -72,9 +72,9 @@ fn put_group_units(list: &[u8], c: ListCursor, t: u8, out: &mut [u8], at: usize)
 
 // Stores the array of type t, complete 1, from place `at` on and returns the place after it.
 fn put_group(list: &[u8], c: ListCursor, t: u8, out: &mut [u8], at: usize) -> usize
-    requires { Readable list.now c × (at + length (encode_array list_width (group (units_at list.now c) t)) ≤ length out.old) }
-    ensures { (result ≡ at + length (encode_array list_width (group (units_at list.now c) t)))
-        × (out.new ≡ sets out.old at (encode_array list_width (group (units_at list.now c) t))) }
+    requires { Readable list.now c × (at + length (encode_array 4 (group (units_at list.now c) t)) ≤ length out.old) }
+    ensures { (result ≡ at + length (encode_array 4 (group (units_at list.now c) t)))
+        × (out.new ≡ sets out.old at (encode_array 4 (group (units_at list.now c) t))) }
 {
     let from = at + LIST_WIDTH;
     let to = put_group_units(list, c, t, out, at + ARRAY_HEAD);
@@ -84,8 +84,8 @@ fn put_group(list: &[u8], c: ListCursor, t: u8, out: &mut [u8], at: usize) -> us
 
 // Stores the arrays from place `at` on, each when the walk meets the first unit of its type.
 fn put_groups(list: &[u8], c: ListCursor, out: &mut [u8], at: usize)
-    requires { Readable list.now c × (at + length (encode_arrays list_width (grouped (units_at list.now c))) ≤ length out.old) }
-    ensures { out.new ≡ sets out.old at (encode_arrays list_width (grouped (units_at list.now c))) }
+    requires { Readable list.now c × (at + length (encode_arrays 4 (grouped (units_at list.now c))) ≤ length out.old) }
+    ensures { out.new ≡ sets out.old at (encode_arrays 4 (grouped (units_at list.now c))) }
 {
     let mut here = c;
     let mut stored = [false; UNIT_TYPES];

@@ -5,7 +5,6 @@ ghost use Rattle.parse.specs.Outcome.{refuse};
 ghost use Rattle.parse.specs.Parse.{bind};
 ghost use Rattle.rbsp.specs.Rbsp.{rbsp};
 ghost use Rattle.bit_reader.specs.inner.Answers.{parsed, place_in, part_after};
-ghost use Rattle.params.specs.inner.Front.{rbsp_front};
 ghost use Rattle.params.specs.inner.Answers.{read_or};
 ghost use Rattle.sps.specs.Sps.{window, sps_head, zero_sps};
 ghost use Rattle.sps.specs.Answers.{sps_of};
@@ -68,7 +67,7 @@ pub struct ConfWindowRead {
 
 // Reads the fields before the PTL, two bytes. Refusal: 11.
 fn read_ids(rbsp: &[u8], at: BitPosition) -> SpsIdsRead
-    requires { length rbsp.now ≤ rbsp_front }
+    requires { length rbsp.now ≤ 1132 }
     ensures { (part_after result.answer result.part ≡ ids rbsp.now at.0) × (result.part.max_sublayers_minus1 ≤ 7) }
 {
     let id = bits::read_bits(rbsp, at, 4);
@@ -93,7 +92,7 @@ fn read_ids(rbsp: &[u8], at: BitPosition) -> SpsIdsRead
 
 // Reads the PTL, which follows these fields, where its flag is set; else it is all zeros. Refusals: those of the fields, then 11.
 fn read_ptl(rbsp: &[u8], ids: SpsIdsRead) -> PtlBits
-    requires { (length rbsp.now ≤ rbsp_front) × (place_in ids.answer % 8 ≡ 0) × (ids.part.max_sublayers_minus1 ≤ 7) }
+    requires { (length rbsp.now ≤ 1132) × (place_in ids.answer % 8 ≡ 0) × (ids.part.max_sublayers_minus1 ≤ 7) }
     ensures { part_after result.answer result.ptl ≡ bind (parsed ids.answer) (λ _ q.
         ptl_where ids.part.ptl_present_flag ids.part.max_sublayers_minus1 rbsp.now q) }
 {
@@ -111,7 +110,7 @@ fn read_ptl(rbsp: &[u8], ids: SpsIdsRead) -> PtlBits
 
 // Reads the fields after the PTL, up to the window's flag. Refusals: those of the read before, then 11, 12.
 fn read_size(rbsp: &[u8], prior: BitsRead) -> SpsSizeRead
-    requires { length rbsp.now ≤ rbsp_front }
+    requires { length rbsp.now ≤ 1132 }
     ensures { part_after result.answer result.part ≡ bind (parsed prior) (λ _ q. size rbsp.now q) }
 {
     let gdr = then::read_bits(rbsp, prior, 1);
@@ -133,7 +132,7 @@ fn read_size(rbsp: &[u8], prior: BitsRead) -> SpsSizeRead
 
 // Reads the window's four offsets. Refusals: those of the read before, then 11, 12.
 fn read_offsets(rbsp: &[u8], prior: BitsRead) -> ConfWindowRead
-    requires { length rbsp.now ≤ rbsp_front }
+    requires { length rbsp.now ≤ 1132 }
     ensures { part_after result.answer (window_of result.part) ≡ bind (parsed prior) (λ _ q. window rbsp.now q) }
 {
     let left = then::exp_golomb(rbsp, prior);
@@ -154,7 +153,7 @@ fn read_offsets(rbsp: &[u8], prior: BitsRead) -> ConfWindowRead
 
 // Reads the window where its flag is set, else it is all zeros. Refusals: those of the read before, then 11, 12.
 fn read_window(rbsp: &[u8], size: SpsSizeRead) -> ConfWindowRead
-    requires { length rbsp.now ≤ rbsp_front }
+    requires { length rbsp.now ≤ 1132 }
     ensures { part_after result.answer (window_of result.part) ≡ bind (parsed size.answer) (λ _ q.
         window_where size.part.conformance_window_flag rbsp.now q) }
 {
@@ -177,7 +176,7 @@ fn read_window(rbsp: &[u8], size: SpsSizeRead) -> ConfWindowRead
 
 // Reads the subpictures' flag and the bit depth minus 8. Refusals: those of the read before, then in bit order 11, 12, 13, 14.
 fn read_depth(rbsp: &[u8], prior: BitsRead) -> BitsRead
-    requires { length rbsp.now ≤ rbsp_front }
+    requires { length rbsp.now ≤ 1132 }
     ensures { parsed result ≡ bind (parsed prior) (λ _ q. depth rbsp.now q) }
 {
     let r1 = then::read_bits(rbsp, prior, 1);
@@ -249,7 +248,7 @@ fn head_of(i: SpsIdsRead, p: PtlBits, z: SpsSizeRead, w: ConfWindowRead, depth: 
 
 // Reads the head of an SPS from the first bytes of its RBSP. Refusals in bit order: 11, 12, 13, 14.
 pub fn parse_front(rbsp: &[u8]) -> SpsRead
-    requires { length rbsp.now ≤ rbsp_front }
+    requires { length rbsp.now ≤ 1132 }
     ensures { sps_of result ≡ read_or zero_sps (sps_head rbsp.now 0) }
 {
     let ids = read_ids(rbsp, FIRST_BIT);

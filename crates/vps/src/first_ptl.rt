@@ -5,7 +5,6 @@ ghost use Rattle.parse.specs.Outcome.{refuse};
 ghost use Rattle.rbsp.specs.Rbsp.{rbsp};
 ghost use Rattle.bit_reader.specs.inner.Answers.{parsed};
 ghost use Rattle.ptl.specs.Ptl.{zero_ptl};
-ghost use Rattle.params.specs.inner.Front.{rbsp_front};
 ghost use Rattle.params.specs.inner.Answers.{read_or};
 ghost use Rattle.vps.specs.Vps.{vps_ptl};
 ghost use Rattle.vps.specs.Answers.{vps_ptl_of};
@@ -66,7 +65,7 @@ fn front_of(
 
 // Reads the fields before the PTL through the bit reader; `front_of` decides.
 fn front(rbsp: &[u8]) -> BitsRead
-    requires { length rbsp.now ≤ rbsp_front }
+    requires { length rbsp.now ≤ 1132 }
     ensures { parsed result ≡ vps_front rbsp.now 0 }
 {
     let br = BitReader::new(rbsp);
@@ -87,7 +86,7 @@ fn front(rbsp: &[u8]) -> BitsRead
 
 // Reads the first PTL of a VPS from the first bytes of its RBSP. Refusals in bit order: 11, 15.
 fn parse_rbsp(rbsp: &[u8]) -> PtlRead
-    requires { length rbsp.now ≤ rbsp_front }
+    requires { length rbsp.now ≤ 1132 }
     ensures { vps_ptl_of result ≡ read_or zero_ptl (vps_ptl rbsp.now 0) }
 {
     let sublayers = front(rbsp);

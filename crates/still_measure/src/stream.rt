@@ -4,7 +4,7 @@ ghost use Rattle.parse.specs.Answers.{count_of};
 ghost use Rattle.boxes.specs.Walk.{count_found};
 ghost use Rattle.access_unit.specs.Answers.{tols_of};
 ghost use Rattle.still.specs.Stills.{still_stream};
-ghost use Rattle.still.specs.inner.Steps.{ReadFrom, ExpandedFrom, Plain, plain_stream, stream_expanded, stream_from};
+ghost use Rattle.still.specs.inner.Steps.{ReadFrom, ExpandedFrom, Plain, item_after, plain_stream, stream_expanded, stream_from};
 ghost use Rattle.still_plain.specs.inner.Plain.{ItemLong};
 
 use access_unit::{StartCodes, Target, lengths};
@@ -15,6 +15,23 @@ use expand::ExpandAnswer;
 use full::VvcConfig;
 use still::{ANY_PICTURE, COMPACT_LIST, EXPANDED_LIST, item};
 use still_plain::measure;
+
+// The length of the item of the stored bytes, if full write accepts the record. Neither is made: full read returns the same list and what assembly
+// uses of the head, and the item is the stored bytes or has them as its one unit's payload. Refusals: 3, 22; with the flag clear 6. The stream of an
+// expansion needs no record's length (`still::item::restored_len`).
+pub fn restored_len(
+    config: CompactVvcConfig,
+    head: VvcConfig,
+    list: &[u8],
+    stored: &[u8],
+) -> Counted
+    ensures { count_of result ≡ count_found (item_after config head list.now stored.now) }
+{
+    match full_write::record_len(head, list) {
+        Counted::Count(_) => item_len::lengths::item_len(config, stored),
+        Counted::Refused(e) => Counted::Refused(e),
+    }
+}
 
 // The length of the stream of a list and of stored bytes with one unit. Refusal: 23.
 fn plain_len(

@@ -1,6 +1,6 @@
 -- Laws of the units of a compact record, measured and stored as a list.
-use Prim.Native.Nat.{ℕ, ◌+◌, ◌≤◌}
-use mathlib.Core.Path.{◌≡◌, sym, ap, ◌∙◌}
+use Prim.Native.Nat.{ℕ, ◌+◌}
+use mathlib.Core.Path.{◌≡◌, ap, ◌∙◌}
 use mathlib.Core.List.{List, [], ◌∷◌, ◌++◌, map}
 use native.Mathlib.Omega.{arith}
 use lib.ListN.{length, set}
@@ -19,14 +19,8 @@ use Rattle.counted_units.specs.inner.Counted.{units_in_list}
 use Rattle.counted_units.proofs.Repeated.{RoomFound}
 use Rattle.compact_read.specs.inner.Room.{found_list}
 
--- the output has room for the list
+-- the list that is stored, by the units that were found
 module _ (s : List ℕ) (x : Parsed (List Span)) (room after : ℕ) (m : RoomFound units_in_list s x room after) where
-  pub measured_copies : (out : List ℕ) → 7 + room ≤ length out → Puts (units_in_list s) (outcome x) out 7
-  measured_copies out h = record { it = m.what; found = ap outcome m.read; room = omega (arith, m.long) }
-
-  pub measured_room : room ≡ length (bytes_of (units_in_list s) (outcome x))
-  measured_room = m.long ∙ sym (ap (λ (y : Parsed (List Span)). length (bytes_of (units_in_list s) (outcome y))) m.read)
-
   pub measured_list : found_list s (outcome x) ≡ one_array (map (held s) m.what)
   measured_list = ap (λ (y : Parsed (List Span)). found_list s (outcome y)) m.read
 

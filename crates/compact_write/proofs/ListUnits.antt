@@ -1,20 +1,19 @@
 -- Laws of the units of a list that is written as a compact record: units measured, and the refusals of the record.
-use Prim.Native.Nat.{ℕ, ◌+◌, ◌-◌, ◌^◌, ◌≤◌, ◌<◌}
+use Prim.Native.Nat.{ℕ, ◌+◌, ◌^◌, ◌≤◌}
 use mathlib.Core.Path.{◌≡◌, refl, sym, ap, ◌∙◌}
 use mathlib.Core.Bool.{Bool, true, false, not, ◌&&◌, and-true, and_assoc}
-use mathlib.Core.Logic.{◌⊎◌, ⊎_elim}
 use mathlib.Core.List.{List, [], ◌∷◌, map}
 use native.Mathlib.Omega.{arith}
 use lib.Dec.{leb}
 use lib.ListN.{length, set, length-map}
 use lib.Seq.{sets}
-use borrow.Author.Tests.{le-leb, lt-leb, leb-true}
+use borrow.Author.Tests.{leb-true}
 use Rattle.error.specs.Refusals.{number_of}
 use Rattle.error.specs.declared.Refusal.{Refusal}
 use Rattle.std.specs.Prelude.{if◌then◌else◌}
 use Rattle.parse.specs.Outcome.{Outcome, accept, refuse, and_then}
 use Rattle.parse.specs.inner.Walk.{more}
-use Rattle.parse.specs.inner.Stores.{bytes_of, Puts}
+use Rattle.parse.specs.inner.Stores.{bytes_of}
 use Rattle.boxes.specs.Parts.{held}
 use Rattle.boxes.specs.Bytes.{outside}
 use Rattle.boxes.specs.declared.Span.{Span}
@@ -29,7 +28,7 @@ use Rattle.unit_list.specs.declared.ListStart.{ListStart}
 use Rattle.unit_list.specs.declared.ListStart.TheVariants as S
 use Rattle.unit_list.specs.declared.ListStep.{ListStep}
 use Rattle.unit_list.specs.declared.ListStep.TheVariants as L
-use Rattle.unit_list.proofs.Turns.{ListTurn, list_found, list_end, list_malformed, start_units, start_refused}
+use Rattle.unit_list.proofs.Turns.{ListTurn, list_found, list_end, start_units, start_refused}
 use Rattle.unit_list.proofs.StoredUnits.{room_more}
 use Rattle.compact.specs.Compact.{all_at_most, compact_bytes, serialize_compact, compact_first_byte}
 use Rattle.compact.specs.declared.CompactVvcConfig.{CompactVvcConfig}
@@ -77,18 +76,9 @@ module _ (s : List ℕ) (c : ListCursor) where
       omega (arith, i.few, i.fits.before, i.fits.within, i.fits.lent),
     )
 
-    pub summing_malformed : r ≡ L.Malformed → refuse 21 ≡ summed s no_units (units_left s c)
-    summing_malformed e = ap (summed s v) (sym (list_malformed s here r f e)) ∙ i.whole
-
     module _ (a : Span) (next : ListCursor) (e : r ≡ L.Unit a next) where
       turn : ListTurn s here a next
       turn = list_found s here r f a next e
-
-      pub summing_room : v.count + v.room + a.len < 2 ^ 32
-      summing_room = omega (arith, i.few, turn.ahead, turn.within, turn.passed.fits.lent)
-
-      pub summing_less : length s - next.at < length s - here.at
-      summing_less = omega (arith, turn.ahead, turn.within)
 
       pub summing_again : Summing s c next (adding_unit a.len v)
       summing_again =
@@ -118,32 +108,11 @@ sum_of_lem s (accept us) v e =
     }
 sum_of_lem s (refuse n) v e = absurd (let z : ◌≡◌ {A = ℕ} 0 1 = cc in omega arith)
 
-pub sum_refused : (s : List ℕ) (o : Outcome (List Span)) (n : ℕ) → refuse n ≡ summed s no_units o → o ≡ refuse n
-sum_refused s (accept us) n e = absurd (let z : ◌≡◌ {A = ℕ} 0 1 = cc in omega arith)
-sum_refused s (refuse m) n e = let z : m ≡ n = cc in ap refuse z
-
 -- the first byte and then the units are the record
 pub record_stored : (out d e us : List ℕ) (b k : ℕ) → b ≡ k → d ≡ set out 0 b → e ≡ sets d 1 us → e ≡ sets out 0 (k ∷ us)
 record_stored out d e us b k h f g = g ∙ rw (f, h)
 
 -- ### the record of a list that was measured
-
--- its length, by the tests of the code
-module _ (c : CompactVvcConfig) (v : RecordSum) where
-  pub length_outside : outside c.length_size ≡ true → refuse 4 ≡ record_length c v
-  length_outside h = rw h
-
-  module _ (inside : outside c.length_size ≡ false) where
-    pub length_count : (v.count < 2) ⊎ (33 < v.count) → refuse 8 ≡ record_length c v
-    length_count =
-        ⊎_elim (λ h. rw (inside, lt-leb 2 v.count h)) (λ h. rw (inside, le-leb 2 v.count (omega arith), lt-leb v.count 33 h))
-
-    module _ (two : 2 ≤ v.count) (most : v.count ≤ 33) where
-      pub length_long : v.fits ≡ false → refuse 9 ≡ record_length c v
-      length_long h = rw (inside, le-leb 2 v.count two, le-leb v.count 33 most, h)
-
-      pub length_given : v.fits ≡ true → accept (1 + v.room) ≡ record_length c v
-      length_given h = rw (inside, le-leb 2 v.count two, le-leb v.count 33 most, h)
 
 -- the tests that a record with a length has passed
 pub record Long (c : CompactVvcConfig) (v : RecordSum) (n : ℕ) : Type 0 where
@@ -196,9 +165,6 @@ module _ (c : CompactVvcConfig) (s : List ℕ) (o : Outcome (List Span)) (v : Re
 
   pub record_room_lem : length (compact_first_byte c v.count ∷ bytes_of (unit_bytes 1 s) o) ≡ 1 + v.room
   record_room_lem = let l = ap (λ (x : Outcome (List Span)). length (bytes_of (unit_bytes 1 s) x)) m.found in omega (arith, m.room)
-
-  pub record_copies : (out : List ℕ) → 1 + v.room ≤ length out → Puts (unit_bytes 1 s) o out 1
-  record_copies out h = record { it = m.units; found = m.found; room = omega (arith, m.room) }
 
 -- the whole list, from its start
 module _ (c : CompactVvcConfig) (s : List ℕ) (r : ListStart) (f : (started s r ≡ typed_list s) × (arrays_started s r ≡ decode s) × StartFits s r) where

@@ -1,5 +1,5 @@
 -- Laws of a search among the entries in use.
-use Prim.Native.Nat.{ℕ, zero, suc, ◌+◌, ◌-◌, ◌≤◌, ◌<◌}
+use Prim.Native.Nat.{ℕ, zero, suc, ◌+◌, ◌≤◌, ◌<◌}
 use mathlib.Core.Path.{◌≡◌, refl, sym, ap, ◌∙◌, subst⁻¹}
 use mathlib.Core.Bool.{Bool, true, false, not}
 use mathlib.Core.List.{List, [], ◌∷◌}
@@ -130,16 +130,6 @@ looked d q n s e false h less is m =
 pub searching_step : (d : List Entry) (q : Asked) (n : ℕ) (s : Search) (e : Entry) (r : Search) → Searching d q n s → s.at < s.end
     → e ≡ get_or d s.at no_entry → r ≡ looking s e q → Searching d q n r
 searching_step d q n s e r h less is is' = rw is' (looked d q n s e (meant q e.unit_type) h less is refl)
-
-nearer : (s : Search) (e : Entry) (b : Bool) → s.at < s.end
-    → let r : Search = if b then record { at = s.at; end = s.at; is_found = true; entry = e }
-    else record { at = s.at + 1; end = s.end; is_found = s.is_found; entry = s.entry } in
-    r.end - r.at < s.end - s.at
-nearer s e true less = omega arith
-nearer s e false less = omega arith
-
-pub searching_nearer : (s : Search) (e : Entry) (q : Asked) (r : Search) → s.at < s.end → r ≡ looking s e q → r.end - r.at < s.end - s.at
-searching_nearer s e q r less is = rw is (nearer s e (meant q e.unit_type) less)
 
 -- its end
 pub searching_end : (d : List Entry) (q : Asked) (n : ℕ) (s : Search) → Searching d q n s → s.end ≤ s.at → found s ≡ asked_for q (take n d)

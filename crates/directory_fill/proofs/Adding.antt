@@ -6,7 +6,6 @@ use native.Mathlib.Omega.{arith}
 use native.Mathlib.Decide.{ℕ_discrete}
 use lib.ListN.{length, get_or, set, replicate, length-set, length-replicate}
 use lib.Seq.{get_or-set_same, get_or-set_other}
-use Rattle.error.specs.declared.Refusal.{Refusal}
 use Rattle.parse.specs.Outcome.{Outcome, accept, refuse}
 use Rattle.parse.specs.inner.Walk.{more}
 use Rattle.boxes.specs.declared.Span.{Span}
@@ -17,7 +16,7 @@ use Rattle.unit_list.specs.declared.ListStart.{ListStart}
 use Rattle.unit_list.specs.declared.ListStart.TheVariants as S
 use Rattle.unit_list.specs.declared.ListStep.{ListStep}
 use Rattle.unit_list.specs.declared.ListStep.TheVariants as L
-use Rattle.unit_list.proofs.Turns.{ListTurn, list_found, start_fits, start_typed, start_refusal}
+use Rattle.unit_list.proofs.Turns.{ListTurn, list_found, start_fits, start_typed}
 use Rattle.directory.specs.Directory.{entry_of, totals_of}
 use Rattle.directory.specs.inner.Entries.{TypesFit}
 use Rattle.directory_fill.specs.inner.Entries.{entry_of_typed, entries_found, entries_in, entries_from, Adds, totals_plus}
@@ -40,9 +39,6 @@ module _ (s : List ℕ) (c : ListCursor) (totals₀ : List ℕ) where
   pub record Adding (here : ListCursor) (totals : List ℕ) : Type 0 where
     pub adds : Adds s here totals
     pub same : totals_plus totals (entries_from s here) ≡ totals_plus totals₀ (entries_from s c)
-
-  pub adding_start : Adds s c totals₀ → Adding c totals₀
-  adding_start h = record { adds = h; same = refl }
 
   module _ (here : ListCursor) (totals : List ℕ) (i : Adding here totals) (r : ListStep)
       (said : (stepped s r ≡ typed_units_from s here) × StepFits s here r) where
@@ -105,9 +101,6 @@ module _ (s : List ℕ) (c : ListCursor) (totals₀ : List ℕ) where
 -- the walk over a list that reads, from its start
 module _ (s : List ℕ) (us : List TypedUnit) (e : typed_list s ≡ accept us) (r : ListStart)
     (said : (started s r ≡ typed_list s) × (arrays_started s r ≡ decode s) × StartFits s r) where
-  pub start_never : (n : Refusal) → r ≡ S.Refused n → ⊥
-  start_never n g = let f = start_refusal s r said n g ∙ e in let z : ◌≡◌ {A = ℕ} 0 1 = cc in omega arith
-
   module _ (c : ListCursor) (g : r ≡ S.At c) (zeros : List ℕ) (cleared : zeros ≡ replicate 64 0) where
     pub start_adds : Adds s c zeros
     start_adds =

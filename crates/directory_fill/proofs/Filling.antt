@@ -1,16 +1,15 @@
 -- Laws of storing the entries of a list one after another.
-use Prim.Native.Nat.{ℕ, suc, ◌+◌, ◌≤◌, ◌<◌, zero-le}
+use Prim.Native.Nat.{ℕ, suc, ◌+◌, ◌≤◌, ◌<◌}
 use mathlib.Core.Path.{◌≡◌, sym, ap, ◌∙◌}
 use mathlib.Core.List.{List, [], ◌∷◌, ◌++◌}
 use native.Mathlib.Nat.{le_of_lt, lt_of_lt_of_le}
 use native.Mathlib.Numerals.{add-one, add-one-le}
 use lib.ListN.{length, get_or, set, take, drop}
-use lib.Seq.{append_snoc, set_at, take-suc, drop-cons, length-take-le, length_front}
-use Rattle.parse.specs.Outcome.{overlay}
+use lib.Seq.{append_snoc, set_at, take-suc, drop-cons, length-take-le}
 use Rattle.unit_list.specs.inner.Walk.{Fits}
 use Rattle.unit_list.specs.declared.ListCursor.{ListCursor}
 use Rattle.directory.specs.inner.Entries.{no_entry}
-use Rattle.directory_fill.specs.inner.Entries.{entries_in, entries_from, FirstEntry, NextEntry}
+use Rattle.directory_fill.specs.inner.Entries.{entries_in, entries_from, NextEntry}
 use Rattle.directory.specs.declared.Entry.{Entry}
 use Rattle.directory_fill.specs.declared.entries.EntryStep.{EntryStep}
 
@@ -27,19 +26,10 @@ stored_next es d k e h h' is =
     ∙ ap (λ (x : Entry). (take k es ++ (x ∷ [])) ++ drop (suc k) d) is
     ∙ ap (λ (r : List Entry). r ++ drop (suc k) d) (sym (take-suc es k no_entry h)) ∙ ap (stored es d) (sym (add-one k))
 
-pub stored_all : (es d : List Entry) (n : ℕ) → n ≤ length es → stored es d n ≡ overlay (take n es) d
-stored_all es d n h = ap (λ (m : ℕ). take n es ++ drop m d) (sym (length-take-le n es h))
-
-pub stored_length : (es d : List Entry) (k : ℕ) → k ≤ length es → k ≤ length d → length (stored es d k) ≡ length d
-stored_length es d k h h' = length_front d (take k es) k (length-take-le k es h ∙ sym (length-take-le k d h'))
-
 -- c is before the entries that are left of the n to be stored, k being stored
 pub record Filling (s : List ℕ) (n k : ℕ) (c : ListCursor) : Type 0 where
   pub under : k ≤ n
   pub left : k < n → (entries_from s c ≡ drop k (entries_in s)) × Fits s c
-
-pub filling_start : (s : List ℕ) (n : ℕ) (c : ListCursor) → n ≤ length (entries_in s) → FirstEntry s c → Filling s n 0 c
-filling_start s n c h first = record { under = zero-le; left = λ less. first (lt_of_lt_of_le less h) }
 
 module _ (s : List ℕ) (n k : ℕ) (c : ListCursor) (r : EntryStep) (fill : Filling s n k c) (less : k < n) (some : n ≤ length (entries_in s))
     (next : NextEntry s c r) where

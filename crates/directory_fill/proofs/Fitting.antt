@@ -20,7 +20,7 @@ use Rattle.directory.specs.Directory.{entry_of, entries_of, list_entries, fittin
 use Rattle.directory.specs.inner.Entries.{number_in, TypesFit}
 use Rattle.directory.specs.declared.Entry.{Entry}
 use Rattle.directory.proofs.ListEntries.{span_of, entries_spans, types_decoded, fitted}
-use Rattle.directory_fill.specs.inner.Entries.{entry_of_typed, entries_found, entries_in, CountedOf, totals_for}
+use Rattle.directory_fill.specs.inner.Entries.{entry_of_typed, entries_found, entries_in, totals_for}
 
 -- the entries of the units that the walk comes to are those of the arrays
 pub entries_typed : (xs : List (Array Span)) → map entry_of_typed (typed_units xs) ≡ entries_of xs
@@ -59,13 +59,6 @@ count_entries s = go (decode s)
 
 -- whether a directory has room for entries, by their count
 module _ (o : Outcome (List Entry)) (room : ℕ) where
-  pub fitting_refused : (n : ℕ) → count_found o ≡ refuse n → refuse n ≡ count_found (and_then o (fitting room))
-  fitting_refused n e = go o e
-    where
-      go : (o : Outcome (List Entry)) → count_found o ≡ refuse n → refuse n ≡ count_found (and_then o (fitting room))
-      go (accept es) e = absurd (let z : ◌≡◌ {A = ℕ} 0 1 = cc in omega arith)
-      go (refuse m) e = cc
-
   module _ (n : ℕ) (e : count_found o ≡ accept n) where
     by_count : count_found (and_then o (fitting room)) ≡ (if leb n room then accept n else refuse 28)
     by_count = go o e
@@ -88,9 +81,6 @@ module _ (o : Outcome (List Entry)) (room : ℕ) where
 module _ (s : List ℕ) where
   entries_in_lem : (xs : List (Array Span)) → decode s ≡ accept xs → entries_in s ≡ entries_of xs
   entries_in_lem xs e = list_entries_lem s (entries_of xs) (rw e)
-
-  pub counted_of : (room : ℕ) → CountedOf s (count_found (and_then (list_entries s) (fitting room)))
-  counted_of room = fitted s room (λ o. CountedOf s (count_found o)) (λ n. tt) (λ xs e h. (typed_units xs, rw e))
 
   pub number_fits : (room : ℕ) → (number_in (count_found (and_then (list_entries s) (fitting room))) ≤ room)
       × (number_in (count_found (and_then (list_entries s) (fitting room))) ≤ length (entries_in s))

@@ -3,7 +3,7 @@ use Prim.Native.Nat.{ℕ}
 use mathlib.Core.Path.{◌≡◌, refl, sym, ap, ◌∙◌}
 use mathlib.Core.Bool.{Bool, true, false}
 use mathlib.Core.List.{List}
-use mathlib.Core.Option.{none, some}
+use mathlib.Core.Option.{some}
 use Rattle.error.specs.Refusals.{number_of}
 use Rattle.error.specs.declared.Refusal.{Refusal}
 use Rattle.parse.specs.Outcome.{Outcome, accept, refuse, and_then, hands_back}
@@ -16,7 +16,7 @@ use Rattle.params.specs.declared.ParamsAnswer.TheVariants as P
 use Rattle.sps.specs.Sps.{parse_sps}
 use Rattle.sps.specs.declared.SpsHead.{SpsHead}
 use Rattle.vps.specs.Vps.{vps_first_ptl}
-use Rattle.vps.specs.Answers.{vps_ptl_of, ptl_given}
+use Rattle.vps.specs.Answers.{vps_ptl_of}
 use Rattle.vps.specs.declared.PtlRead.{PtlRead}
 use Rattle.grouping.specs.Grouping.{having_type, first_element}
 use Rattle.compact.specs.declared.CompactVvcConfig.{CompactVvcConfig}
@@ -54,13 +54,6 @@ and_then_lem (refuse n) f g = refl
 
 -- ### the VPS
 
-module _ (n : ℕ) (us : List (List ℕ)) where
-  pub vps_missing : none ≡ first_element (having_type 14 us) → (refuse n, zero_ptl) ≡ ptl_or_zeros (first_vps_ptl n us)
-  vps_missing e = rw (← e)
-
-  pub vps_found : (u : List ℕ) → some u ≡ first_element (having_type 14 us) → ptl_given u ≡ ptl_or_zeros (first_vps_ptl n us)
-  vps_found u e = rw (← e)
-
 module _ (us : List (List ℕ)) where
   pub single_layer : (b : Bool) → b ≡ false → accept tt ≡ multi_layer_vps b us
   unfolding multi_layer_vps
@@ -84,13 +77,7 @@ module _ (us : List (List ℕ)) where
   unfolding ptl_of_sets
   sps_with_ptl sps e = rw e
 
-  pub sps_missing : none ≡ first_element (having_type 15 us) → (refuse 17, zero_ptl) ≡ ptl_or_zeros (first_sps_ptl us)
-  sps_missing e = rw (← e)
-
   module _ (u : List ℕ) (e : some u ≡ first_element (having_type 15 us)) where
-    pub sps_found : (sps : SpsHead) → parse_sps u ≡ accept sps → first_sps_ptl us ≡ ptl_of_sets sps us
-    sps_found sps f = rw (← e, f)
-
     pub sps_refused : (n : ℕ) → parse_sps u ≡ refuse n → first_sps_ptl us ≡ refuse n
     sps_refused n f = rw (← e, f)
 

@@ -28,10 +28,6 @@ pub measured_as : (o : Outcome (List ℕ)) (n : ℕ) → accept n ≡ count_foun
 measured_as (accept bytes) n e = record { bytes = bytes; given = refl; long = cc }
 measured_as (refuse m) n e = absurd (let z : ◌≡◌ {A = ℕ} 0 1 = cc in omega arith)
 
-pub measured_refused : (o : Outcome (List ℕ)) (n : ℕ) → refuse n ≡ count_found o → o ≡ refuse n
-measured_refused (accept bytes) n e = absurd (let z : ◌≡◌ {A = ℕ} 0 1 = cc in omega arith)
-measured_refused (refuse m) n e = let z : m ≡ n = cc in ap refuse z
-
 -- stored bytes that restore: the item, and the output that has room for it
 module _ (c : CompactVvcConfig) (s out : List ℕ) (r : Restores c s out) where
   pub restores_lent : length s ≤ 2 ^ 30

@@ -18,7 +18,6 @@ use Rattle.boxes.specs.Parts.{held}
 use Rattle.boxes.specs.declared.Span.{Span}
 use Rattle.boxes.proofs.Walk.{total}
 use Rattle.boxes.proofs.Numbers.{length_to_be}
-use Rattle.boxes.proofs.Spans.{held_long}
 use Rattle.nal.specs.Header.{nal_header}
 use Rattle.split.specs.Item.{item_unit, item_units}
 use Rattle.split.specs.inner.Walk.{item_units_from}
@@ -46,12 +45,6 @@ still_stored stored out d e f size header h x y z =
 
 -- ### stripped
 
--- a unit with less than two bytes is not a still
-short_not : (u : List ℕ) → length u < 2 → is_still u ≡ false
-short_not [] h = refl
-short_not (x ∷ []) h = refl
-short_not (x ∷ y ∷ u) h = absurd (omega arith)
-
 -- a unit with a header, by the fields of the header
 module _ (x y : ℕ) (u : List ℕ) where
   layer_not : (x % 64 ≡ 0 → ⊥) → is_still (x ∷ y ∷ u) ≡ false
@@ -60,16 +53,10 @@ module _ (x y : ℕ) (u : List ℕ) where
   type_not : (y / 8 ≡ 8 → ⊥) → is_still (x ∷ y ∷ u) ≡ false
   type_not h = rw (ne_eqb (y / 8) 8 h)
 
-  temporal_not : (y % 8 ≡ 1 → ⊥) → is_still (x ∷ y ∷ u) ≡ false
-  temporal_not h = rw (ne_eqb (y % 8) 1 h, and-false (eqb (x % 64) 0)) (and-false (eqb (y / 8) 8))
-
   is_still_lem : x % 64 ≡ 0 → y / 8 ≡ 8 → y % 8 ≡ 1 → is_still (x ∷ y ∷ u) ≡ true
   is_still_lem h k l = rw (eq-eqb (x % 64) 0 h, eq-eqb (y / 8) 8 k, eq-eqb (y % 8) 1 l)
 
 module _ (item : List ℕ) (a : Span) (inside : a.start + a.len ≤ length item) where
-  pub one_short : a.len < 2 → refuse 24 ≡ only_still item (accept (a ∷ []))
-  one_short h = let l = held_long item a inside in rw (short_not (held item a) (omega arith))
-
   module _ (two : 2 ≤ a.len) where
     -- the header's two bytes, and what follows them
     held_header : held item a ≡ get_or item a.start 0 ∷ get_or item (a.start + 1) 0 ∷ held item (record { start = a.start + 2; len = a.len - 2 })
@@ -91,10 +78,6 @@ module _ (item : List ℕ) (a : Span) (inside : a.start + a.len ≤ length item)
     pub one_type : (get_or item (a.start + 1) 0 / 8 ≡ 8 → ⊥) → refuse 24 ≡ only_still item (accept (a ∷ []))
     one_type h =
         not_still (type_not (get_or item a.start 0) (get_or item (a.start + 1) 0) (held item (record { start = a.start + 2; len = a.len - 2 })) h)
-
-    pub one_temporal : (get_or item (a.start + 1) 0 % 8 ≡ 1 → ⊥) → refuse 24 ≡ only_still item (accept (a ∷ []))
-    one_temporal h = not_still
-        (temporal_not (get_or item a.start 0) (get_or item (a.start + 1) 0) (held item (record { start = a.start + 2; len = a.len - 2 })) h)
 
     pub one_still : get_or item a.start 0 % 64 ≡ 0 → get_or item (a.start + 1) 0 / 8 ≡ 8 → get_or item (a.start + 1) 0 % 8 ≡ 1
         → accept (held item (record { start = a.start + 2; len = a.len - 2 })) ≡ only_still item (accept (a ∷ []))

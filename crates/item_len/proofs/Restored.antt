@@ -7,7 +7,7 @@ use mathlib.Core.List.{List}
 use lib.ListN.{length}
 use borrow.Author.Tests.{le-leb, lt-leb, ne_eqb, le-ltb}
 use Rattle.parse.specs.Outcome.{accept, refuse}
-use Rattle.boxes.specs.Bytes.{to_chunk, outside}
+use Rattle.boxes.specs.Bytes.{to_chunk}
 use Rattle.boxes.specs.Walk.{count_found}
 use Rattle.boxes.proofs.ChunkBytes.{length_to_chunk}
 use Rattle.compact.specs.ItemData.{still_unit, prefixed, restore}
@@ -15,9 +15,6 @@ use Rattle.compact.specs.declared.CompactVvcConfig.{CompactVvcConfig}
 
 -- a unit after its length
 module _ (size : ℕ) (u : List ℕ) where
-  pub prefixed_outside : outside size ≡ true → prefixed size u ≡ refuse 4
-  prefixed_outside h = rw h
-
   module _ (one : 1 ≤ size) (four : size ≤ 4) where
     pub prefixed_long : 256 ^ size ≤ length u → prefixed size u ≡ refuse 6
     prefixed_long h = rw (ne_eqb size 0 (λ e. omega arith), le-ltb 4 size four, le-leb (256 ^ size) (length u) h)

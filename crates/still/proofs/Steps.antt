@@ -6,15 +6,13 @@ use mathlib.Core.Path.{◌≡◌, refl, sym, ap, ◌∙◌}
 use mathlib.Core.Bool.{true, false}
 use mathlib.Core.Option.{Option}
 use mathlib.Core.List.{List, [], ◌∷◌}
-use lib.Dec.{leb}
 use lib.ListN.{length}
-use borrow.Author.Tests.{le-leb, lt-leb, eq-eqb, ne_eqb}
+use borrow.Author.Tests.{le-leb, lt-leb, eq-eqb}
 use Rattle.parse.specs.Outcome.{Outcome, accept, refuse, and_then}
 use Rattle.parse.proofs.Lent.{lent_within}
 use Rattle.boxes.specs.Bytes.{to_chunk}
 use Rattle.boxes.specs.Walk.{count_found}
 use Rattle.boxes.specs.declared.Span.{Span}
-use Rattle.unit_list.specs.Answers.{list_units_of_type}
 use Rattle.split.specs.Item.{split_item}
 use Rattle.split.proofs.Items.{split_lent}
 use Rattle.split.proofs.ItemRoundTrip.{split_one, held_one}
@@ -26,34 +24,13 @@ use Rattle.full.specs.declared.VvcConfig.{VvcConfig}
 use Rattle.access_unit.specs.AccessUnit.{access_unit, assemble}
 use Rattle.access_unit.specs.declared.StartCodes.{StartCodes}
 use Rattle.access_unit.proofs.OneUnit.{one_assembled}
-use Rattle.still.specs.inner.Steps.{single, item_unless_refused, plain_stream, stream_expanded}
+use Rattle.still.specs.inner.Steps.{item_unless_refused, plain_stream, stream_expanded}
 use Rattle.still.proofs.Lists.{Ready}
 
--- the test of a count, by the answer of the call that counts
-pub single_counted : (o : Outcome (List Span)) (n : ℕ) → accept n ≡ count_found o → leb n 1 ≡ single o
-single_counted (accept us) n e = let z : n ≡ length us = cc in ap (λ (k : ℕ). leb k 1) z
-single_counted (refuse m) n e = let z : ◌≡◌ {A = ℕ} 0 1 = cc in absurd (omega arith)
-
-pub single_refused : (o : Outcome (List Span)) (n : ℕ) → refuse n ≡ count_found o → false ≡ single o
-single_refused (accept us) n e = let z : ◌≡◌ {A = ℕ} 0 1 = cc in absurd (omega arith)
-single_refused (refuse m) n e = refl
-
--- the refusals of full write, and the item if there is none
+-- full write refuses a prefix size of 3
 module _ (c : CompactVvcConfig) (list S : List ℕ) where
   pub size_refused : c.length_size ≡ 3 → refuse 3 ≡ count_found (item_unless_refused c list S)
   size_refused e = rw (eq-eqb c.length_size 3 e)
-
-  module _ (n : c.length_size ≡ 3 → ⊥) where
-    pub first_refused : false ≡ single (list_units_of_type 12 list) → refuse 22 ≡ count_found (item_unless_refused c list S)
-    first_refused e = rw (ne_eqb c.length_size 3 n, sym e)
-
-    module _ (one : true ≡ single (list_units_of_type 12 list)) where
-      pub last_refused : false ≡ single (list_units_of_type 13 list) → refuse 22 ≡ count_found (item_unless_refused c list S)
-      last_refused e = rw (ne_eqb c.length_size 3 n, sym one, sym e)
-
-      pub item_counted : true ≡ single (list_units_of_type 13 list) → (m : Outcome ℕ) → m ≡ count_found (restore c S)
-          → m ≡ count_found (item_unless_refused c list S)
-      item_counted e m f = rw (ne_eqb c.length_size 3 n, sym one, sym e) f
 
 -- the item of stored bytes where the flag is clear: one unit, 00 41 and the bytes
 abbrev chunk : CompactVvcConfig → List ℕ → List ℕ

@@ -1,5 +1,5 @@
 -- The stream of the units of a list and of the unit of the stored bytes, stored part by part.
-use Prim.Native.Nat.{ℕ, suc, ◌+◌, ◌≤◌}
+use Prim.Native.Nat.{ℕ, suc, ◌+◌}
 use native.Mathlib.Omega.{arith}
 use mathlib.Core.Path.{◌≡◌, ◌∙◌}
 use mathlib.Core.Option.{none}
@@ -15,11 +15,9 @@ use Rattle.access_unit.specs.AccessUnit.{code_of_type}
 use Rattle.access_unit.specs.inner.Gathered.{gather, coded, gathered_bytes}
 use Rattle.access_unit.specs.declared.StartCodes.{StartCodes}
 use Rattle.access_unit_sizes.specs.declared.sizes.Sizes.{Sizes}
-use Rattle.access_unit_annex_b.specs.inner.Stream.{PutsStream}
 use Rattle.access_unit_annex_b.proofs.Storing.{code_number}
-use Rattle.access_unit_annex_b.proofs.Putting.{puts_stream}
 use Rattle.still_plain.specs.inner.Plain.{Listed}
-use Rattle.still_plain.proofs.Streams.{known, front, front_found, front_long, stream_bytes}
+use Rattle.still_plain.proofs.Streams.{front, front_found, front_long, stream_bytes}
 
 -- start code, header and stored bytes make the unit in the stream
 pub picture_stored : (codes : StartCodes) (S out d e f g : List ℕ) (at n : ℕ) (header : List ℕ) → n ≡ length (code_bytes (code_of_type codes 8))
@@ -32,9 +30,6 @@ picture_stored codes S out d e f g at n header l h x y z w =
     w ∙ rw (b, z, a, y, x, h, l, code_number c) (sets_append out at (code_bytes c) (still_unit S))
 
 module _ (codes : StartCodes) (size : ℕ) (list : List ℕ) (v : Sizes) (k : Listed codes size list v) where
-  pub puts_front : (out : List ℕ) → v.len ≤ length out → PutsStream codes size none list [] v out
-  puts_front out h = puts_stream codes size none list [] v out (known codes size list v k) h
-
   pub stream_stored : (S out d e : List ℕ) → d ≡ sets out 0 (gathered_bytes codes list [] (gather size none list []))
       → e ≡ sets d v.len (coded codes (still_unit S)) → e ≡ sets out 0 (stream_bytes codes size list v k S)
   stream_stored S out d e x y =

@@ -1,5 +1,5 @@
 -- The stream of the units of a list and of the unit of the stored bytes, measured without an item.
-use Prim.Native.Nat.{ℕ, ◌+◌, ◌^◌, ◌≤◌, ◌<◌}
+use Prim.Native.Nat.{ℕ, ◌+◌, ◌^◌, ◌≤◌}
 use native.Mathlib.Omega.{arith}
 use mathlib.Core.Path.{◌≡◌, sym, ap, ◌∙◌, subst}
 use mathlib.Core.Option.{none}
@@ -7,10 +7,9 @@ use mathlib.Core.List.{List, [], ◌++◌, map, append-nil}
 use lib.ListN.{length, length-append, length-map}
 use borrow.Author.Tests.{ne_eqb, le-ltb}
 use Rattle.error.specs.Refusals.{number_of}
-use Rattle.error.specs.declared.Refusal.{Refusal}
 use Rattle.parse.specs.Outcome.{Outcome, accept, refuse, and_then}
 use Rattle.parse.specs.Parse.{many, many_up_to}
-use Rattle.parse.proofs.Lent.{lent_too_long, lent_within}
+use Rattle.parse.proofs.Lent.{lent_within}
 use Rattle.boxes.specs.Bytes.{to_chunk}
 use Rattle.boxes.specs.Parts.{held}
 use Rattle.boxes.specs.Walk.{count_found}
@@ -60,12 +59,8 @@ module _ (codes : StartCodes) (size : ℕ) (list : List ℕ) (p : Plain size lis
       let z : ◌≡◌ {A = ℕ} 0 1 = cc in
       omega arith
 
--- an item of n bytes that is too long is 23
+-- an item of n bytes that is not too long: the stream is that of the units measured
 module _ (codes : StartCodes) (size : ℕ) (list S : List ℕ) (n : ℕ) (long : ItemLong size S n) where
-  pub plain_too_long : 2 ^ 30 < n → plain_stream codes size list S ≡ refuse 23
-  plain_too_long h = lent_too_long (to_chunk size (still_unit S)) _ (omega arith)
-
-  -- else the stream is that of the units measured
   pub plain_measured : Plain size list → n ≤ 2 ^ 30 → (r : SizesAnswer)
       → sizes_answer_of r ≡ and_then (gather size none list []) (λ g. accept (sizes_of codes list [] g)) → PlainSizes codes size list S r
   plain_measured p h (M.Sized v) e = (listed_at codes size list p v e, lent_within (to_chunk size (still_unit S)) _ (omega arith))
@@ -75,9 +70,6 @@ module _ (codes : StartCodes) (size : ℕ) (list S : List ℕ) (n : ℕ) (long :
 module _ (codes : StartCodes) (size : ℕ) (list S : List ℕ) (r : SizesAnswer) (f : PlainSizes codes size list S r) where
   pub sized_listed : (v : Sizes) → r ≡ M.Sized v → Listed codes size list v × (plain_stream codes size list S ≡ units_stream codes list S)
   sized_listed v e = subst (PlainSizes codes size list S) e f
-
-  pub sized_refused : (x : Refusal) → r ≡ M.Refused x → plain_stream codes size list S ≡ refuse (number_of x)
-  sized_refused x e = subst (PlainSizes codes size list S) e f
 
 module _ (codes : StartCodes) (size : ℕ) (list : List ℕ) (v : Sizes) (k : Listed codes size list v) where
   pub known : Known codes size none list [] v

@@ -1,4 +1,4 @@
-// Internal: what filling and the questions share: the number in a count, and a read of one entry, which is proved by hand.
+// Internal: what filling and the questions share: the number in a count, and a read of one entry.
 ghost use Rattle.std.specs.Prelude.{◌≡◌, ◌<◌, length, get_or};
 ghost use Rattle.parse.specs.Answers.{count_of};
 ghost use Rattle.directory.specs.inner.Entries.{no_entry, number_in};

@@ -1,5 +1,4 @@
-// Internal: reads the entries of a lent directory. What takes a directory is proved by hand; what is decided is decided in `question`, on plain
-// parameters.
+// Internal: reads the entries of a lent directory; what is decided is decided in `question`, on plain parameters.
 ghost use Rattle.std.specs.Prelude.{◌≡◌, ◌≤◌, length, take};
 ghost use Rattle.parse.specs.Answers.{count_of};
 ghost use Rattle.directory.specs.Directory.{asked_for};

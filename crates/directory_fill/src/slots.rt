@@ -1,5 +1,4 @@
-// Internal: stores the entries of a lent directory. What takes a directory is proved by hand; what is decided is decided in `entries`, on plain
-// parameters.
+// Internal: stores the entries of a lent directory; what is decided is decided in `entries`, on plain parameters.
 ghost use Rattle.std.specs.Prelude.{◌≡◌, ◌≤◌, length, take};
 ghost use Rattle.parse.specs.Outcome.{overlay};
 ghost use Rattle.directory_fill.specs.inner.Entries.{entries_in};

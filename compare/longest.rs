@@ -1,4 +1,4 @@
-//! Cases with an input of 2^30 bytes and of one more (refusal 23). `replay` has no memory but its stack, so it cannot hold them; the static library
+//! Cases with an input of 2^30 bytes and of one more (refusal 23). The buffers of `replay` are too short to hold them; the static library
 //! `replay_calls_c`, whose function answers for `replay`, is called with memory of this program instead.
 
 use crate::answers;

@@ -1,4 +1,4 @@
-//! Links the static library that bindings/build makes. If the sources of the original are available, the tests compare with them.
+//! Links the static library. If the sources of the original are available, the tests compare with them.
 use std::env;
 use std::fs;
 use std::path::PathBuf;
@@ -7,10 +7,13 @@ fn main() {
     println!("cargo:rerun-if-env-changed=VVCC_LIB_DIR");
     println!("cargo:rerun-if-env-changed=VVCC_ORIGINAL");
     let here = PathBuf::from(env::var("CARGO_MANIFEST_DIR").unwrap());
-    let lib = env::var("VVCC_LIB_DIR").map_or(here.join("../../target"), PathBuf::from);
-    println!("cargo:rerun-if-changed={}", lib.join("libvvcc.a").display());
+    let lib = env::var("VVCC_LIB_DIR").map_or(here.join("../../target/staticlib"), PathBuf::from);
+    println!(
+        "cargo:rerun-if-changed={}",
+        lib.join("libvvcc_c.a").display()
+    );
     println!("cargo:rustc-link-search=native={}", lib.display());
-    println!("cargo:rustc-link-lib=static=vvcc");
+    println!("cargo:rustc-link-lib=static=vvcc_c");
     if let Ok(original) = env::var("VVCC_ORIGINAL") {
         let original =
             fs::canonicalize(original).expect("VVCC_ORIGINAL names the folder with vvcc.rs");

@@ -1,5 +1,5 @@
 //! VVC stills: from compact records (ISO/IEC 23008-12 Amd 2, Annex L) and stored bytes to full records (ISO/IEC 14496-15) and Annex B streams
-//! (H.266). The work is done by a static library, libvvcc.a, whose functions are proved to return what their definitions say on any input.
+//! (H.266). The work is done by a static library, `vvcc_c`, whose functions are proved to return what their definitions say on any input.
 //! This crate passes slices to it and returns its answers as `Result`s.
 //!
 //! ```

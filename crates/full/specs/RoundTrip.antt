@@ -1,4 +1,4 @@
--- A full record read after it was written (SCOPE 3.9 and 3.10): the same arrays, and the same head but for what `head_read_lem` says. The claims are
+-- A full record read after it was written (SCOPE 3.9 and 3.10): the same arrays, and the same head but for what `head_read` says. The claims are
 -- `ReadAfterSerialize` and `ReadAfterSerialize01`.
 use Rattle.std.specs.Prelude.{ℕ, ◌^◌, ◌<◌, ◌≡◌, Bool, true, false, List, length, get_or}
 use Rattle.parse.specs.Outcome.{accept}

@@ -18,20 +18,20 @@ returns-then-unit-eq0 c =
 pub returns-then-ends_in_zero : goal.returns-then-ends_in_zero
 returns-then-ends_in_zero c =
     let u : List ℕ = c.args.unit.now in
-    let some : 0 < length u = omega (arith, c.if-unit-eq0.false) in
+    let some : 0 < length u = omega arith in
     let ends : ends_in_zero u ≡ true = sym c.ends_in_zero.ensures ∙ c.if-ends_in_zero.true in
     rw (unchecked_zero u some ends) (sym (lent_within u _ (omega arith)))
 
 pub returns-then-place-unit : goal.returns-then-place-unit
 returns-then-place-unit c =
     let u : List ℕ = c.args.unit.now in
-    let some : 0 < length u = omega (arith, c.if-unit-eq0.false) in
+    let some : 0 < length u = omega arith in
     let ends : ends_in_zero u ≡ false = sym c.ends_in_zero.ensures ∙ c.if-ends_in_zero.false in
     rw (unchecked_forbidden u some ends (omega arith)) (sym (lent_within u _ (omega arith)))
 
 pub returns : goal.returns
 returns c =
     let u : List ℕ = c.args.unit.now in
-    let some : 0 < length u = omega (arith, c.if-unit-eq0.false) in
+    let some : 0 < length u = omega arith in
     let ends : ends_in_zero u ≡ false = sym c.ends_in_zero.ensures ∙ c.if-ends_in_zero.false in
     rw (checked_whole u some ends (omega arith)) (sym (lent_within u _ (omega arith)))

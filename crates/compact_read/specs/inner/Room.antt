@@ -21,7 +21,7 @@ pub record RoomRead (s : List ℕ) (count room : ℕ) : Type 0 where
   pub read : record_units s count ≡ value units after
   pub end : length s ≤ after
   pub long : room ≡ length (units_in_list s units)
-  pub few : room ≤ 2 ^ 33
+  pub few : room ≤ 2 ^ 32
 
 -- what measuring a record says. Refusals: 23, 1, 7
 abbrev pub RoomSays : List ℕ → RecordRoom → Type 0

@@ -7,6 +7,7 @@ use Rattle.compact.specs.inner.Units.{record_units}
 use Rattle.compact.proofs.RecordRead.{parse_too_long, parse_empty, parse_short, parse_over}
 use Rattle.counted_units.specs.inner.Counted.{units_in_list, room_taken}
 use Rattle.counted_units.proofs.Repeated.{RoomFound, room_found, room_refused, RoomAt, room_short, room_at}
+use Rattle.compact_read.proofs.RecordUnits.{units_fit}
 use Rattle.compact_read.proofs.record_units.record_room.Goals as goal
 
 pub returns-then-record-gt-LARGEST_INPUT : goal.returns-then-record-gt-LARGEST_INPUT
@@ -40,3 +41,22 @@ returns-then-after-record c =
     let s = c.args.«record».now in
     let m = measured_at in
     parse_over s c.if-record-gt-LARGEST_INPUT.false (omega (arith, c.if-record-eq0.false)) _ (count_at) m.what _ m.read c.if-after-record.true
+
+pub returns : goal.returns
+returns c =
+    let s = c.args.«record».now in
+    let n = c.wide.result % 32 + 2 in
+    let r = room_at s 1 (room_taken units_in_list s 0 (record_units s n)) c.units_room.result c.units_room.ensures _ _ c.in-Room.is in
+    let m = room_found units_in_list s (record_units s n) c.in-Room.room c.in-Room.after r.read in
+    let f = (units_fit s n 1).at m.what c.in-Room.after m.read in
+    record {
+      lent = c.if-record-gt-LARGEST_INPUT.false;
+      some = omega (arith, c.if-record-eq0.false);
+      counted = ap (λ (b : ℕ). b % 32 + 2) (c.wide.ensures.0 ∙ c.byte-first.ensures);
+      units = m.what;
+      after = c.in-Room.after;
+      read = m.read;
+      end = c.if-after-record.false;
+      long = m.long;
+      few = omega (arith, f, m.long, r.inside, c.if-record-gt-LARGEST_INPUT.false);
+    }

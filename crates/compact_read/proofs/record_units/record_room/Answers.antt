@@ -24,7 +24,7 @@ returns-in_default c =
     ap (λ (b : ℕ). b % 32 + 2) (c.wide.ensures.0 ∙ c.byte-first.ensures) in
     let s = c.args.«record».now in
     let x = record_units s (c.wide.result % 32 + 2) in
-    parse_short s c.if-record-gt-LARGEST_INPUT.false (omega (arith, c.if-record-eq0.false)) _ (count_at) 1
+    parse_short s c.if-record-gt-LARGEST_INPUT.false (omega arith) _ (count_at) 1
     (room_refused units_in_list s x 1 (room_short s 1 (room_taken units_in_list s 0 x) c.units_room.result c.units_room.ensures c.in_default.is))
 
 pub returns-then-after-record : goal.returns-then-after-record
@@ -40,7 +40,7 @@ returns-then-after-record c =
     ap (λ (b : ℕ). b % 32 + 2) (c.wide.ensures.0 ∙ c.byte-first.ensures) in
     let s = c.args.«record».now in
     let m = measured_at in
-    parse_over s c.if-record-gt-LARGEST_INPUT.false (omega (arith, c.if-record-eq0.false)) _ (count_at) m.what _ m.read c.if-after-record.true
+    parse_over s c.if-record-gt-LARGEST_INPUT.false (omega arith) _ (count_at) m.what _ m.read c.if-after-record.true
 
 pub returns : goal.returns
 returns c =
@@ -51,7 +51,7 @@ returns c =
     let f = (units_fit s n 1).at m.what c.in-Room.after m.read in
     record {
       lent = c.if-record-gt-LARGEST_INPUT.false;
-      some = omega (arith, c.if-record-eq0.false);
+      some = omega arith;
       counted = ap (λ (b : ℕ). b % 32 + 2) (c.wide.ensures.0 ∙ c.byte-first.ensures);
       units = m.what;
       after = c.in-Room.after;

@@ -56,7 +56,7 @@ returns-then-complete-gt3 c =
     sym (chunk_whole a.c.width a.list.now a.c.end (length a.list.now) (omega arith) (omega (arith, c.if-list-from.false))
     c.of_array.result c.of_array.ensures.0 h) in
     let a = c.args in
-    (arrays_complete a.list.now a.c (left_at) _ (read_at c.if-list-end.false) c.if-complete-gt3.true, tt)
+    (arrays_complete a.list.now a.c (left_at) _ (read_at c.if-list-end.false) (omega arith), tt)
 
 pub returns-then-unit_type-gt-LARGEST_TYPE : goal.returns-then-unit_type-gt-LARGEST_TYPE
 returns-then-unit_type-gt-LARGEST_TYPE c =
@@ -70,7 +70,7 @@ returns-then-unit_type-gt-LARGEST_TYPE c =
     c.of_array.result c.of_array.ensures.0 h) in
     let a = c.args in (
       arrays_type a.list.now a.c (left_at) _ (read_at c.if-list-end.false)
-          (omega (arith, c.if-end-from.false)) c.if-complete-gt3.false c.if-unit_type-gt-LARGEST_TYPE.true,
+          (omega (arith, c.if-end-from.false)) (omega arith) c.if-unit_type-gt-LARGEST_TYPE.true,
       tt,
     )
 
@@ -86,5 +86,5 @@ returns c =
     c.of_array.result c.of_array.ensures.0 h) in
     let a = c.args in
     arrays_entered a.list.now a.c (left_at) _ (read_at c.if-list-end.false)
-    (omega (arith, c.if-end-from.false)) c.if-complete-gt3.false c.requires
+    (omega (arith, c.if-end-from.false)) (omega arith) c.requires
     (omega (arith, (two_to_four a.c.width c.requires.width).0)) c.if-unit_type-gt-LARGEST_TYPE.false

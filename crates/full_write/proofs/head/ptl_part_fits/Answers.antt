@@ -1,4 +1,5 @@
 -- `ptl_part_fits` makes the tests of the definition in its order.
+use native.Mathlib.Omega.{arith}
 use borrow.Author.Tests.{le-leb, lt-leb}
 use Rattle.full.specs.Write.{ptl_part_fits}
 use Rattle.full_write.proofs.head.ptl_part_fits.Goals as goal
@@ -30,7 +31,7 @@ returns-then-h-gt7-2 c =
       le-leb _ 511 c.if-h-gt511.false,
       le-leb _ 7 c.if-h-gt7.false,
       le-leb _ 3 c.if-h-gt3.false,
-      le-leb _ 3 c.if-h-gt3-2.false,
+      le-leb c.args.h.chroma_format_idc 3 (omega arith),
       lt-leb _ 7 c.if-h-gt7-2.true,
     )
 
@@ -41,7 +42,7 @@ returns c =
       le-leb _ 511 c.if-h-gt511.false,
       le-leb _ 7 c.if-h-gt7.false,
       le-leb _ 3 c.if-h-gt3.false,
-      le-leb _ 3 c.if-h-gt3-2.false,
+      le-leb c.args.h.chroma_format_idc 3 (omega arith),
       le-leb _ 7 c.if-h-gt7-2.false,
     )
     c.ptl_fits.ensures

@@ -15,13 +15,13 @@ returns-then-s-eq0 c =
 pub returns-then-s-ne1 : goal.returns-then-s-ne1
 returns-then-s-ne1 c =
     let s = c.args.s.now in
-    let h : 0 < length s = omega (arith, c.if-s-eq0.false) in
+    let h : 0 < length s = omega arith in
     c.refused-then-s-ne1.ensures ∙ ap (or_zeros zero_head) (sym (head_other s h c.if-s-ne1.true))
 
 pub returns-then-s-lt-HEAD_LEN : goal.returns-then-s-lt-HEAD_LEN
 returns-then-s-lt-HEAD_LEN c =
     let s = c.args.s.now in
-    let h : 0 < length s = omega (arith, c.if-s-eq0.false) in
+    let h : 0 < length s = omega arith in
     c.refused-then-s-lt-HEAD_LEN.ensures ∙ ap (or_zeros zero_head) (sym (head_short s c.if-s-ne1.false h c.if-s-lt-HEAD_LEN.true))
 
 pub returns : goal.returns

@@ -1,4 +1,5 @@
 -- `head_fits` makes the tests of the definition in its order.
+use native.Mathlib.Omega.{arith}
 use Prim.Native.Nat.{◌^◌}
 use borrow.Author.Tests.{le-leb, lt-leb, le-ltb, lt-ltb}
 use Rattle.hvcc.specs.Write.{hevc_head_fits}
@@ -25,7 +26,7 @@ returns-then-h-gt4095 c =
     simp (
       le-leb _ 3 c.if-h-gt3.false,
       le-leb _ 31 c.if-h-gt31.false,
-      lt-ltb _ (2 ^ 48) c.if-h-ge-CONSTRAINT_FLAGS_END.false,
+      lt-ltb c.args.h.general_constraint_indicator_flags (2 ^ 48) (omega arith),
       lt-leb _ 4095 c.if-h-gt4095.true,
     )
 
@@ -35,7 +36,7 @@ returns c =
     rw (
       le-leb _ 3 c.if-h-gt3.false,
       le-leb _ 31 c.if-h-gt31.false,
-      lt-ltb _ (2 ^ 48) c.if-h-ge-CONSTRAINT_FLAGS_END.false,
+      lt-ltb c.args.h.general_constraint_indicator_flags (2 ^ 48) (omega arith),
       le-leb _ 4095 c.if-h-gt4095.false,
     )
     c.formats_fit.ensures

@@ -30,12 +30,12 @@ returns-then-left-size-2 c =
     let a = c.args in
     let i : a.at < length a.item.now = omega (arith, c.if-left-eq0.false) in
     let n : c.number-len.result ≡ be a.item.now a.at a.size = c.number-len.ensures.0 in
-    sym (step_no_bytes a.size a.item.now a.at i (omega arith) (λ z. c.if-len-eq0.false (omega arith)) (omega arith))
+    sym (step_no_bytes a.size a.item.now a.at i (omega arith) (λ z. omega arith) (omega arith))
 
 pub returns : goal.returns
 returns c =
     let a = c.args in
     let i : a.at < length a.item.now = omega (arith, c.if-left-eq0.false) in
     let n : c.number-len.result ≡ be a.item.now a.at a.size = c.number-len.ensures.0 in
-    let z : be a.item.now a.at a.size ≡ 0 → ⊥ = λ z. c.if-len-eq0.false (omega arith) in
+    let z : be a.item.now a.at a.size ≡ 0 → ⊥ = λ z. omega arith in
     rw n (sym (step_there a.size a.item.now a.at i (omega arith) z (omega arith)))

@@ -14,11 +14,11 @@ returns-then-depth-gt8 c =
     depth_deep _ c.args.prior
     c.read_bits-r1.result c.read_bits-r1.ensures
     c.exp_golomb-r2.result (λ e. c.if-subpictures-eq1.false (c.number-subpictures.ensures ∙ e))
-    c.exp_golomb-r2.ensures (omega (arith, c.number-depth.ensures, c.if-depth-gt8.true))
+    c.exp_golomb-r2.ensures (omega (arith, c.number-depth.ensures))
 
 pub returns : goal.returns
 returns c =
     depth_fine _ c.args.prior
     c.read_bits-r1.result c.read_bits-r1.ensures
     c.exp_golomb-r2.result (λ e. c.if-subpictures-eq1.false (c.number-subpictures.ensures ∙ e))
-    c.exp_golomb-r2.ensures (omega (arith, c.number-depth.ensures, c.if-depth-gt8.false))
+    c.exp_golomb-r2.ensures (omega (arith, c.number-depth.ensures))

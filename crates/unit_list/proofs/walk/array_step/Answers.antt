@@ -70,7 +70,7 @@ returns-then-unit_type-gt-LARGEST_TYPE c =
     c.of_array.result c.of_array.ensures.0 h) in
     let a = c.args in (
       arrays_type a.list.now a.c (left_at) _ (read_at c.if-list-end.false)
-          (omega (arith, c.if-end-from.false)) (omega arith) c.if-unit_type-gt-LARGEST_TYPE.true,
+          (omega (arith, c.if-end-from.false)) (omega arith) (omega arith),
       tt,
     )
 
@@ -87,4 +87,4 @@ returns c =
     let a = c.args in
     arrays_entered a.list.now a.c (left_at) _ (read_at c.if-list-end.false)
     (omega (arith, c.if-end-from.false)) (omega arith) c.requires
-    (omega (arith, (two_to_four a.c.width c.requires.width).0)) c.if-unit_type-gt-LARGEST_TYPE.false
+    (omega (arith, (two_to_four a.c.width c.requires.width).0)) (omega arith)

@@ -16,10 +16,12 @@ struct Branch {
 fn defined(line: &str) -> Option<String> {
     let rest = line.strip_prefix("define ")?;
     let name = &rest[rest.find('@')? + 1..];
-    Some(match name.strip_prefix('"') {
-        Some(quoted) => quoted[..quoted.find('"')?].into(),
-        None => name[..name.find('(')?].into(),
-    })
+    let name = match name.strip_prefix('"') {
+        Some(quoted) => &quoted[..quoted.find('"')?],
+        None => &name[..name.find('(')?],
+    };
+    // A generic function's instance has a number behind its name, which depends on the types alone.
+    Some(name.split("::<#").next()?.into())
 }
 
 /// Whether a block does nothing but stop: a proved program never reaches it.

@@ -21,17 +21,10 @@ use Rattle.access_unit_sizes.specs.declared.sizes.Sizes.{Sizes}
 use Rattle.access_unit.proofs.Streams.{zero_small}
 use Rattle.access_unit.proofs.KeptUnits.{leads_and_follows, leading_take, following_drop}
 use Rattle.access_unit.proofs.KeptUnits.{leading_le}
-use Rattle.access_unit_sizes.proofs.Gathering.{From, gathered, Known}
+use Rattle.access_unit_sizes.proofs.Gathering.{From, gathered}
 use Rattle.access_unit.proofs.Order.{stream_parts}
 use Rattle.access_unit_annex_b.specs.inner.Stream.{first_units, PutsFirst, FirstPut, PutsStream}
 use Rattle.access_unit_annex_b.specs.declared.stream.Places.{Places}
-
--- the output has room for it
-pub puts_stream : (codes : StartCodes) (size : ℕ) (target : Option ℕ) (list item : List ℕ) (v : Sizes) (out : List ℕ)
-    → Known codes size target list item v → v.len ≤ length out → PutsStream codes size target list item v out
-puts_stream codes size target list item v out n h =
-    let l : v.len ≡ length (gathered_bytes codes list item (accept n.parts)) = ap (λ (w : Sizes). w.len) n.sized in
-    record { parts = n.parts; found = n.found; sized = n.sized; room = omega arith }
 
 -- its list has units
 pub puts_listable : (codes : StartCodes) (size : ℕ) (target : Option ℕ) (list item : List ℕ) (v : Sizes) (out : List ℕ)

@@ -45,16 +45,6 @@ pub read_after : {before : BitsRead} {v : ℕ} {q : BitPosition} (P : ℕ → Pa
     → parsed r ≡ bind (parsed before) (λ _ t. P t)
 read_after P r e h = h ∙ sym (ap (λ y. bind (parsed y) (λ _ t. P t)) e)
 
--- bits passed over, which have no number, after an answer that is a value
-pub passed_after : {before : BitsRead} {v : ℕ} {q : BitPosition} (P : ℕ → Parsed (Unit {0})) (r : BitsRead) → before ≡ Value v q
-    → parsed r ≡ bind (P q.0) (λ _ t. value 0 t)
-    → part_after r tt ≡ bind (parsed before) (λ _ t. P t)
-passed_after {q = q} P r e h = ap (λ y. bind y (λ _ t. value tt t)) h ∙ go (P q.0) ∙ sym (ap (λ y. bind (parsed y) (λ _ t. P t)) e)
-  where
-    go : (x : Parsed (Unit {0})) → bind {A = ℕ} (bind x (λ _ t. value 0 t)) (λ _ t. value tt t) ≡ x
-    go (value a t) = refl
-    go (refused n) = refl
-
 -- the chain goes on after the first read's answer, with its number
 pub bind_number : {B : Type 0} {x : Parsed ℕ} (r : BitsRead) (f : ℕ → ℕ → Parsed B) → parsed r ≡ x
     → bind x f ≡ bind (parsed r) (λ _ q. f (number_in r) q)

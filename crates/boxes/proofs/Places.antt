@@ -3,11 +3,8 @@ use Prim.Native.Nat.{ℕ, zero, suc, ◌-◌, ◌≤◌, ◌<◌}
 use mathlib.Core.Path.{◌≡◌, refl, sym, ap, ◌∙◌}
 use mathlib.Core.List.{List, [], ◌∷◌, map}
 use mathlib.Core.Option.{Option, none, some}
-use mathlib.Core.Logic.{⊎_elim}
 use native.Mathlib.Omega.{arith}
 use lib.ListN.{length, get_or}
-use types.Run.{OneOf}
-use denote.Enum.Declared.{tag_of}
 use Rattle.parse.specs.Outcome.{Outcome, accept, refuse}
 use Rattle.boxes.specs.Parts.{nowhere}
 use Rattle.boxes.specs.Walk.{count_found, found}
@@ -16,7 +13,6 @@ use Rattle.boxes.specs.inner.Places.{lying, span_in_first}
 use Rattle.boxes.specs.declared.Span.{Span}
 use Rattle.boxes.specs.declared.UnitPlace.{UnitPlace}
 use Rattle.boxes.specs.declared.UnitPlace.TheVariants as U
-use Rattle.boxes.specs.contracts.UnitPlace.{the_type}
 
 -- element k, d where there is none
 abbrev pub found_or : {A : Type 0} → A → Outcome (List A) → ℕ → A
@@ -46,11 +42,6 @@ module _ {A : Type 0} (lies : A → Place) where
   unfolding nth
   nth_next x xs zero z = absurd (z refl)
   nth_next x xs (suc k) z = let l : suc k - 1 ≡ k = omega arith in rw l
-
-  -- the answer, by the count
-  pub place_refused : (o : Outcome (List A)) (k n : ℕ) → count_found o ≡ refuse n → refuse n ≡ place_found lies o k
-  place_refused (accept xs) k n e = let z : ◌≡◌ {A = ℕ} 0 1 = cc in absurd (omega arith)
-  place_refused (refuse m) k n e = let z : n ≡ m = cc in ap refuse z
 
   pub place_past : (o : Outcome (List A)) (k n : ℕ) → count_found o ≡ accept n → n ≤ k → accept none ≡ place_found lies o k
   place_past (accept xs) k n e h = let l : length xs ≡ n = cc in ap accept (nth_past xs k (omega arith))
@@ -82,13 +73,6 @@ found_lies (refuse e) k = refl
 
 pub place_found_lem : (r : UnitPlace) (o : Outcome (List Span)) (k : ℕ) → place_of r ≡ place_found in_first o k → span_in_first (lying (place_of r)) ≡ found o k
 place_found_lem r o k e = ap (λ (x : Outcome (Option Place)). span_in_first (lying x)) e ∙ found_lies o k
-
--- where no unit lies in the first slice
-pub not_first : (r : UnitPlace) → OneOf (1 ∷ 2 ∷ 3 ∷ []) (tag_of the_type r) → nowhere ≡ span_in_first (lying (place_of r))
-not_first (U.First a) k = absurd (⊎_elim (λ h. omega arith) (⊎_elim (λ h. omega arith) (λ h. omega arith)) k)
-not_first (U.Second a) k = refl
-not_first U.Past k = refl
-not_first (U.Refused e) k = refl
 
 -- a place in one slice is one in two
 pub fits_more : (s t : List ℕ) (r : UnitPlace) → PlaceFits s [] r → PlaceFits s t r

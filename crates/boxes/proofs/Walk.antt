@@ -38,10 +38,6 @@ module _ {A : Type 0} where
   total_more a (accept xs) = omega arith
   total_more a (refuse e) = omega arith
 
-  pub total_count : (o : Outcome (List A)) (n : ℕ) → count_found o ≡ accept n → total o ≡ n
-  total_count (accept xs) n e = cc
-  total_count (refuse k) n e = let z : ◌≡◌ {A = ℕ} 0 1 = cc in absurd (omega arith)
-
 pub found_here : (a : Span) (o : Outcome (List Span)) → 0 < total (more a o) → found (more a o) 0 ≡ a
 found_here a (accept xs) h = refl
 found_here a (refuse e) h = absurd (omega arith)

@@ -11,7 +11,7 @@ use Rattle.parse.specs.Outcome.{Outcome, accept}
 use Rattle.parse.specs.inner.Walk.{more}
 use Rattle.parse.specs.inner.Stores.{bytes_of, Puts}
 use Rattle.parse.proofs.Many.{times_nil, times_step, times_bad}
-use Rattle.parse.proofs.Stores.{Putting, putting_start, putting_never, putting_end, putting_room, putting_again}
+use Rattle.parse.proofs.Stores.{Putting, putting_never, putting_end, putting_room, putting_again}
 use Rattle.parse.proofs.Binds.{outcome_more}
 use Rattle.counted_units.specs.inner.Counted.{list_room_of, RoomFits, room_taken, place_after, StoredAt}
 use Rattle.counted_units.specs.declared.ListRoom.{ListRoom}
@@ -101,9 +101,6 @@ module _ {A : Type 0} (P : Parser A) (f : List ℕ → A → List ℕ) (F : List
   pub record Storing (out₀ : List ℕ) (start : ℕ) (x₀ : Parsed (List A)) (n p : ℕ) (out : List ℕ) (to : ℕ) : Type 0 where
     pub putting : Putting (F s) out₀ start (outcome x₀) (outcome (times n P s p)) out to
     pub place : place_after (times n P s p) ≡ place_after x₀
-
-  pub storing_start : (n p : ℕ) (out : List ℕ) (to : ℕ) → Puts (F s) (outcome (times n P s p)) out to → Storing out to (times n P s p) n p out to
-  storing_start n p out to h = record { putting = putting_start (F s) out to (outcome (times n P s p)) h; place = refl }
 
   module _ (out₀ : List ℕ) (start : ℕ) (x₀ : Parsed (List A)) (n p : ℕ) (out : List ℕ) (to : ℕ) (i : Storing out₀ start x₀ n p out to) where
     pub storing_done : n ≤ 0 → StoredAt F s x₀ out₀ start out (record { from = p; to = to })

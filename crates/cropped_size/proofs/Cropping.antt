@@ -1,24 +1,10 @@
 -- Laws of the size inside the conformance window, step by step.
 use mathlib.Core.Path.{◌≡◌}
 use mathlib.Core.Bool.{true, false}
-use Prim.Native.Nat.{ℕ, ◌+◌, ◌*◌, ◌-◌, ◌^◌, ◌≤◌, ◌<◌}
-use native.Mathlib.Nat.{mul-le-mul}
-use native.Mathlib.Omega.{arith}
+use Prim.Native.Nat.{ℕ}
 use Rattle.sps.specs.declared.SpsHead.{SpsHead}
-use Rattle.cropped_size.specs.Cropped.{clamp32, sub_width, sub_height, cropped_side, cropped_size}
+use Rattle.cropped_size.specs.Cropped.{sub_width, sub_height, cropped_side, cropped_size}
 use Rattle.cropped_size.specs.declared.PictureSize.{PictureSize}
-
--- the product of two numbers of 32 bits fits 64
-pub product_fits : (a b : ℕ) → a < 2 ^ 32 → b < 2 ^ 32 → a * b < 2 ^ 64
-product_fits a b h k = omega (arith, mul-le-mul {n₁ = a} {m₁ = b} {n₂ = 2 ^ 32 - 1} {m₂ = 2 ^ 32 - 1} (omega arith) (omega arith))
-
--- what is cut is the whole side, or less
-module _ (side unit a b t cut : ℕ) (h : t ≡ clamp32 (a + b)) (k : cut ≡ clamp32 (unit * t)) where
-  pub side_gone : side ≤ cut → 1 ≡ cropped_side side unit a b
-  side_gone l = rw (← h, ← k) (omega arith)
-
-  pub side_left : cut < side → side - cut ≡ cropped_side side unit a b
-  side_left l = rw (← h, ← k) (omega arith)
 
 module _ (h : SpsHead) where
   pub size_itself : h.conformance_window_flag ≡ false → record { width = h.pic_width; height = h.pic_height } ≡ cropped_size h

@@ -1,10 +1,9 @@
 -- Laws of a walk over the units of a list that reads: a step to the next unit, and the end.
-use Prim.Native.Nat.{ℕ, ◌-◌, ◌≤◌, ◌<◌}
+use Prim.Native.Nat.{ℕ, ◌≤◌}
 use mathlib.Core.Path.{◌≡◌, refl, sym, ap, ◌∙◌, subst}
 use mathlib.Core.List.{List, [], ◌∷◌, map}
 use mathlib.Core.Logic.{⊎_elim}
 use native.Mathlib.Omega.{arith}
-use lib.ListN.{length}
 use Rattle.parse.specs.Outcome.{Outcome, accept, refuse}
 use Rattle.parse.specs.inner.Walk.{more}
 use Rattle.boxes.specs.Parts.{held}
@@ -63,7 +62,3 @@ module _ (s : List ℕ) (here : ListCursor) (r : UnitStep) (f : Steps s here r) 
 
   pub ended : r ≡ U.End → units_at s here ≡ []
   ended e = subst (Steps s here) e f
-
--- every step decreases the distance to the end
-pub nearer : (s : List ℕ) (c : ListCursor) (a : Span) (t : ℕ) (d : ListCursor) → UnitStepped s c a t d → length s - d.at < length s - c.at
-nearer s c a t d u = let f = u.readable.fits in omega (arith, u.turn.ahead, f.before, f.within)

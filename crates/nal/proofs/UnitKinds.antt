@@ -6,16 +6,14 @@ use mathlib.Core.Bool.{Bool, true, false}
 use mathlib.Core.List.{[], ◌∷◌}
 use native.Mathlib.Omega.{arith}
 use native.Mathlib.Decide.{dec_le}
-use denote.Enum.Declared.{tag_of}
 use lib.Dec.{leb, eqb}
 use types.Run.{OneOf}
 use borrow.Author.Tests.{le-leb, lt-leb, leb-true, leb-false, ne_eqb}
 use Rattle.std.specs.Prelude.{if◌then◌else◌}
-use Rattle.nal.specs.Kinds.{is_record_type, unit_kind, is_picture_data, is_record, is_aud, is_record_of}
+use Rattle.nal.specs.Kinds.{is_record_type, unit_kind, is_aud, is_record_of}
 use Rattle.nal.specs.inner.Kinds.{is_picture_data_of}
 use Rattle.nal.specs.declared.UnitKind.{UnitKind}
 use Rattle.nal.specs.declared.UnitKind.TheVariants.{PictureData, Record, Aud, Other}
-use Rattle.nal.specs.contracts.UnitKind.{the_type}
 
 -- ### by the type
 
@@ -35,18 +33,6 @@ kind_other t h g f = rw (lt-leb t 11 (omega arith), le-leb 12 t (omega arith), l
 
 none_of : (a b c x : ℕ) → (x ≡ a → ⊥) → (x ≡ b → ⊥) → (x ≡ c → ⊥) → OneOf (a ∷ b ∷ c ∷ []) x → ⊥
 none_of a b c x f g h o = ⊎_elim f (λ (p : OneOf (b ∷ c ∷ []) x). ⊎_elim g h p) o
-
-pub not_picture : (t : ℕ) (k : UnitKind) → OneOf (1 ∷ 2 ∷ 3 ∷ []) (tag_of the_type k) → (is_picture_data k ≡ false) × (is_picture_data_of t k ≡ false)
-not_picture t (PictureData x) o = absurd (none_of 1 2 3 0 (λ e. omega arith) (λ e. omega arith) (λ e. omega arith) o)
-not_picture t (Record x) o = (refl, refl)
-not_picture t Aud o = (refl, refl)
-not_picture t Other o = (refl, refl)
-
-pub not_record : (t : ℕ) (k : UnitKind) → OneOf (0 ∷ 2 ∷ 3 ∷ []) (tag_of the_type k) → (is_record k ≡ false) × (is_record_of t k ≡ false)
-not_record t (PictureData x) o = (refl, refl)
-not_record t (Record x) o = absurd (none_of 0 2 3 1 (λ e. omega arith) (λ e. omega arith) (λ e. omega arith) o)
-not_record t Aud o = (refl, refl)
-not_record t Other o = (refl, refl)
 
 -- ### a kind of a type is told by the type
 

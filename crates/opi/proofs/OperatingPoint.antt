@@ -4,7 +4,7 @@ use mathlib.Core.Bool.{Bool, true, false}
 use mathlib.Core.List.{List}
 use mathlib.Core.Option.{Option, none, some}
 use Prim.Native.Nat.{ℕ}
-use borrow.Author.Tests.{eq-eqb, ne_eqb}
+use borrow.Author.Tests.{eq-eqb}
 use denote.Ref.{Bor}
 use Rattle.error.specs.declared.Refusal.{Refusal}
 use Rattle.std.specs.Prelude.{if◌then◌else◌}
@@ -26,17 +26,8 @@ module _ (x y z : BitsRead) where
   abbrev said : Option ℕ
   said = where_read (point_of (parsed x) (parsed y) (parsed z))
 
-  pub no_flag : (e : Refusal) → x ≡ Refused e → said ≡ none
-  no_flag e h = rw h
-
   module _ (b : ℕ) (q : BitPosition) (h : x ≡ Value b q) where
-    pub no_second : (e : Refusal) → y ≡ Refused e → said ≡ none
-    no_second e k = rw (h, k)
-
     module _ (v : ℕ) (t : BitPosition) (k : y ≡ Value v t) where
-      pub unset : (b ≡ 1 → ⊥) → said ≡ none
-      unset n = rw (h, k, ne_eqb b 1 n)
-
       pub no_code : (e : Refusal) → b ≡ 1 → z ≡ Refused e → said ≡ none
       no_code e n l = rw (h, k, eq-eqb b 1 n, l)
 

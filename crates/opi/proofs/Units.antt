@@ -5,8 +5,8 @@ use mathlib.Core.Option.{none}
 use Prim.Native.Nat.{ℕ, ◌-◌, ◌^◌, ◌≤◌, ◌<◌}
 use native.Mathlib.Omega.{arith}
 use lib.ListN.{length, take, drop, drop_of_length-le}
-use borrow.Author.Tests.{le-leb, lt-leb}
-use Rattle.parse.specs.Outcome.{accept, refuse}
+use borrow.Author.Tests.{le-leb}
+use Rattle.parse.specs.Outcome.{accept}
 use Rattle.rbsp.specs.Rbsp.{unescape, rbsp}
 use Rattle.bit_reader.specs.Bits.{u}
 use Rattle.params.proofs.Units.{after_header}
@@ -15,9 +15,6 @@ use Rattle.opi.specs.Answers.{ols_idx_given}
 
 -- without its header a unit has none
 module _ (unit : List ℕ) where
-  pub opi_long : 2 ^ 30 < length unit → refuse 23 ≡ ols_idx_given unit
-  opi_long h = rw (lt-leb (length unit) (2 ^ 30) h)
-
   pub opi_short : length unit < 2 → accept none ≡ ols_idx_given unit
   unfolding opi_ols_idx opi_point unescape u
   opi_short h = rw (le-leb (length unit) (2 ^ 30) (omega arith), drop_of_length-le unit {i = 2} (omega arith))

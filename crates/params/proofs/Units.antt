@@ -1,7 +1,7 @@
 -- A parameter set read from its unit: the tests before its bits.
 use mathlib.Core.Path.{◌≡◌, refl}
 use mathlib.Core.Bool.{Bool, true, false}
-use mathlib.Core.List.{List, [], ◌∷◌}
+use mathlib.Core.List.{List}
 use Prim.Native.Nat.{ℕ, ◌-◌, ◌^◌, ◌≤◌, ◌<◌}
 use native.Mathlib.Omega.{arith}
 use lib.Dec.{leb, eqb}
@@ -15,12 +15,6 @@ use Rattle.nal.specs.Header.{type_or31}
 use Rattle.rbsp.specs.Rbsp.{rbsp}
 use Rattle.params.specs.OfUnit.{of_unit}
 use Rattle.params.specs.inner.Answers.{read_or}
-
--- a unit of a type below 31 has its header
-pub unit_header : (unit : List ℕ) (t : ℕ) → type_or31 unit ≡ t → t < 31 → 2 ≤ length unit
-unit_header [] t e h = absurd (omega arith)
-unit_header (a ∷ []) t e h = absurd (omega arith)
-unit_header (a ∷ b ∷ r) t e h = omega arith
 
 -- what follows the header, as a part of the unit
 pub after_header : (unit : List ℕ) → take (length unit - 2) (drop 2 unit) ≡ drop 2 unit

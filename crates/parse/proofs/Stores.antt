@@ -14,10 +14,6 @@ use Rattle.parse.proofs.General.{sets_append}
 pub put_room : {A : Type 0} (f : A → List ℕ) (o : Outcome A) (out : List ℕ) (to : ℕ) → Puts f o out to → to + length (bytes_of f o) ≤ length out
 put_room f o out to h = rw h.found h.room
 
--- what is to be put has room in any output of that length
-pub puts_on : {A : Type 0} (f : A → List ℕ) (o : Outcome A) (out d : List ℕ) (to : ℕ) → Puts f o out to → length d ≡ length out → Puts f o d to
-puts_on f o out d to h e = record { it = h.it; found = h.found; room = omega (arith, h.room) }
-
 pub puts_found : {A : Type 0} (f : A → List ℕ) (o : Outcome A) (out : List ℕ) (to : ℕ) (a : A) → o ≡ accept a
     → to + length (f a) ≤ length out → Puts f o out to
 puts_found f o out to a e h = record { it = a; found = e; room = h }
@@ -29,9 +25,6 @@ module _ {A : Type 0} (f : List A → List ℕ) (out₀ : List ℕ) (to₀ : ℕ
     pub same : length out ≡ length out₀
     pub place : to + length (bytes_of f o) ≡ to₀ + length (bytes_of f o₀)
     pub whole : sets out to (bytes_of f o) ≡ sets out₀ to₀ (bytes_of f o₀)
-
-  pub putting_start : Puts f o₀ out₀ to₀ → Putting o₀ out₀ to₀
-  putting_start h = record { puts = h; same = refl; place = refl; whole = refl }
 
   module _ (o : Outcome (List A)) (out : List ℕ) (to : ℕ) (i : Putting o out to) where
     pub putting_never : (n : ℕ) → o ≡ refuse n → ⊥

@@ -2,7 +2,6 @@
 use mathlib.Core.Path.{◌≡◌, refl, ap, sym, ◌∙◌}
 use mathlib.Core.List.{List, [], ◌∷◌, ◌++◌, append-nil}
 use Prim.Native.Nat.{ℕ, suc, ◌+◌, ◌-◌, ◌≤◌, ◌<◌}
-use native.Mathlib.Nat.{sub-zero}
 use native.Mathlib.Numerals.{add-one}
 use native.Mathlib.Omega.{arith}
 use lib.ListN.{length, take, drop, set, replicate, length-set, take-append-drop}
@@ -30,14 +29,6 @@ pub record Going (P : Parser ℕ) (s : List ℕ) (n : ℕ) (prior : BitsRead) (v
 bind_value : (x : Parsed (List ℕ)) → x ≡ bind x (λ rest t. value rest t)
 bind_value (value a q) = refl
 bind_value (refused e) = refl
-
-pub going_start : (P : Parser ℕ) (s : List ℕ) (n : ℕ) (prior : BitsRead) → Going P s n prior (replicate 255 0) prior 0
-going_start P s n prior = record {
-  within = omega arith;
-  long = refl;
-  done = rw (sub-zero n) (same_first (parsed prior) _ _ (λ _ q. bind_value (times n P s q)));
-  clear = refl;
-}
 
 regroup : (x : Parsed (List ℕ)) (l l' : List ℕ) (v : ℕ) → l' ≡ l ++ (v ∷ [])
     → bind (bind x (λ rest t. value (v ∷ rest) t)) (λ rest t. value (l ++ rest) t) ≡ bind x (λ rest t. value (l' ++ rest) t)

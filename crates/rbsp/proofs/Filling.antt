@@ -1,11 +1,11 @@
 -- Laws of the RBSP written to the front of an output, whole or as far as there is room.
-use mathlib.Core.Path.{◌≡◌, refl, ap, sym, ◌∙◌}
+use mathlib.Core.Path.{◌≡◌, ap, sym, ◌∙◌}
 use mathlib.Core.Bool.{true, false}
-use mathlib.Core.List.{List, ◌∷◌, ◌++◌, append-nil}
+use mathlib.Core.List.{List, ◌++◌, append-nil}
 use Prim.Native.Nat.{ℕ, ◌+◌, ◌≤◌, ◌<◌, ◌^◌}
 use native.Mathlib.Numerals.{add-one}
 use native.Mathlib.Omega.{arith}
-use lib.ListN.{length, get_or, take, drop, set, length-append, length-take, length-set, take-append-drop, drop_of_length-le}
+use lib.ListN.{length, get_or, take, drop, set, length-take, length-set, take-append-drop}
 use lib.Seq.{take-suc-set, drop-set-lt, drop-drop, take_all, length-take-le, take_at, append_snoc}
 use borrow.Author.Tests.{le-leb, lt-leb}
 use Rattle.parse.specs.Outcome.{accept, refuse, overlay}
@@ -21,9 +21,6 @@ pub record Filled (p o₀ o : List ℕ) (z n i : ℕ) : Type 0 where
   pub long : length o ≡ length o₀
   pub done : rbsp p ≡ take n o ++ unescape z (drop i p)
   pub kept : drop n o ≡ drop n o₀
-
-pub fill_start : (p o : List ℕ) → Filled p o o 0 0 0
-fill_start p o = record { within = omega arith; few = omega arith; room = omega arith; long = refl; done = refl; kept = refl }
 
 -- one more element is cut
 drop_more : (o o₀ : List ℕ) (n : ℕ) → drop n o ≡ drop n o₀ → drop (n + 1) o ≡ drop (n + 1) o₀
@@ -67,18 +64,6 @@ fill_end p o₀ o z n i f h =
       stands = rw (front_fits (rbsp p) o₀ (omega arith), long, all) (rw (← f.kept) (sym (take-append-drop n o)));
     }
 
--- the output is full
-pub fill_full : (p o₀ o : List ℕ) (z n i : ℕ) → Filled p o₀ o z n i → i < length p → drops z (get_or p i 0) ≡ false → n ≡ length o
-    → Front (rbsp p) o₀ o n
-fill_full p o₀ o z n i f h d e =
-    let X = get_or p i 0 ∷ unescape (next_zeros z (get_or p i 0)) (drop (i + 1) p) in
-    let more : rbsp p ≡ o ++ X = f.done ∙ ap (λ (l : List ℕ). take n o ++ l) (step_kept z i p h d)
-    ∙ ap (λ (l : List ℕ). l ++ X) (take_all n o (omega arith)) in
-    record {
-      count = omega (arith, ap length more ∙ length-append o X);
-      stands = rw (more, take_at o X (length o₀) f.long, drop_of_length-le o₀ {i = length o} (omega arith)) (sym (append-nil o));
-    }
-
 -- The three answers of the extraction.
 module _ (p o : List ℕ) where
   pub extract_long : 2 ^ 30 < length p → (refuse 23, o) ≡ extract_rbsp p o
@@ -101,6 +86,3 @@ pub front_part : (bytes o₀ o : List ℕ) (k n : ℕ) → length o₀ ≡ k →
 front_part bytes o₀ o k n e f =
     let h : length (take (length o₀) bytes) ≡ n = omega (arith, length-take (length o₀) bytes, f.count) in
     rw (f.stands, take_at (take (length o₀) bytes) (drop (length (take (length o₀) bytes)) o₀) n h, e)
-
-pub front_count : (bytes o₀ o : List ℕ) (n : ℕ) → Front bytes o₀ o n → length (take n o) ≡ n
-front_count bytes o₀ o n f = rw (front_part bytes o₀ o (length o₀) n refl f) (omega (arith, length-take (length o₀) bytes, f.count))

@@ -7,8 +7,8 @@ use lib.ListN.{length, length-append}
 use lib.Seq.{sets}
 use Rattle.parse.specs.Outcome.{Outcome, accept, refuse}
 use Rattle.parse.specs.inner.Walk.{more}
-use Rattle.parse.specs.inner.Stores.{bytes_of, Puts}
-use Rattle.parse.proofs.Stores.{Putting, putting_start, putting_never, putting_end, putting_room, putting_again}
+use Rattle.parse.specs.inner.Stores.{bytes_of}
+use Rattle.parse.proofs.Stores.{Putting, putting_never, putting_end, putting_room, putting_again}
 use Rattle.boxes.specs.Bytes.{to_chunk}
 use Rattle.boxes.specs.Parts.{held}
 use Rattle.boxes.specs.declared.Span.{Span}
@@ -39,9 +39,6 @@ abbrev pub Copying : ℕ → List ℕ → List ℕ → ℕ → Outcome (List Spa
 Copying w s out₀ to₀ o₀ o out to = Putting (unit_bytes w s) out₀ to₀ o₀ o out to
 
 module _ (w : ℕ) (s out₀ : List ℕ) (to₀ : ℕ) (o₀ : Outcome (List Span)) where
-  pub copying_start : Puts (unit_bytes w s) o₀ out₀ to₀ → Copying w s out₀ to₀ o₀ o₀ out₀ to₀
-  copying_start h = putting_start (unit_bytes w s) out₀ to₀ o₀ h
-
   module _ (o : Outcome (List Span)) (out : List ℕ) (to : ℕ) (i : Copying w s out₀ to₀ o₀ o out to) where
     pub copying_never : (n : ℕ) → o ≡ refuse n → ⊥
     copying_never n e = putting_never (unit_bytes w s) out₀ to₀ o₀ o out to i n e

@@ -56,15 +56,9 @@ module _ (list : List ℕ) (here : ListCursor) (r : ListStep) (said : (stepped l
   pub typed_end : r ≡ L.End → typed_units_from list here ≡ accept []
   typed_end e = sym said.0 ∙ ap (stepped list) e
 
-  pub typed_malformed : r ≡ L.Malformed → typed_units_from list here ≡ refuse 21
-  typed_malformed e = sym said.0 ∙ ap (stepped list) e
-
   pub list_end : r ≡ L.End → units_left list here ≡ accept []
   unfolding unit_spans
   list_end e = ap untyped (typed_end e)
-
-  pub list_malformed : r ≡ L.Malformed → units_left list here ≡ refuse 21
-  list_malformed e = ap untyped (typed_malformed e)
 
 -- a step that found no unit
 module _ (list : List ℕ) (here : ListCursor) where

@@ -6,9 +6,8 @@ use Prim.Native.Nat.{ℕ, ◌*◌, ◌^◌, ◌≤◌}
 use native.Mathlib.Omega.{arith}
 use lib.Dec.{eqb}
 use lib.ListN.{length}
-use borrow.Author.Tests.{eq-eqb, ne_eqb}
+use borrow.Author.Tests.{ne_eqb}
 use denote.Ref.{Bor}
-use Rattle.error.specs.declared.Refusal.{Refusal}
 use Rattle.std.specs.Prelude.{if◌then◌else◌}
 use Rattle.parse.specs.Parse.{Parsed, value, refused, bind, Parser, refuse_if}
 use Rattle.bit_reader.specs.Bits.{u, skip, align}
@@ -16,7 +15,7 @@ use Rattle.bit_reader.specs.inner.Answers.{parsed}
 use Rattle.bit_reader.specs.inner.Reader.{skipping, reader_place_after, Stepped, AlignedFrom}
 use Rattle.bit_reader.specs.declared.BitPosition.{BitPosition}
 use Rattle.bit_reader.specs.declared.BitsRead.{BitsRead}
-use Rattle.bit_reader.specs.declared.BitsRead.TheVariants.{Value, Refused}
+use Rattle.bit_reader.specs.declared.BitsRead.TheVariants.{Value}
 use Rattle.bit_reader.specs.declared.reader.BitReader.{BitReader}
 use Rattle.bit_reader.specs.declared.reader.ReaderStep.{ReaderStep}
 use Rattle.bit_reader.proofs.Numbers.{u_read, skip_read}
@@ -31,12 +30,6 @@ module _ (x₁ x₂ x₃ x₄ : BitsRead) (start i : ℕ) (p₁ : BitPosition) (
 
   pub several : (n ≡ 0 → ⊥) → refused 15 ≡ said
   several ne = rw (h₁, h₂, h₃, ne_eqb n 0 ne)
-
-  pub no_layer : (e : Refusal) → n ≡ 0 → x₄ ≡ Refused e → parsed x₄ ≡ said
-  no_layer e z h = rw (h₁, h₂, h₃, eq-eqb n 0 z, h)
-
-  pub in_front : (l : ℕ) (p₄ : BitPosition) → n ≡ 0 → x₄ ≡ Value l p₄ → value m start ≡ said
-  in_front l p₄ z h = rw (h₁, h₂, h₃, eq-eqb n 0 z, h)
 
 -- ---- the definition as four reads and the alignment, each from where the one before it left the reader
 module _ (s : List ℕ) where

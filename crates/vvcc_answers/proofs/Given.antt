@@ -2,25 +2,13 @@
 use Prim.Native.Nat.{ℕ}
 use mathlib.Core.Path.{◌≡◌, ap, ◌∙◌}
 use mathlib.Core.List.{List}
-use mathlib.Core.Option.{Option, none, some}
-use borrow.Author.Tests.{eq-eqb, ne_eqb}
+use mathlib.Core.Option.{Option}
+use borrow.Author.Tests.{ne_eqb}
 use Rattle.parse.specs.Outcome.{Outcome, refuse, lent_output, counted}
 use Rattle.access_unit.specs.declared.StartCodes.{StartCodes}
-use Rattle.access_unit.specs.declared.StartCodes.TheVariants.{Four, Short}
-use Rattle.vvcc_answers.specs.Answers.{written_answer, written_given, target_from, codes_from}
+use Rattle.access_unit.specs.declared.StartCodes.TheVariants.{Short}
+use Rattle.vvcc_answers.specs.Answers.{written_answer, written_given, codes_from}
 use Rattle.vvcc_answers.specs.declared.VvccWritten.{VvccWritten}
-
-pub written_number : {n e : ℕ} → n ≡ e → ◌≡◌ {A = VvccWritten} (record { refusal = n; len = 0 }) (written_answer (refuse e))
-written_number h = rw h
-
-pub no_target : (h t : ℕ) → h ≡ 0 → none ≡ target_from h t
-no_target h t e = rw (eq-eqb h 0 e)
-
-pub some_target : (h t : ℕ) → (h ≡ 0 → ⊥) → some t ≡ target_from h t
-some_target h t e = rw (ne_eqb h 0 e)
-
-pub four_codes : (n : ℕ) → n ≡ 0 → Four ≡ codes_from n
-four_codes n e = rw (eq-eqb n 0 e)
 
 pub short_codes : (n : ℕ) → (n ≡ 0 → ⊥) → Short ≡ codes_from n
 short_codes n e = rw (ne_eqb n 0 e)

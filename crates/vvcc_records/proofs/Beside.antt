@@ -23,11 +23,10 @@ use Rattle.full_read.specs.declared.FullAnswer.TheVariants as A
 use Rattle.full_read.specs.declared.FullRead.{FullRead}
 use Rattle.access_unit.specs.AccessUnit.{assemble}
 use Rattle.access_unit.specs.declared.StartCodes.{StartCodes}
-use Rattle.vvcc_answers.specs.Answers.{written_answer, written_given, read_answer}
-use Rattle.vvcc_answers.specs.declared.VvccRead.{VvccRead}
+use Rattle.vvcc_answers.specs.Answers.{written_answer, written_given}
 use Rattle.vvcc_answers.specs.declared.VvccWritten.{VvccWritten}
 use Rattle.vvcc_answers.proofs.Given.{given_refused, given_choice}
-use Rattle.vvcc_records.specs.Records.{read_given, read_beside, scratch_filled, stream_beside}
+use Rattle.vvcc_records.specs.Records.{read_beside, scratch_filled, stream_beside}
 
 -- ### a result of bytes in lent memory, and a call that continues with it
 
@@ -56,22 +55,9 @@ onward_refused (refuse m) scratch f n e = let s : n ≡ m = cc in rw s
 
 -- ### the record read
 
-pub read_number : {n e : ℕ} → n ≡ e → ◌≡◌ {A = VvccRead} (record { refusal = n; consumed = 0 }) (read_answer (refuse e))
-read_number h = rw h
-
 hands_first : {A B : Type 0} (f : A → B) (z : B) (o : Outcome A) → (hands_back f z o).0 ≡ o
 hands_first f z (accept a) = refl
 hands_first f z (refuse e) = refl
-
--- a record that was read, without its head
-pub given_read : (o : Outcome (FullParsed × List ℕ)) (scratch exit : List ℕ) (f : FullRead) (r : VvccRead) → r ≡ read_answer (full_of f).0
-    → ◌≡◌ {A = (Outcome FullParsed × VvcConfig) × List ℕ} (full_of f, exit)
-    (hands_back (λ x. x.head) zero_head (lent_output o scratch).0, (lent_output o scratch).1)
-    → (r, exit) ≡ read_given o scratch
-given_read o scratch exit f r g e =
-    ap (λ (x : VvccRead). (x, exit)) g
-    ∙ ap (λ (y : (Outcome FullParsed × VvcConfig) × List ℕ). (read_answer y.0.0, y.1)) e
-    ∙ ap (λ (x : Outcome FullParsed). (read_answer x, (lent_output o scratch).1)) (hands_first (λ x. x.head) zero_head (lent_output o scratch).0)
 
 module _ (codes : StartCodes) (rec item scratch : List ℕ) (tols : Option ℕ) where
   -- the item is too long

@@ -8,7 +8,12 @@ use Rattle.rbsp.proofs.fill.fill_rbsp.Goals.{else-not-is_dropped, then-not-is_dr
 pub loop-i-preserved : goal.loop-i-preserved
 loop-i-preserved c =
     let d = c.is_dropped.ensures in
-    (elim c.if-not-is_dropped.branch [ then-not-is_dropped+else-n-out w ↦ rw (w.out-is, w.n-is) (fill_kept _ _ _ _ _ _ _ c.loop-i.invariant (omega arith) c.next_zeros-zeros.ensures (sym d ∙ w.if-not-is_dropped.true) (omega arith)) | else-not-is_dropped w ↦ rw (w.out-is, w.n-is) (fill_dropped _ _ _ _ _ _ _ c.loop-i.invariant (omega arith) c.next_zeros-zeros.ensures (sym d ∙ w.if-not-is_dropped.false)) ])
+    elim c.if-not-is_dropped.branch [
+      | then-not-is_dropped+else-n-out w ↦ rw (w.out-is, w.n-is) (fill_kept _ _ _ _ _ _ _ c.loop-i.invariant (omega arith) c.next_zeros-zeros.ensures
+          (sym d ∙ w.if-not-is_dropped.true) (omega arith))
+      | else-not-is_dropped w ↦ rw (w.out-is, w.n-is) (fill_dropped _ _ _ _ _ _ _ c.loop-i.invariant (omega arith) c.next_zeros-zeros.ensures
+          (sym d ∙ w.if-not-is_dropped.false))
+    ]
 
 pub returns : goal.returns
 returns c =

@@ -5,8 +5,9 @@
 //
 // RECORD has at most 65,536 bytes, STORED at most 1,048,576, INPUT at most 65,536. A refusal is printed to standard output as its number,
 // alone on a line, and to standard error in words; the file OUT is then neither created nor changed. Whatever else fails is reported on
-// standard error: a file that cannot be opened, read or written in full, one that is too long, a wrong number of arguments. The exit status
-// is 0 all the same; it is 1 only if there is no memory for the buffers.
+// standard error: a file that cannot be opened, read or written in full, one that is too long, a name that is not UTF-8, a wrong number of
+// arguments; but not what the system tells only as a file is closed. The exit status is 0 all the same; it is 1 only if there is no memory for
+// the buffers.
 #![tactic(auto)]
 
 use access_unit::{StartCodes, Target};

@@ -2,7 +2,7 @@
 use Prim.Native.Nat.{ℕ, ◌+◌}
 use mathlib.Core.Path.{◌≡◌, sym, ap, ◌∙◌, subst}
 use mathlib.Core.List.{List, map}
-use mathlib.Core.Option.{Option}
+use Rattle.std.specs.Prelude.{Option}
 use native.Mathlib.Omega.{arith}
 use lib.ListN.{length}
 use Rattle.parse.specs.Outcome.{accept}
@@ -10,7 +10,8 @@ use Rattle.annex_b.specs.Stream.{four, annex_b}
 use Rattle.annex_b.specs.RoundTrip.{SplitsInto, threes}
 use Rattle.annex_b.proofs.RoundTrip.{splits_back, same_units, counts_what_is_written, no_threes, shorter}
 use Rattle.full.specs.declared.VvcConfig.{VvcConfig}
-use Rattle.access_unit.specs.AccessUnit.{Source, access_unit, held_in, code_of, assemble}
+use Rattle.access_unit.specs.declared.Source.{Source}
+use Rattle.access_unit.specs.AccessUnit.{access_unit, held_in, code_of, assemble}
 use Rattle.access_unit.specs.Streams.{Assembly, AssemblySplits, AssemblySame, AssemblyCounts, FourCounts, ShortIsShorter}
 use Rattle.access_unit.specs.declared.StartCodes.{StartCodes}
 use Rattle.access_unit.specs.declared.StartCodes.TheVariants.{Four, Short}

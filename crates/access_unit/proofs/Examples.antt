@@ -2,7 +2,7 @@
 use Prim.Native.Nat.{ℕ, ◌+◌, ◌*◌}
 use mathlib.Core.Path.{◌≡◌, refl}
 use mathlib.Core.List.{List, [], ◌∷◌, ◌++◌}
-use mathlib.Core.Option.{none}
+use Rattle.std.specs.Prelude.{None}
 use native.Mathlib.Omega.{arith}
 use lib.ListN.{length}
 use Rattle.parse.specs.Outcome.{accept}
@@ -53,7 +53,7 @@ short =
 made : Assembly Short short units
 unfolding many many_up_to be uint bytes chunk inside unit_kind array_rest array unit_list decode units_of item_unit item_units split_item annex_b keeps may_lead
     leading following kept arranged access_unit assemble
-made = record { head = plain_head 1; list = list; item = item; tols = none; sources = _; found = refl; given = refl; held = refl }
+made = record { head = plain_head 1; list = list; item = item; tols = None; sources = _; found = refl; given = refl; held = refl }
 
 -- it splits into its units, of which three have three bytes
 recovered : SplitsInto short units
@@ -70,7 +70,7 @@ unfolding threes lengths
 counted = assembly_counts Short short units made
 
 -- with four bytes throughout
-made_four : assemble Four (plain_head 1) list item none ≡ accept (annex_b (λ k. code_of Four 0) units)
+made_four : assemble Four (plain_head 1) list item None ≡ accept (annex_b (λ k. code_of Four 0) units)
 unfolding many many_up_to be uint bytes chunk inside unit_kind array_rest array unit_list decode units_of item_unit item_units split_item annex_b keeps may_lead
     leading following kept arranged access_unit assemble
 made_four = refl

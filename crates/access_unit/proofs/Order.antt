@@ -3,13 +3,12 @@ use Prim.Native.Nat.{ℕ, ◌+◌, ◌^◌}
 use mathlib.Core.Path.{◌≡◌, refl, sym, ap, ◌∙◌}
 use mathlib.Core.Bool.{Bool, true, false}
 use mathlib.Core.List.{List, [], ◌∷◌, ◌++◌, map, map-append}
-use mathlib.Core.Option.{Option}
 use native.Mathlib.Omega.{arith}
 use native.Mathlib.Decide.{dec_le}
 use lib.Dec.{eqb}
 use lib.ListN.{length, length-append, length-map}
 use borrow.Author.Tests.{eq-eqb, ne_eqb, le-leb, lt-leb}
-use Rattle.std.specs.Prelude.{if◌then◌else◌}
+use Rattle.std.specs.Prelude.{if◌then◌else◌, Option}
 use Rattle.parse.specs.Outcome.{Outcome, accept, refuse, and_then}
 use Rattle.boxes.specs.Bytes.{to_be}
 use Rattle.boxes.specs.Parts.{held}
@@ -18,7 +17,9 @@ use Rattle.unit_list.specs.Answers.{list_units}
 use Rattle.split.specs.Item.{split_item}
 use Rattle.annex_b.specs.Stream.{annex_b}
 use Rattle.full.specs.declared.VvcConfig.{VvcConfig}
-use Rattle.access_unit.specs.AccessUnit.{target_of, leading, following, kept, Source, of_list, of_item}
+use Rattle.access_unit.specs.declared.Source.{Source}
+use Rattle.access_unit.specs.declared.Source.TheVariants.{OfList, OfItem}
+use Rattle.access_unit.specs.AccessUnit.{target_of, leading, following, kept}
 use Rattle.access_unit.specs.AccessUnit.{arranged, not_empty, access_unit, held_in, code_of, assemble}
 use Rattle.access_unit.specs.inner.Gathered.{Gathered, some_gathered, gather, in_order, sources, later_code, bytes_at, zero_byte_of}
 use Rattle.access_unit.specs.inner.Gathered.{gathered_units, gathered_bytes}
@@ -34,11 +35,11 @@ module _ (item : List ℕ) (g : Gathered) where
   order_length =
       let a = ap length (leads_and_follows item g.kept) in
       let b = length-append (leading item g.kept) (following item g.kept) in
-      let c = length-append (map of_item (leading item g.kept)) (map of_list g.units ++ map of_item (following item g.kept)) in
-      let d = length-append (map of_list g.units) (map of_item (following item g.kept)) in
-      let x = length-map (leading item g.kept) of_item in
-      let y = length-map g.units of_list in
-      let z = length-map (following item g.kept) of_item in
+      let c = length-append (map OfItem (leading item g.kept)) (map OfList g.units ++ map OfItem (following item g.kept)) in
+      let d = length-append (map OfList g.units) (map OfItem (following item g.kept)) in
+      let x = length-map (leading item g.kept) OfItem in
+      let y = length-map g.units OfList in
+      let z = length-map (following item g.kept) OfItem in
       omega arith
 
 not_empty_lem : (n : ℕ) (us : List Source) → length us ≡ n → not_empty us ≡ (if eqb n 0 then refuse 19 else accept us)
@@ -92,11 +93,11 @@ assemble_gathered codes h list item tols =
 -- ### the stream
 
 module _ (list item : List ℕ) where
-  pub held_list : (us : List Span) → map (held_in list item) (map of_list us) ≡ map (held list) us
+  pub held_list : (us : List Span) → map (held_in list item) (map OfList us) ≡ map (held list) us
   held_list [] = refl
   held_list (a ∷ us) = ap (λ (l : List (List ℕ)). held list a ∷ l) (held_list us)
 
-  pub held_item : (us : List Span) → map (held_in list item) (map of_item us) ≡ map (held item) us
+  pub held_item : (us : List Span) → map (held_in list item) (map OfItem us) ≡ map (held item) us
   held_item [] = refl
   held_item (a ∷ us) = ap (λ (l : List (List ℕ)). held item a ∷ l) (held_item us)
 
@@ -105,8 +106,8 @@ module _ (list item : List ℕ) where
       ≡ map (held item) (leading item g.kept) ++ (map (held list) g.units ++ map (held item) (following item g.kept))
   unfolding in_order
   units_parts g = rw (
-    map-append (held_in list item) (map of_item (leading item g.kept)) (map of_list g.units ++ map of_item (following item g.kept)),
-    map-append (held_in list item) (map of_list g.units) (map of_item (following item g.kept)),
+    map-append (held_in list item) (map OfItem (leading item g.kept)) (map OfList g.units ++ map OfItem (following item g.kept)),
+    map-append (held_in list item) (map OfList g.units) (map OfItem (following item g.kept)),
     held_item (leading item g.kept),
     held_list g.units,
     held_item (following item g.kept),

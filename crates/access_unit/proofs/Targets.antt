@@ -3,13 +3,14 @@ use Prim.Native.Nat.{ℕ, ◌^◌, ◌≤◌, ◌<◌}
 use mathlib.Core.Path.{◌≡◌, refl, sym, ap, ◌∙◌}
 use mathlib.Core.Bool.{Bool, true, false, ◌||◌}
 use mathlib.Core.List.{List}
-use mathlib.Core.Option.{Option, none, some}
 use native.Mathlib.Omega.{arith}
 use native.Mathlib.Decide.{dec_le}
 use lib.Dec.{eqb}
 use lib.ListN.{length}
 use borrow.Author.Tests.{lt-leb}
-use Rattle.std.specs.Prelude.{if◌then◌else◌}
+use Rattle.std.specs.Prelude.{if◌then◌else◌, Option, None, Some, Result, Ok, Err}
+use Rattle.error.specs.declared.Refusal.{Refusal}
+use Rattle.parse.specs.Answers.{answer_of}
 use Rattle.parse.specs.Outcome.{accept}
 use Rattle.parse.proofs.Lent.{lent_within}
 use Rattle.nal.specs.Header.{type_or31}
@@ -18,9 +19,7 @@ use Rattle.nal.specs.declared.UnitKind.{UnitKind}
 use Rattle.nal.specs.declared.UnitKind.TheVariants.{PictureData, Record, Aud, Other}
 use Rattle.nal.proofs.UnitKinds.{kind_picture}
 use Rattle.opi.specs.Opi.{opi_ols_idx}
-use Rattle.opi.specs.Answers.{ols_idx_of, ols_idx_given}
-use Rattle.opi.specs.declared.OlsIdx.{OlsIdx}
-use Rattle.opi.specs.declared.OlsIdx.TheVariants as O
+use Rattle.opi.specs.Answers.{ols_idx_given}
 use Rattle.access_unit.specs.AccessUnit.{agrees, is_opi, keeps, leading_kind, may_lead}
 use Rattle.access_unit.specs.inner.Gathered.{saved}
 use Rattle.access_unit.proofs.Streams.{one_below}
@@ -69,26 +68,30 @@ module _ (u : List ℕ) (t : ℕ) (is : t ≡ type_or31 u) (picture : is_picture
   picture_saved = sym (one_below (type_or31 u) below)
 
 module _ (target : Option ℕ) (u : List ℕ) (opi : is_opi u ≡ true) where
-  module _ (lent : length u ≤ 2 ^ 30) (r : OlsIdx) (said : ols_idx_of r ≡ ols_idx_given u) where
+  module _ (lent : length u ≤ 2 ^ 30) (r : Result (Option ℕ) Refusal) (said : answer_of r ≡ ols_idx_given u) where
     keeps_opi : agrees target (opi_ols_idx u) ≡ keeps target u
     unfolding keeps
     keeps_opi = rw opi
 
-    given : ols_idx_of r ≡ accept (opi_ols_idx u)
+    given : answer_of r ≡ accept (opi_ols_idx u)
     given = said ∙ lent_within u (accept (opi_ols_idx u)) lent
 
-    pub keeps_present : (v : ℕ) → r ≡ O.Present v → agrees target (some v) ≡ keeps target u
+    pub keeps_present : (v : ℕ) → r ≡ Ok (Some v) → agrees target (Some v) ≡ keeps target u
     keeps_present v e =
-        let w : accept (some v) ≡ accept (opi_ols_idx u) = ap ols_idx_of (sym e) ∙ given in
-        let x : some v ≡ opi_ols_idx u = cc in
+        let w : accept (Some v) ≡ accept (opi_ols_idx u) = ap answer_of (sym e) ∙ given in
+        let x : Some v ≡ opi_ols_idx u = cc in
         ap (agrees target) x ∙ keeps_opi
 
-    pub keeps_absent : r ≡ O.Absent → true ≡ keeps target u
-    keeps_absent e =
-        let w : accept none ≡ accept (opi_ols_idx u) = ap ols_idx_of (sym e) ∙ given in
-        let x : none ≡ opi_ols_idx u = cc in
-        any target ∙ ap (agrees target) x ∙ keeps_opi
-      where
-        any : (o : Option ℕ) → true ≡ agrees o none
-        any none = refl
-        any (some t) = refl
+  pub keeps_absent : length u ≤ 2 ^ 30 → (r : Result (Option ℕ) Refusal) → answer_of r ≡ ols_idx_given u
+      → ((v : ℕ) → r ≡ Ok (Some v) → ⊥) → true ≡ keeps target u
+  keeps_absent lent (Err e) said k =
+      absurd (let w = given lent (Err e) said in let z : ◌≡◌ {A = ℕ} 0 1 = cc in omega arith)
+  keeps_absent lent (Ok (Some v)) said k = absurd (k v refl)
+  keeps_absent lent (Ok None) said k =
+      let w = given lent (Ok None) said in
+      let x : None ≡ opi_ols_idx u = cc in
+      any target ∙ ap (agrees target) x ∙ keeps_opi lent (Ok None) said
+    where
+      any : (o : Option ℕ) → true ≡ agrees o None
+      any None = refl
+      any (Some t) = refl

@@ -1,6 +1,5 @@
 -- The access unit of a still (SCOPE 3.12; ISO/IEC 23008-12 L.2.2.2 and L.2.2.1.2; ISO/IEC 14496-15:2024 11.2.4.2, note 4).
-use Rattle.std.specs.Prelude.{ℕ, zero, suc, Bool, true, ◌&&◌, ◌||◌, List, [], ◌∷◌, ◌++◌, map, leb, eqb, if◌then◌else◌}
-use Rattle.std.proofs.Math.Option.{Option, none, some}
+use Rattle.std.specs.Prelude.{ℕ, zero, suc, Bool, true, ◌&&◌, ◌||◌, List, [], ◌∷◌, ◌++◌, map, leb, eqb, if◌then◌else◌, Option, None, Some}
 use Rattle.parse.specs.Outcome.{Outcome, accept, refuse, lent_input}
 use Rattle.parse.specs.Steps.{◌>>=◌}
 use Rattle.boxes.specs.Parts.{held}
@@ -13,19 +12,21 @@ use Rattle.opi.specs.Opi.{opi_ols_idx}
 use Rattle.split.specs.Item.{split_item}
 use Rattle.annex_b.specs.Stream.{StartCode, three, four, annex_b}
 use Rattle.full.specs.declared.VvcConfig.{VvcConfig}
+use Rattle.access_unit.specs.declared.Source.{Source}
+use Rattle.access_unit.specs.declared.Source.TheVariants.{OfList, OfItem}
 use Rattle.access_unit.specs.declared.StartCodes.{StartCodes}
 use Rattle.access_unit.specs.declared.StartCodes.TheVariants.{Four, Short}
 
 -- the target: the caller's; if there is none, the head's operating point where its PTL flag is set; else none
 abbrev pub target_of : VvcConfig → Option ℕ → Option ℕ
-target_of h (some t) = some t
-target_of h none = if h.ptl_present_flag then some h.ols_idx else none
+target_of h (Some t) = Some t
+target_of h None = if h.ptl_present_flag then Some h.ols_idx else None
 
 -- a target and an operating point agree unless both are there and differ
 abbrev pub agrees : Option ℕ → Option ℕ → Bool
-agrees none o = true
-agrees (some t) none = true
-agrees (some t) (some o) = eqb t o
+agrees None o = true
+agrees (Some t) None = true
+agrees (Some t) (Some o) = eqb t o
 
 -- an OPI unit (type 12)
 abbrev pub is_opi : List ℕ → Bool
@@ -59,17 +60,12 @@ module _ (item : List ℕ) where
   kept target [] = []
   kept target (a ∷ r) = if keeps target (held item a) then a ∷ kept target r else kept target r
 
--- a unit of the access unit: its span in the list or in the item
-pub data Source : Type 0 where
-  of_list : Span → Source
-  of_item : Span → Source
-
 -- the order: leading units of the item, units of the list, remaining units of the item; dropped ones are left out (SCOPE 3.12)
 unfoldable pub arranged : List ℕ → Option ℕ → List Span → List Span → List Source
 arranged item target units split =
-    map of_item (kept item target (leading item split))
-    ++ (map of_list units
-    ++ map of_item (kept item target (following item split)))
+    map OfItem (kept item target (leading item split))
+    ++ (map OfList units
+    ++ map OfItem (kept item target (following item split)))
 
 -- 19 for an access unit without units
 abbrev pub not_empty : List Source → Outcome (List Source)
@@ -85,8 +81,8 @@ access_unit h list item tols = lent_input item do
 
 -- the bytes of a unit
 abbrev pub held_in : List ℕ → List ℕ → Source → List ℕ
-held_in list item (of_list a) = held list a
-held_in list item (of_item a) = held item a
+held_in list item (OfList a) = held list a
+held_in list item (OfItem a) = held item a
 
 -- the start code of a unit other than the first, by the type in its header: with short codes four bytes for types 12 to 18 (OPI, DCI, the parameter
 -- sets and APS), three for the others, among them a unit of one byte, which has no type (H.266 B.2.2, zero_byte)

@@ -1,11 +1,11 @@
 -- What the stream of an access unit says of its units, under either choice of start codes (SCOPE 3.12). The claims are `AssemblySplits`,
 -- `AssemblySame`, `AssemblyCounts`, `FourCounts` and `ShortIsShorter`.
-use Rattle.std.specs.Prelude.{ℕ, ◌+◌, ◌*◌, ◌^◌, ◌≤◌, ◌≡◌, List, map, length}
-use Rattle.std.proofs.Math.Option.{Option}
+use Rattle.std.specs.Prelude.{ℕ, ◌+◌, ◌*◌, ◌^◌, ◌≤◌, ◌≡◌, List, map, length, Option}
 use Rattle.parse.specs.Outcome.{accept, refuse}
 use Rattle.annex_b.specs.RoundTrip.{AllSplittable, SplitsInto, threes, lengths}
 use Rattle.full.specs.declared.VvcConfig.{VvcConfig}
-use Rattle.access_unit.specs.AccessUnit.{Source, access_unit, held_in, code_of, assemble}
+use Rattle.access_unit.specs.declared.Source.{Source}
+use Rattle.access_unit.specs.AccessUnit.{access_unit, held_in, code_of, assemble}
 use Rattle.access_unit.specs.declared.StartCodes.{StartCodes}
 use Rattle.access_unit.specs.declared.StartCodes.TheVariants.{Four, Short}
 

@@ -4,18 +4,16 @@ ghost use Rattle.std.proofs.lemmas.List.Edits.{sets};
 ghost use Rattle.parse.specs.inner.Stores.{bytes_of, Puts};
 ghost use Rattle.boxes.specs.Bytes.{to_be};
 ghost use Rattle.boxes.specs.Parts.{held};
-ghost use Rattle.unit_list.specs.inner.Walk.{Fits};
-ghost use Rattle.unit_list.specs.inner.Walk.{units_left};
-ghost use Rattle.access_unit.specs.Answers.{tols_of};
+ghost use Rattle.unit_list.specs.inner.Walks.{left_of};
 ghost use Rattle.access_unit.specs.inner.Gathered.{gather, gathered_bytes, bytes_at, coded};
 ghost use Rattle.access_unit_annex_b.specs.inner.Stream.{PutsFirst, FirstPut, PutsStream};
 
 use access_unit::lengths::{FOUR_BYTES, THREE_BYTES};
-use access_unit::{StartCodes, Target, kept, lengths};
+use access_unit::{StartCodes, kept, lengths};
 use access_unit_sizes::sizes::Sizes;
 use boxes::{Span, place};
-use split::{NextUnit, walk as items};
-use unit_list::{ListCursor, ListStart, ListStep, walk};
+use split::walk as items;
+use unit_list::ListWalk;
 
 // The places after the units that were stored: in the item and in the output.
 #[derive(Clone, Copy)]
@@ -54,48 +52,47 @@ fn put_unit(src: &[u8], a: Span, codes: StartCodes, out: &mut [u8], at: usize) -
 fn put_kept(
     item: &[u8],
     size: usize,
-    target: Target,
+    target: Option<u16>,
     codes: StartCodes,
     from: usize,
     n: usize,
     out: &mut [u8],
     to: usize,
 ) -> Places
-    requires { PutsFirst codes size (tols_of target) item.now from n out.old to }
-    ensures { FirstPut codes size (tols_of target) item.now from n out.old to result out.new }
+    requires { PutsFirst codes size target item.now from n out.old to }
+    ensures { FirstPut codes size target item.now from n out.old to result out.new }
 {
     let mut at = from;
     let mut end = to;
     let mut left = n;
+    // No `for`: units that are not kept do not count.
     while 0 < left {
-        let step = items::item_step(item, size, at);
-        let NextUnit::Unit(a, next) = step else {
+        let Some(step) = items::item_step(item, size, at).unwrap_or(None) else {
             return Places { item: at, out: end };
         };
-        if kept::kept_at(item, a, target) {
-            end = put_unit(item, a, codes, out, end);
+        if kept::kept_at(item, step.unit, target) {
+            end = put_unit(item, step.unit, codes, out, end);
             left -= 1;
         }
-        at = next;
+        at = step.next;
     }
     Places { item: at, out: end }
 }
 
-// Stores the units of a list after a cursor, and returns the place after them.
-fn put_units(list: &[u8], c: ListCursor, codes: StartCodes, out: &mut [u8], to: usize) -> usize
-    requires { Fits list.now c × Puts (bytes_at codes list.now) (units_left list.now c) out.old to }
-    ensures { (result ≡ to + length (bytes_of (bytes_at codes list.now) (units_left list.now c)))
-        × (out.new ≡ sets out.old to (bytes_of (bytes_at codes list.now) (units_left list.now c))) }
+// Stores the units that are left of a walk, and returns the place after them.
+fn put_units(walk: ListWalk, codes: StartCodes, out: &mut [u8], to: usize) -> usize
+    requires { Puts (bytes_at codes walk.list.now) (left_of walk) out.old to }
+    ensures { (result ≡ to + length (bytes_of (bytes_at codes walk.entry.list.now) (left_of walk.entry)))
+        × (out.new ≡ sets out.old to (bytes_of (bytes_at codes walk.entry.list.now) (left_of walk.entry))) }
 {
-    let mut here = c;
+    let list = walk.list;
+    let mut walk = walk;
     let mut end = to;
-    loop {
-        let ListStep::Unit(a, next) = walk::step(list, here) else {
-            return end;
-        };
-        end = put_unit(list, a, codes, out, end);
-        here = next;
+    // No `for`: the walk's type does not know that its units were measured.
+    while let Some(unit) = walk.next_unit().unwrap_or(None) {
+        end = put_unit(list, unit, codes, out, end);
     }
+    end
 }
 
 // Stores the stream of an access unit that was measured: the zero byte of the first unit, leading units of the item, units of the list, remaining
@@ -104,19 +101,19 @@ pub fn put_stream(
     list: &[u8],
     item: &[u8],
     length_size: u8,
-    target: Target,
+    target: Option<u16>,
     codes: StartCodes,
     sizes: Sizes,
     out: &mut [u8],
 )
-    requires { PutsStream codes length_size (tols_of target) list.now item.now sizes out.old }
+    requires { PutsStream codes length_size target list.now item.now sizes out.old }
     ensures { out.new ≡ sets out.old 0 (gathered_bytes codes list.now item.now
-        (gather length_size (tols_of target) list.now item.now)) }
+        (gather length_size target list.now item.now)) }
 {
-    let ListStart::At(c) = walk::start(list) else {
+    let Ok(walk) = ListWalk::start(list) else {
         return;
     };
-    let size = place::wide(length_size);
+    let size = usize::from(length_size);
     place::put_number(out, 0, sizes.zero_byte, 0);
     let led = put_kept(
         item,
@@ -128,7 +125,7 @@ pub fn put_stream(
         out,
         sizes.zero_byte,
     );
-    let ends = put_units(list, c, codes, out, led.out);
+    let ends = put_units(walk, codes, out, led.out);
     let rest = sizes.kept - sizes.lead;
     put_kept(item, size, target, codes, led.item, rest, out, ends);
 }

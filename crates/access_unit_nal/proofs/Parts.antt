@@ -1,47 +1,46 @@
--- The part that is returned for unit k: of the list or of the item, by its place.
-use Prim.Native.Nat.{ℕ}
+-- The part that is returned for unit k: of the list or of the item, where the unit lies.
+use Prim.Native.Nat.{ℕ, zero, suc}
 use mathlib.Core.Path.{◌≡◌, refl, sym, ap, ◌∙◌, subst}
-use mathlib.Core.List.{List}
+use mathlib.Core.List.{List, [], ◌∷◌}
+use lib.ListN.{get_or}
 use denote.Ref.{Bor}
+use Rattle.std.specs.Prelude.{Option, Some, None, Result, Ok, Err}
+use Rattle.error.specs.declared.Refusal.{Refusal}
+use Rattle.parse.specs.Answers.{answer_of}
 use Rattle.parse.specs.Outcome.{Outcome, accept, refuse}
 use Rattle.boxes.specs.Parts.{PartOf, nowhere}
-use Rattle.boxes.specs.Places.{Place, in_first, in_second, place_of, place_found}
-use Rattle.boxes.specs.inner.Places.{lying, span_in_first}
-use Rattle.boxes.specs.declared.Span.{Span}
-use Rattle.boxes.specs.declared.UnitPlace.{UnitPlace}
-use Rattle.boxes.specs.declared.UnitPlace.TheVariants as U
-use Rattle.boxes.proofs.Places.{place_lies}
-use Rattle.access_unit.specs.AccessUnit.{Source, of_list, of_item}
+use Rattle.boxes.specs.Places.{nth, nth_found}
+use Rattle.access_unit.specs.declared.Source.{Source}
+use Rattle.access_unit.specs.declared.Source.TheVariants.{OfList, OfItem}
 use Rattle.access_unit.specs.Answers.{source_at, PartOfEither}
-use Rattle.access_unit_nal.specs.Answers.{source_place}
 
-source_lies : (o : Outcome (List Source)) (k : ℕ) → lying (place_found source_place o k) ≡ source_place (source_at o k)
-source_lies (accept us) k = place_lies source_place (of_list nowhere) refl (accept us) k
-source_lies (refuse e) k = refl
+-- where the part lies; where there is no unit, it is the list's empty part
+abbrev pub source_of : Outcome (Option Source) → Source
+source_of (accept (Some x)) = x
+source_of (accept None) = OfList nowhere
+source_of (refuse e) = OfList nowhere
 
-module _ (r list item : Bor (List ℕ)) where
-  -- the part at a place
-  abbrev At : Place → Type 0
-  At (in_first a) = PartOf r list a
-  At (in_second a) = PartOf r item a
+nth_source : (us : List Source) (k : ℕ) → source_of (accept (nth us k)) ≡ get_or us k (OfList nowhere)
+unfolding nth
+nth_source [] k = refl
+nth_source (x ∷ us) zero = refl
+nth_source (x ∷ us) (suc k) = nth_source us k
 
-  either : (x : Source) → At (source_place x) → PartOfEither r list item x
-  either (of_list a) h = h
-  either (of_item a) h = h
+source_found : (o : Outcome (List Source)) (k : ℕ) → source_of (nth_found o k) ≡ source_at o k
+source_found (accept us) k = nth_source us k
+source_found (refuse e) k = refl
 
-  module _ (u : UnitPlace) (o : Outcome (List Source)) (k : ℕ) (said : place_of u ≡ place_found source_place o k) where
-    given : At (lying (place_of u)) → PartOfEither r list item (source_at o k)
-    given h = either (source_at o k) (subst At (ap lying said ∙ source_lies o k) h)
+module _ (r list item : Bor (List ℕ)) (o : Outcome (List Source)) (k : ℕ) where
+  given : (u : Result (Option Source) Refusal) → answer_of u ≡ nth_found o k → PartOfEither r list item (source_of (answer_of u))
+      → PartOfEither r list item (source_at o k)
+  given u said h = subst (PartOfEither r list item) (ap source_of said ∙ source_found o k) h
 
-    pub part_listed : ((a : Span) → u ≡ U.Second a → ⊥) → PartOf r list (span_in_first (lying (place_of u)))
-        → PartOfEither r list item (source_at o k)
-    part_listed t h = given (go u t h)
-      where
-        go : (u : UnitPlace) → ((a : Span) → u ≡ U.Second a → ⊥) → PartOf r list (span_in_first (lying (place_of u))) → At (lying (place_of u))
-        go (U.First a) k h = h
-        go (U.Second a) k h = absurd (k a refl)
-        go U.Past k h = h
-        go (U.Refused e) k h = h
+  pub part_found : (u : Result (Option Source) Refusal) → answer_of u ≡ nth_found o k → (x : Source) → u ≡ Ok (Some x)
+      → PartOfEither r list item x → PartOfEither r list item (source_at o k)
+  part_found u said x e h = given u said (subst (PartOfEither r list item) (ap (λ (v : Result (Option Source) Refusal). source_of (answer_of v)) (sym e)) h)
 
-    pub part_kept : (a : Span) → u ≡ U.Second a → PartOf r item a → PartOfEither r list item (source_at o k)
-    part_kept a e h = given (subst (λ (u : UnitPlace). At (lying (place_of u))) (sym e) h)
+  pub part_missing : (u : Result (Option Source) Refusal) → answer_of u ≡ nth_found o k → ((x : Source) → u ≡ Ok (Some x) → ⊥)
+      → PartOf r list nowhere → PartOfEither r list item (source_at o k)
+  part_missing (Ok (Some x)) said n h = absurd (n x refl)
+  part_missing (Ok None) said n h = given (Ok None) said h
+  part_missing (Err e) said n h = given (Err e) said h

@@ -1,8 +1,12 @@
 -- The place of a unit of the access unit (SCOPE 3.12).
-use Rattle.boxes.specs.Places.{Place, in_first, in_second}
-use Rattle.access_unit.specs.AccessUnit.{Source, of_list, of_item}
+use Rattle.std.specs.Prelude.{ℕ, ◌+◌, ◌≤◌, List, length, Option, Some, None, Result, Ok, Err}
+use Rattle.error.specs.declared.Refusal.{Refusal}
+use Rattle.access_unit.specs.declared.Source.{Source}
+use Rattle.access_unit.specs.declared.Source.TheVariants.{OfList, OfItem}
 
--- the list is the first slice that a call is lent, the item the second
-abbrev pub source_place : Source → Place
-source_place (of_list a) = in_first a
-source_place (of_item a) = in_second a
+-- a unit lies inside the list s or the item t
+abbrev pub SourceFits : List ℕ → List ℕ → Result (Option Source) Refusal → Type 0
+SourceFits s t (Ok (Some (OfList a))) = a.start + a.len ≤ length s
+SourceFits s t (Ok (Some (OfItem a))) = a.start + a.len ≤ length t
+SourceFits s t (Ok None) = Unit {0}
+SourceFits s t (Err e) = Unit {0}

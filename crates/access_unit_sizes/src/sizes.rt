@@ -1,28 +1,27 @@
 // Internal: how many units of the list and of the item an access unit has, and their lengths.
 ghost use Rattle.std.specs.Prelude.{◌≡◌, false, ◌+◌, ◌≤◌, ◌<◌, ◌^◌, length};
+ghost use Rattle.parse.specs.Answers.{answer_of};
 ghost use Rattle.parse.specs.Outcome.{accept, and_then};
 ghost use Rattle.boxes.specs.Parts.{held};
 ghost use Rattle.unit_list.specs.Answers.{list_units};
-ghost use Rattle.unit_list.specs.inner.Walk.{Fits};
-ghost use Rattle.unit_list.specs.inner.Walk.{units_left};
-ghost use Rattle.access_unit.specs.Answers.{tols_of};
+ghost use Rattle.unit_list.specs.inner.Walks.{left_of};
 ghost use Rattle.access_unit.specs.inner.Gathered.{Walks, kept_left};
 ghost use Rattle.access_unit_sizes.specs.inner.Sizes.{RoomFor, lead_with, zero_with, adding, adding_unit, adding_kept, item_sum};
 ghost use Rattle.access_unit.specs.inner.Gathered.{gather};
-ghost use Rattle.access_unit_sizes.specs.inner.Sizes.{list_sum, summed_of, SmallSum, sizes_of, first_zero, zero_of, saved_of, both_sums};
-ghost use Rattle.access_unit_sizes.specs.inner.Sizes.{sizes_with, sizes_answer_of};
+ghost use Rattle.access_unit_sizes.specs.inner.Sizes.{list_sum, SmallSum, sizes_of, first_zero, zero_of, saved_of, both_sums};
+ghost use Rattle.access_unit_sizes.specs.inner.Sizes.{sizes_with};
 
 use access_unit::lengths::{FOUR_BYTES, saves, type_saves};
-use access_unit::{StartCodes, Target, kept};
+use access_unit::{StartCodes, kept};
 use boxes::{Span, place};
 use error::{LARGEST_INPUT, Refusal};
 use nal::header;
-use split::{NextUnit, walk as items};
-use unit_list::{ListCursor, ListStart, ListStep, walk};
+use split::walk as items;
+use unit_list::ListWalk;
 
 // A sum over units: how many, how many of them lead, and the sum of their lengths. For short codes also how many bytes these save where none of the
 // units is the first of the stream, and the zero byte of the first unit, which is not saved where it is.
-#[derive(Clone, Copy)]
+#[derive(Clone, Copy, Debug, PartialEq, Eq)]
 pub struct UnitSum {
     pub count: usize,
     pub lead: usize,
@@ -31,29 +30,24 @@ pub struct UnitSum {
     pub zero_byte: usize,
 }
 
-// The sum over all units of an item or of a list, or the refusal.
-#[derive(Clone, Copy)]
-pub enum Summed {
-    Sum(UnitSum),
-    Refused(Refusal),
-}
+// The sum over no units.
+const NO_UNITS: UnitSum = UnitSum {
+    count: 0,
+    lead: 0,
+    lengths: 0,
+    saved: 0,
+    zero_byte: 0,
+};
 
 // The sizes of an access unit: units of the list, kept units of the item, how many of these lead, the zero byte of the first unit's start code (0 if
 // its type has four bytes anyway, else 1), and the length of the stream.
-#[derive(Clone, Copy)]
+#[derive(Clone, Copy, Debug, PartialEq, Eq)]
 pub struct Sizes {
     pub listed: usize,
     pub kept: usize,
     pub lead: usize,
     pub zero_byte: usize,
     pub len: usize,
-}
-
-// The sizes of an access unit, or the refusal.
-#[derive(Clone, Copy)]
-pub enum SizesAnswer {
-    Sized(Sizes),
-    Refused(Refusal),
 }
 
 // How many units lead when one is added.
@@ -86,17 +80,17 @@ fn add(sum: UnitSum, saves: usize, len: usize, leads: bool) -> UnitSum
     let zero_byte = zero_with(sum, saves);
     UnitSum {
         count: sum.count + 1,
-        lead: lead,
+        lead,
         lengths: sum.lengths + len,
         saved: sum.saved + saves,
-        zero_byte: zero_byte,
+        zero_byte,
     }
 }
 
 // A unit of the item added, if it is kept; AUD and OPI units may lead. Most units are picture data, which is kept and saves a byte with short codes.
-fn add_kept(item: &[u8], a: Span, target: Target, sum: UnitSum) -> UnitSum
+fn add_kept(item: &[u8], a: Span, target: Option<u16>, sum: UnitSum) -> UnitSum
     requires { (a.start + a.len ≤ length item.now) × (length item.now ≤ 2 ^ 30) × RoomFor a.len sum }
-    ensures { result ≡ adding_kept (tols_of target) item.now a sum }
+    ensures { result ≡ adding_kept target item.now a sum }
 {
     let unit = place::part(item, a);
     let nal_unit_type = header::type_or_31(unit);
@@ -125,63 +119,39 @@ fn add_listed(list: &[u8], a: Span, sum: UnitSum) -> UnitSum
 }
 
 // The sum over the kept units of an item. Refusals in byte order: 1, 5.
-fn item_sum(item: &[u8], size: usize, target: Target) -> Summed
+fn item_sum(item: &[u8], size: usize, target: Option<u16>) -> Result<UnitSum, Refusal>
     requires { Walks size item.now 0 }
-    ensures { summed_of result ≡ and_then (kept_left size (tols_of target) item.now 0) (λ ks. accept (item_sum item.now ks)) }
+    ensures { answer_of result ≡ and_then (kept_left size target item.now 0) (λ ks. accept (item_sum item.now ks)) }
 {
     let mut at: usize = 0;
-    let mut sum = UnitSum {
-        count: 0,
-        lead: 0,
-        lengths: 0,
-        saved: 0,
-        zero_byte: 0,
-    };
-    loop {
-        match items::item_step(item, size, at) {
-            NextUnit::Unit(a, next) => {
-                sum = add_kept(item, a, target, sum);
-                at = next;
-            }
-            NextUnit::End => return Summed::Sum(sum),
-            NextUnit::Refused(e) => return Summed::Refused(e),
-        }
+    let mut sum = NO_UNITS;
+    // No `for`: a step can be refused, and `?` ends the loop there.
+    while let Some(step) = items::item_step(item, size, at)? {
+        sum = add_kept(item, step.unit, target, sum);
+        at = step.next;
     }
+    Ok(sum)
 }
 
-// The sum over the units of a list after a cursor. Refusal: 21.
-fn units_sum(list: &[u8], c: ListCursor) -> Summed
-    requires { Fits list.now c }
-    ensures { summed_of result ≡ and_then (units_left list.now c) (λ us. accept (list_sum list.now us)) }
+// The sum over the units that are left of a walk over a list. Refusal: 21.
+fn units_sum(walk: ListWalk) -> Result<UnitSum, Refusal>
+    ensures { answer_of result ≡ and_then (left_of walk.entry) (λ us. accept (list_sum walk.entry.list.now us)) }
 {
-    let mut here = c;
-    let mut sum = UnitSum {
-        count: 0,
-        lead: 0,
-        lengths: 0,
-        saved: 0,
-        zero_byte: 0,
-    };
-    loop {
-        match walk::step(list, here) {
-            ListStep::Unit(a, next) => {
-                sum = add_listed(list, a, sum);
-                here = next;
-            }
-            ListStep::End => return Summed::Sum(sum),
-            ListStep::Malformed => return Summed::Refused(Refusal::UnitList),
-        }
+    let list = walk.list;
+    let mut walk = walk;
+    let mut sum = NO_UNITS;
+    // No `for`: a step can be refused, and `?` ends the loop there.
+    while let Some(unit) = walk.next_unit()? {
+        sum = add_listed(list, unit, sum);
     }
+    Ok(sum)
 }
 
 // The sum over the units of a list. Refusals: 23, 21.
-fn list_sum(list: &[u8]) -> Summed
-    ensures { summed_of result ≡ and_then (list_units list.now) (λ us. accept (list_sum list.now us)) }
+fn list_sum(list: &[u8]) -> Result<UnitSum, Refusal>
+    ensures { answer_of result ≡ and_then (list_units list.now) (λ us. accept (list_sum list.now us)) }
 {
-    match walk::start(list) {
-        ListStart::At(c) => units_sum(list, c),
-        ListStart::Refused(e) => Summed::Refused(e),
-    }
+    units_sum(ListWalk::start(list)?)
 }
 
 // The zero byte of the first unit with short codes: of the item's first if one of its units leads or the list has none, else of the list's.
@@ -216,22 +186,22 @@ fn saved_of(listed: UnitSum, kept: UnitSum, codes: StartCodes) -> usize
 }
 
 // The sizes of an access unit from the sums over its list and its item. Refusal: 19.
-fn both(listed: UnitSum, kept: UnitSum, codes: StartCodes) -> SizesAnswer
+fn both(listed: UnitSum, kept: UnitSum, codes: StartCodes) -> Result<Sizes, Refusal>
     requires { SmallSum listed × SmallSum kept }
-    ensures { sizes_answer_of result ≡ both_sums codes listed kept }
+    ensures { answer_of result ≡ both_sums codes listed kept }
 {
     let count = listed.count + kept.count;
     if count == 0 {
-        return SizesAnswer::Refused(Refusal::NothingToWrite);
+        return Err(Refusal::NothingToWrite);
     }
     let zero_byte = zero_of(listed, kept, codes);
     let saved = saved_of(listed, kept, codes);
     let four = FOUR_BYTES * count + listed.lengths + kept.lengths;
-    SizesAnswer::Sized(Sizes {
+    Ok(Sizes {
         listed: listed.count,
         kept: kept.count,
         lead: kept.lead,
-        zero_byte: zero_byte,
+        zero_byte,
         len: four + zero_byte - saved,
     })
 }
@@ -240,21 +210,18 @@ fn both(listed: UnitSum, kept: UnitSum, codes: StartCodes) -> SizesAnswer
 fn measure_item(
     item: &[u8],
     length_size: u8,
-    target: Target,
+    target: Option<u16>,
     codes: StartCodes,
     listed: UnitSum,
-) -> SizesAnswer
+) -> Result<Sizes, Refusal>
     requires { (length item.now ≤ 2 ^ 30) × SmallSum listed }
-    ensures { sizes_answer_of result ≡ sizes_with codes length_size (tols_of target) item.now listed }
+    ensures { answer_of result ≡ sizes_with codes length_size target item.now listed }
 {
     if place::outside(length_size) {
-        return SizesAnswer::Refused(Refusal::PrefixSize);
+        return Err(Refusal::PrefixSize);
     }
-    let summed = item_sum(item, place::wide(length_size), target);
-    match summed {
-        Summed::Sum(kept) => both(listed, kept, codes),
-        Summed::Refused(e) => SizesAnswer::Refused(e),
-    }
+    let kept = item_sum(item, usize::from(length_size), target)?;
+    both(listed, kept, codes)
 }
 
 // The sizes of an access unit. Refusals: 23, 21, 4, then in byte order 1 and 5, 19.
@@ -262,18 +229,15 @@ pub fn measure(
     list: &[u8],
     item: &[u8],
     length_size: u8,
-    target: Target,
+    target: Option<u16>,
     codes: StartCodes,
-) -> SizesAnswer
-    ensures { sizes_answer_of result ≡ and_then (gather length_size (tols_of target) list.now item.now)
+) -> Result<Sizes, Refusal>
+    ensures { answer_of result ≡ and_then (gather length_size target list.now item.now)
         (λ g. accept (sizes_of codes list.now item.now g)) }
 {
     if LARGEST_INPUT < item.len() {
-        return SizesAnswer::Refused(Refusal::InputTooLong);
+        return Err(Refusal::InputTooLong);
     }
-    let summed = list_sum(list);
-    match summed {
-        Summed::Sum(listed) => measure_item(item, length_size, target, codes, listed),
-        Summed::Refused(e) => SizesAnswer::Refused(e),
-    }
+    let listed = list_sum(list)?;
+    measure_item(item, length_size, target, codes, listed)
 }

@@ -2,7 +2,9 @@
 use Prim.Native.Nat.{ℕ, zero, suc, ◌+◌, ◌-◌, ◌^◌, ◌≤◌, ◌<◌}
 use mathlib.Core.Path.{◌≡◌, refl, sym, ap, ◌∙◌}
 use mathlib.Core.List.{List, [], ◌∷◌}
-use mathlib.Core.Option.{none, some}
+use Rattle.std.specs.Prelude.{None, Some, Option, Result, Ok, Err}
+use Rattle.error.specs.declared.Refusal.{Refusal}
+use Rattle.parse.specs.Answers.{answer_of}
 use mathlib.Core.Logic.{◌⊎◌, ⊎_elim, inl, inr}
 use native.Mathlib.Omega.{arith}
 use native.Mathlib.Decide.{dec_le}
@@ -12,15 +14,13 @@ use Rattle.parse.specs.Outcome.{Outcome, accept, refuse, lent_input}
 use Rattle.parse.specs.Parse.{value, many}
 use Rattle.parse.specs.inner.Walk.{more}
 use Rattle.parse.proofs.Many.{Advances, many_nil, many_step, many_induction}
-use Rattle.boxes.specs.Places.{in_first, place_found}
+use Rattle.boxes.specs.Places.{nth_found}
 use Rattle.boxes.specs.declared.Span.{Span}
 use Rattle.boxes.proofs.Places.{nth_here, nth_next}
 use Rattle.start_code.specs.StartCode.{scan, start_code_from}
 use Rattle.start_code.proofs.StartCodes.{scan_le, scan_found, scan_stays, scan_from}
-use Rattle.split.specs.Answers.{Next, next_of}
 use Rattle.split.specs.inner.Walk.{UnitAhead}
 use Rattle.split.specs.declared.NextUnit.{NextUnit}
-use Rattle.split.specs.declared.NextUnit.TheVariants as N
 use Rattle.annex_b.specs.Stream.{trim, segment, non_empty, all_read, stream_units_from, split_stream}
 use Rattle.annex_b.specs.Answers.{first_next, next_given}
 use Rattle.annex_b.proofs.Trim.{trim_le}
@@ -254,11 +254,11 @@ module _ (s : List ℕ) where
     pub passed_more : stream_left p ≡ more a (stream_left b)
     passed_more = rw (left_lent p turn.lent, left_lent b turn.lent) (ap accept turn.rest)
 
-    pub passed_here : (k : ℕ) → k ≡ 0 → accept (some (in_first a)) ≡ place_found in_first (stream_left p) k
-    passed_here k z = rw (left_lent p turn.lent, turn.rest) (ap accept (nth_here in_first a (stream_units_from s b) k z))
+    pub passed_here : (k : ℕ) → k ≡ 0 → accept (Some a) ≡ nth_found (stream_left p) k
+    passed_here k z = rw (left_lent p turn.lent, turn.rest) (ap accept (nth_here a (stream_units_from s b) k z))
 
-    pub passed_next : (k : ℕ) → (k ≡ 0 → ⊥) → place_found in_first (stream_left b) (k - 1) ≡ place_found in_first (stream_left p) k
-    passed_next k z = rw (left_lent p turn.lent, left_lent b turn.lent, turn.rest) (ap accept (nth_next in_first a (stream_units_from s b) k z))
+    pub passed_next : (k : ℕ) → (k ≡ 0 → ⊥) → nth_found (stream_left b) (k - 1) ≡ nth_found (stream_left p) k
+    passed_next k z = rw (left_lent p turn.lent, left_lent b turn.lent, turn.rest) (ap accept (nth_next a (stream_units_from s b) k z))
 
   -- what the next unit says
   given_is : (p : ℕ)
@@ -269,29 +269,29 @@ module _ (s : List ℕ) where
         | no k ↦ inl (omega arith, given_too_long p (omega arith))
       ]
 
-  first_none : (xs : List Span) → first_next xs ≡ none → xs ≡ []
+  first_none : (xs : List Span) → first_next xs ≡ None → xs ≡ []
   first_none [] e = refl
   first_none (x ∷ xs) e = let z : ◌≡◌ {A = ℕ} 0 1 = cc in absurd (omega arith)
 
   first_some : (p : ℕ) (a : Span) (b : ℕ) (xs : List Span) → length s ≤ 2 ^ 30 → stream_units_from s p ≡ xs
-      → first_next xs ≡ some (record { unit = a; next = b }) → Passed p a b
+      → first_next xs ≡ Some (record { unit = a; next = b }) → Passed p a b
   first_some p a b [] h e w = let z : ◌≡◌ {A = ℕ} 0 1 = cc in absurd (omega arith)
   first_some p a b (x ∷ xs) h e w =
-      let y : ◌≡◌ {A = Next} (record { unit = x; next = x.start + x.len }) (record { unit = a; next = b }) = cc in
-      let u : x ≡ a = ap (λ (n : Next). n.unit) y in
-      let v : x.start + x.len ≡ b = ap (λ (n : Next). n.next) y in
+      let y : ◌≡◌ {A = NextUnit} (record { unit = x; next = x.start + x.len }) (record { unit = a; next = b }) = cc in
+      let u : x ≡ a = ap (λ (n : NextUnit). n.unit) y in
+      let v : x.start + x.len ≡ b = ap (λ (n : NextUnit). n.next) y in
       let r = units_after p x xs e in
       rw (← u, ← v) (record { lent = h; here = r.here; rest = e ∙ ap (λ (l : List Span). x ∷ l) (sym r.rest_from) })
 
-  module _ (p : ℕ) (r : NextUnit) (said : next_of r ≡ next_given s p) where
-    pub next_passed : (a : Span) (b : ℕ) → r ≡ N.Unit a b → Passed p a b
-    next_passed a b e =
-        let w : accept (some (record { unit = a; next = b })) ≡ next_given s p = ap next_of (sym e) ∙ said in
+  module _ (p : ℕ) (r : Result (Option NextUnit) Refusal) (said : answer_of r ≡ next_given s p) where
+    pub next_passed : (m : NextUnit) → r ≡ Ok (Some m) → Passed p m.unit m.next
+    next_passed m e =
+        let w : accept (Some m) ≡ next_given s p = ap answer_of (sym e) ∙ said in
         ⊎_elim (λ h. let v = h.1 in let z : ◌≡◌ {A = ℕ} 0 1 = cc in absurd (omega arith))
-        (λ h. let v = h.1 in first_some p a b (stream_units_from s p) h.0 refl cc) (given_is p)
+        (λ h. let v = h.1 in first_some p m.unit m.next (stream_units_from s p) h.0 refl cc) (given_is p)
 
-    pub next_ended : r ≡ N.End → stream_left p ≡ accept []
+    pub next_ended : r ≡ Ok None → stream_left p ≡ accept []
     next_ended e =
-        let w : accept none ≡ next_given s p = ap next_of (sym e) ∙ said in
+        let w : accept None ≡ next_given s p = ap answer_of (sym e) ∙ said in
         ⊎_elim (λ h. let v = h.1 in let z : ◌≡◌ {A = ℕ} 0 1 = cc in absurd (omega arith))
         (λ h. let v = h.1 in left_lent p h.0 ∙ ap accept (first_none (stream_units_from s p) cc)) (given_is p)

@@ -1,3 +1,3 @@
 pub mod Numbers
-pub mod Chain
 pub mod Looks
+pub mod Chain

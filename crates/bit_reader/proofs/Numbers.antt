@@ -2,7 +2,7 @@
 use mathlib.Core.Path.{◌≡◌, refl, sym}
 use mathlib.Core.Bool.{Bool, true, false}
 use mathlib.Core.List.{List}
-use Prim.Native.Nat.{ℕ, zero, suc, ◌+◌, ◌-◌, ◌*◌, ◌/◌, ◌%◌, ◌^◌, ◌≤◌, ◌<◌}
+use Prim.Native.Nat.{ℕ, zero, suc, ◌+◌, ◌*◌, ◌/◌, ◌%◌, ◌^◌, ◌≤◌, ◌<◌}
 use native.Mathlib.Nat.{pow-suc, add-zero, zero-add}
 use native.Mathlib.Omega.{arith}
 use lib.Dec.{leb, lit<}
@@ -11,7 +11,7 @@ use lib.ListN.{length}
 use borrow.Author.Tests.{leb-true, eq-eqb, ne_eqb}
 use Rattle.std.specs.Prelude.{if◌then◌else◌}
 use Rattle.parse.specs.Parse.{Parsed, value, refused, bind, give}
-use Rattle.bit_reader.specs.Bits.{bit_at, bits_at, u, is_set, skip, align, zeros_before_one, ue}
+use Rattle.bit_reader.specs.Bits.{bit_at, bits_at, u, is_set, skip, align, zeros_before_one}
 
 -- ---- u(n)
 pub bits_lt : (s : List ℕ) (p n : ℕ) → bits_at s p n < 2 ^ n
@@ -125,18 +125,6 @@ zeros_read s z zero p y q e = let o : ◌≡◌ {A = ℕ} 0 1 = cc in absurd (om
 zeros_read s z (suc g) p y q e = turn s z g p y q (λ t. zeros_read s (z + 1) g t y q) (u 1 s p) refl e
 
 -- ---- ue(v)
-pub ue_there : (s : List ℕ) (p z t v q : ℕ) → zeros_before_one 0 32 s p ≡ value z t → u z s t ≡ value v q → ue s p ≡ value (2 ^ z - 1 + v) q
-unfolding ue
-ue_there s p z t v q e f = rw (e, f)
-
-pub ue_zeros : (s : List ℕ) (p e : ℕ) → zeros_before_one 0 32 s p ≡ refused e → ue s p ≡ refused e
-unfolding ue
-ue_zeros s p e h = rw h
-
-pub ue_low : (s : List ℕ) (p z t e : ℕ) → zeros_before_one 0 32 s p ≡ value z t → u z s t ≡ refused e → ue s p ≡ refused e
-unfolding ue
-ue_low s p z t e h k = rw (h, k)
-
 -- what the arithmetic of a code with z zeros and low bits v needs
 pub record Sized (z v : ℕ) : Type 0 where
   pub few : z < 32

@@ -1,33 +1,17 @@
-// Internal: the bit reader, which borrows an RBSP and keeps its position. A read takes it apart and calls one of `bits`.
-ghost use Rattle.std.specs.Prelude.{◌≡◌, ◌≤◌, ◌^◌, length};
-ghost use Rattle.bit_reader.specs.Bits.{u, ue};
-ghost use Rattle.bit_reader.specs.inner.Answers.{parsed};
-ghost use Rattle.bit_reader.specs.inner.Reader.{skipping, reader_place_after, Stepped, AlignedFrom};
+// Internal: the bit reader, which borrows an RBSP and keeps its position. A read calls one of `bits`.
+ghost use Rattle.std.specs.Prelude.{◌≡◌, ◌<◌, ◌≤◌, ◌^◌, length, IfOk, if◌then◌else◌};
+ghost use Rattle.parse.specs.Parse.{give};
+ghost use Rattle.bit_reader.specs.Bits.{u, ue, skip};
+ghost use Rattle.bit_reader.specs.inner.Reader.{Steps, AlignedFrom};
 
-use super::{BitPosition, BitsRead, FIRST_BIT, bits};
+use super::{BitPosition, FIRST_BIT, bits};
+use error::Refusal;
 
-// An RBSP, and the position in it of the next bit.
-#[derive(Clone, Copy)]
+// An RBSP, and the position in it of the next bit. A refused read leaves the position as it was.
+#[derive(Clone, Copy, Debug)]
 pub struct BitReader<'a> {
     pub src: &'a [u8],
     pub pos: BitPosition,
-}
-
-// The answer of a read, and the reader at its next position.
-#[derive(Clone, Copy)]
-pub struct ReaderStep<'a> {
-    pub answer: BitsRead,
-    pub reader: BitReader<'a>,
-}
-
-// Where a read leaves the reader: after the value, or on a refusal where it was.
-pub fn after(answer: BitsRead, at: BitPosition) -> BitPosition
-    ensures { result.0 ≡ reader_place_after (parsed answer) at.0 }
-{
-    match answer {
-        BitsRead::Value(_, next) => next,
-        BitsRead::Refused(_) => at,
-    }
 }
 
 impl<'a> BitReader<'a> {
@@ -42,64 +26,56 @@ impl<'a> BitReader<'a> {
     }
 
     // The position of the next bit.
-    pub fn bit_position(self) -> BitPosition
-        ensures { result ≡ self.entry.pos }
+    pub fn bit_position(&self) -> BitPosition
+        ensures { result ≡ self.now.pos }
     {
         self.pos
     }
 
     // The next `n` bits, u(n). Refusal: 11.
-    pub fn u(self, n: usize) -> ReaderStep<'a>
-        requires { (n ≤ 32) × (length self.src.now ≤ 2 ^ 30) }
-        ensures { Stepped (u n) self.entry result }
+    pub fn u(&mut self, n: usize) -> Result<u32, Refusal>
+        requires { (n ≤ 32) × (length self.old.src.now ≤ 2 ^ 30) }
+        ensures read { Steps (u n) self.old self.new result }
+        ensures low { IfOk result (λ v. v < 2 ^ n) }
     {
-        let src = self.src;
-        let pos = self.pos;
-        let answer = bits::read_bits(src, pos, n);
-        let next = after(answer, pos);
-        ReaderStep {
-            answer,
-            reader: BitReader { src, pos: next },
-        }
+        let (value, next) = bits::read_bits(self.src, self.pos, n)?;
+        self.pos = next;
+        Ok(value)
+    }
+
+    // The next `n` bits where they are present; else no bits are read, and the number is 0. Refusal: 11.
+    pub fn u_if(&mut self, present: bool, n: usize) -> Result<u32, Refusal>
+        requires { (n ≤ 32) × (length self.old.src.now ≤ 2 ^ 30) }
+        ensures read { Steps (if present then u n else give 0) self.old self.new result }
+        ensures low { IfOk result (λ v. v < 2 ^ n) }
+    {
+        if present { self.u(n) } else { Ok(0) }
     }
 
     // The next Exp-Golomb code, ue(v). Refusals: 11, 12.
-    pub fn ue(self) -> ReaderStep<'a>
-        requires { length self.src.now ≤ 2 ^ 30 }
-        ensures { Stepped ue self.entry result }
+    pub fn ue(&mut self) -> Result<u32, Refusal>
+        requires { length self.old.src.now ≤ 2 ^ 30 }
+        ensures { Steps ue self.old self.new result }
     {
-        let src = self.src;
-        let pos = self.pos;
-        let answer = bits::exp_golomb(src, pos);
-        let next = after(answer, pos);
-        ReaderStep {
-            answer,
-            reader: BitReader { src, pos: next },
-        }
+        let (value, next) = bits::exp_golomb(self.src, self.pos)?;
+        self.pos = next;
+        Ok(value)
     }
 
-    // The next `n` bits passed over; the value is 0. Refusal: 11.
-    pub fn skip(self, n: usize) -> ReaderStep<'a>
-        requires { length self.src.now ≤ 2 ^ 30 }
-        ensures { Stepped (skipping n) self.entry result }
+    // Passes over the next `n` bits. Refusal: 11.
+    pub fn skip(&mut self, n: usize) -> Result<(), Refusal>
+        requires { length self.old.src.now ≤ 2 ^ 30 }
+        ensures { Steps (skip n) self.old self.new result }
     {
-        let src = self.src;
-        let pos = self.pos;
-        let answer = bits::skip_bits(src, pos, n);
-        let next = after(answer, pos);
-        ReaderStep {
-            answer,
-            reader: BitReader { src, pos: next },
-        }
+        self.pos = bits::skip_bits(self.src, self.pos, n)?;
+        Ok(())
     }
 
-    // The reader at the next whole byte; where it is, if that is at one.
-    pub fn align(self) -> BitReader<'a>
-        requires { self.pos.0 ≤ 2 ^ 60 }
-        ensures { AlignedFrom self.entry result }
+    // Passes over the bits up to the next whole byte; none where the position is at one.
+    pub fn align(&mut self)
+        requires { self.old.pos.0 ≤ 2 ^ 60 }
+        ensures { AlignedFrom self.old self.new }
     {
-        let src = self.src;
-        let pos = bits::align(self.pos);
-        BitReader { src, pos }
+        self.pos = bits::align(self.pos);
     }
 }

@@ -6,17 +6,16 @@ use mathlib.Core.List.{List, [], ◌∷◌, ◌++◌, map, map-append}
 use native.Mathlib.Omega.{arith}
 use lib.Dec.{leb}
 use lib.ListN.{length}
-use Rattle.std.specs.Prelude.{if◌then◌else◌}
-use mathlib.Core.Option.{Option, none, some}
+use Rattle.std.specs.Prelude.{if◌then◌else◌, Option, None, Some}
 use Rattle.parse.specs.Outcome.{Outcome, accept, refuse, and_then, lent_input}
 use Rattle.boxes.specs.Parts.{held}
-use Rattle.boxes.specs.Places.{Place, in_first, in_second, nth, place_found}
+use Rattle.boxes.specs.Places.{nth, nth_found}
 use Rattle.boxes.specs.declared.Span.{Span}
 use Rattle.unit_list.specs.UnitList.{Array, largest_type, decode, units_of, units_of_type, held_arrays, contents, encode_as, lengths_fit}
 use Rattle.unit_list.specs.Answers.{list_units, list_units_of_type}
 use Rattle.unit_list.proofs.Units.{units_held}
 use Rattle.directory.specs.Directory.{entry_of, entries_of, list_entries, entries_of_type, table_from, totals_of, fitting, filled, fill_directory}
-use Rattle.directory.specs.Directory.{unit_asked, place_asked}
+use Rattle.directory.specs.Directory.{unit_asked}
 use Rattle.directory.specs.Filled.{AnswersAsWalk}
 use Rattle.directory.specs.declared.Asked.{Asked}
 use Rattle.directory.specs.declared.Asked.TheVariants.{FirstOfType, Number}
@@ -28,11 +27,14 @@ use Rattle.compact.specs.Compact.{compact_bytes, serialize_compact}
 use Rattle.full.specs.Write.{write_full, serialize_full}
 use Rattle.full.specs.declared.VvcConfig.{VvcConfig}
 use Rattle.hvcc.specs.Write.{write_hevc, serialize_hevc}
-use Rattle.sample_format.specs.Format.{Format, head_format, sps_format_of, first_format, sample_format}
+use Rattle.sample_format.specs.declared.SampleFormat.{SampleFormat}
+use Rattle.sample_format.specs.Format.{head_format, sps_format_of, first_format, sample_format}
 use Rattle.expand.specs.Expand.{expand_units, to_full}
 use Rattle.split.specs.Item.{split_item}
 use Rattle.annex_b.specs.Stream.{annex_b}
-use Rattle.access_unit.specs.AccessUnit.{Source, of_list, of_item, kept, leading, following, arranged, not_empty, target_of, access_unit, held_in}
+use Rattle.access_unit.specs.declared.Source.{Source}
+use Rattle.access_unit.specs.declared.Source.TheVariants.{OfList, OfItem}
+use Rattle.access_unit.specs.AccessUnit.{kept, leading, following, arranged, not_empty, target_of, access_unit, held_in}
 use Rattle.access_unit.specs.AccessUnit.{code_of, assemble}
 use Rattle.access_unit.specs.declared.StartCodes.{StartCodes}
 use Rattle.both_versions.specs.BothVersions.{entry_bytes, asked_bytes, SameAsked, in_list, in_item, slice_of, SameAnswers, BothVersions}
@@ -47,7 +49,7 @@ module _ (s t : List ℕ) (e : contents t ≡ contents s) where
 
 -- ### the sample format, by the units' bytes
 
-first_of : List (List ℕ) → Outcome Format
+first_of : List (List ℕ) → Outcome SampleFormat
 first_of [] = refuse 17
 first_of (u ∷ us) = sps_format_of u
 
@@ -57,7 +59,7 @@ first_held s [] = refl
 first_held s (a ∷ us) = refl
 
 module _ (h : VvcConfig) where
-  abbrev format_of : List (Array (List ℕ)) → Outcome Format
+  abbrev format_of : List (Array (List ℕ)) → Outcome SampleFormat
   format_of ys = if h.ptl_present_flag then head_format h else first_of (units_of_type 15 ys)
 
   format_by : (s : List ℕ) → sample_format h s ≡ and_then (decode s) (λ xs. format_of (held_arrays s xs))
@@ -79,13 +81,13 @@ module _ (h : VvcConfig) where
 
 -- what is said of each unit of the access unit: by the bytes of a unit of the list, by the span of a unit of the item
 module _ {B : Type 0} (item : List ℕ) (said : List ℕ → Source → B) (of_bytes : List ℕ → B) (of_span : Span → B)
-    (said-list : (s : List ℕ) (a : Span) → said s (of_list a) ≡ of_bytes (held s a)) (said-item : (s : List ℕ) (a : Span) → said s (of_item a) ≡ of_span a)
+    (said-list : (s : List ℕ) (a : Span) → said s (OfList a) ≡ of_bytes (held s a)) (said-item : (s : List ℕ) (a : Span) → said s (OfItem a) ≡ of_span a)
   where
-    items_said : (s : List ℕ) (us : List Span) → map (said s) (map of_item us) ≡ map of_span us
+    items_said : (s : List ℕ) (us : List Span) → map (said s) (map OfItem us) ≡ map of_span us
     items_said s [] = refl
     items_said s (a ∷ us) = rw (said-item s a, items_said s us)
 
-    list_said : (s : List ℕ) (us : List Span) → map (said s) (map of_list us) ≡ map of_bytes (map (held s) us)
+    list_said : (s : List ℕ) (us : List Span) → map (said s) (map OfList us) ≡ map of_bytes (map (held s) us)
     list_said s [] = refl
     list_said s (a ∷ us) = rw (said-list s a, list_said s us)
 
@@ -99,8 +101,8 @@ module _ {B : Type 0} (item : List ℕ) (said : List ℕ → Source → B) (of_b
     arranged_said s target us split =
         let first = kept item target (leading item split) in
         let last = kept item target (following item split) in
-        map-append (said s) (map of_item first) (map of_list us ++ map of_item last)
-        ∙ rw (map-append (said s) (map of_list us) (map of_item last), items_said s first, list_said s us, items_said s last)
+        map-append (said s) (map OfItem first) (map OfList us ++ map OfItem last)
+        ∙ rw (map-append (said s) (map OfList us) (map OfItem last), items_said s first, list_said s us, items_said s last)
 
     some_said : List B → Outcome (List B)
     some_said [] = refuse 19
@@ -221,32 +223,21 @@ entries_by s = go (decode s)
 
 -- ### questions to a directory, by the units' bytes
 
-abbrev place_bytes : List ℕ → Outcome (Option Place) → Outcome (Option (List ℕ))
-place_bytes s (accept (some (in_first a))) = accept (some (held s a))
-place_bytes s (accept (some (in_second a))) = accept (some (held s a))
-place_bytes s (accept none) = accept none
-place_bytes s (refuse n) = refuse n
-
 module _ (s : List ℕ) where
-  asked_place : (o : Outcome (Option Span)) → asked_bytes s o ≡ place_bytes s (place_asked o)
-  asked_place (accept (some a)) = refl
-  asked_place (accept none) = refl
-  asked_place (refuse n) = refl
-
-  nth_place : (us : List Span) (k : ℕ) → place_bytes s (accept (nth (map in_first us) k)) ≡ accept (nth (map (held s) us) k)
+  nth_place : (us : List Span) (k : ℕ) → asked_bytes s (accept (nth us k)) ≡ accept (nth (map (held s) us) k)
   unfolding nth
   nth_place [] k = refl
   nth_place (u ∷ us) zero = refl
   nth_place (u ∷ us) (suc k) = nth_place us k
 
-  found_place : (o : Outcome (List Span)) (k : ℕ) → place_bytes s (place_found in_first o k) ≡ and_then o (λ us. accept (nth (map (held s) us) k))
+  found_place : (o : Outcome (List Span)) (k : ℕ) → asked_bytes s (nth_found o k) ≡ and_then o (λ us. accept (nth (map (held s) us) k))
   found_place (accept us) k = nth_place us k
   found_place (refuse n) k = refl
 
   -- the answer of a walk, by the units' bytes
-  walked : (o : Outcome (Option Span)) (us : Outcome (List Span)) (k : ℕ) → place_asked o ≡ place_found in_first us k
+  walked : (o : Outcome (Option Span)) (us : Outcome (List Span)) (k : ℕ) → o ≡ nth_found us k
       → asked_bytes s o ≡ and_then us (λ us. accept (nth (map (held s) us) k))
-  walked o us k e = asked_place o ∙ ap (place_bytes s) e ∙ found_place us k
+  walked o us k e = ap (asked_bytes s) e ∙ found_place us k
 
   -- the unit that is asked for, by the bytes of the units that a walk finds
   module _ (d : List Entry) (totals : List ℕ) (w : AnswersAsWalk s d totals) where
@@ -295,7 +286,7 @@ same_answers s t e =
       full = λ h. same_answer (List ℕ) (write_full h) s t e;
       hevc = λ h. same_answer (List ℕ) (write_hevc h) s t e;
       expanded = λ c pic. same_units s t e (expand_units c pic);
-      format = λ h. format_by h t ∙ same_answer Format (format_of h) s t e ∙ sym (format_by h s);
+      format = λ h. format_by h t ∙ same_answer SampleFormat (format_of h) s t e ∙ sym (format_by h s);
       slices = λ h item tols. same_said item slice_of in_list in_item (λ s a. refl) (λ s a. refl) h tols s t e;
       access_units = units;
       stream = λ codes h item tols. stream_by codes h item tols t

@@ -1,7 +1,6 @@
 -- What two lists with the same arrays have in common: the answer of every call that takes a list, over the definitions that the calls are proved
 -- against. Where a part of the list lies is no part of this; its bytes are. A directory answers for the list that it was filled from.
-use Rattle.std.specs.Prelude.{ℕ, ◌^◌, ◌≤◌, ◌≡◌, List, map, length}
-use Rattle.std.proofs.Math.Option.{Option, none, some}
+use Rattle.std.specs.Prelude.{ℕ, ◌^◌, ◌≤◌, ◌≡◌, List, map, length, Option, None, Some}
 use Rattle.parse.specs.Outcome.{Outcome, accept, refuse, and_then}
 use Rattle.boxes.specs.Bytes.{AllBytes}
 use Rattle.boxes.specs.Parts.{held}
@@ -21,7 +20,9 @@ use Rattle.hvcc.specs.declared.HevcConfig.{HevcConfig}
 use Rattle.sample_format.specs.Format.{sample_format}
 use Rattle.expand.specs.Expand.{to_full}
 use Rattle.expand.specs.declared.Picture.{Picture}
-use Rattle.access_unit.specs.AccessUnit.{Source, of_list, of_item, access_unit, held_in, assemble}
+use Rattle.access_unit.specs.declared.Source.{Source}
+use Rattle.access_unit.specs.declared.Source.TheVariants.{OfList, OfItem}
+use Rattle.access_unit.specs.AccessUnit.{access_unit, held_in, assemble}
 use Rattle.access_unit.specs.declared.StartCodes.{StartCodes}
 
 -- the type of a directory's entry, and the bytes of s that it stands for
@@ -30,8 +31,8 @@ entry_bytes s e = (e.unit_type, held s (record { start = e.offset; len = e.len }
 
 -- the bytes of the unit that a directory was asked for; none where it has no such unit
 abbrev pub asked_bytes : List ℕ → Outcome (Option Span) → Outcome (Option (List ℕ))
-asked_bytes s (accept (some a)) = accept (some (held s a))
-asked_bytes s (accept none) = accept none
+asked_bytes s (accept (Some a)) = accept (Some (held s a))
+asked_bytes s (accept None) = accept None
 asked_bytes s (refuse e) = refuse e
 
 -- Questions about s to a directory d and totals, and about t to d' and totals', have the same answers: the number of units of a type; the bytes of
@@ -46,8 +47,8 @@ pub data InSlice : Type 0 where
   in_item : Span → InSlice
 
 abbrev pub slice_of : List ℕ → Source → InSlice
-slice_of s (of_list a) = in_list (held s a)
-slice_of s (of_item a) = in_item a
+slice_of s (OfList a) = in_list (held s a)
+slice_of s (OfItem a) = in_item a
 
 pub record SameAnswers (s t : List ℕ) : Type 0 where
   -- how many units there are, and the bytes of unit k; the same for those of a type, and so for the record's SPS

@@ -5,13 +5,12 @@ use mathlib.Core.List.{List, ◌++◌}
 use native.Mathlib.Omega.{arith}
 use lib.ListN.{length, take, length-append}
 use lib.Seq.{sets, length-take-le}
+use Rattle.std.specs.Prelude.{Option, None, Some}
 use Rattle.parse.specs.Parse.{Parsed, value, refused}
 use Rattle.parse.proofs.General.{sets_append}
 use Rattle.boxes.specs.Bytes.{be, chunk, to_be, to_chunk}
 use Rattle.boxes.specs.inner.Chunks.{chunk_stepped}
 use Rattle.boxes.specs.declared.Span.{Span}
-use Rattle.boxes.specs.declared.chunks.ChunkRead.{ChunkRead}
-use Rattle.boxes.specs.declared.chunks.ChunkRead.TheVariants as C
 use Rattle.boxes.proofs.Numbers.{be_take, length_to_be}
 use Rattle.boxes.proofs.Fields.{chunk_there, chunk_short}
 
@@ -37,10 +36,10 @@ module _ (w : ℕ) (s : List ℕ) (p e : ℕ) (h : e ≤ length s) where
         sym (chunk_there w (take e s) p (omega arith) ∙ rw b)
 
 -- what the chunk's answer says once it is known which it is
-pub chunk_bytes : (r : ChunkRead) (x : Parsed Span) (a : Span) → chunk_stepped r ≡ x → r ≡ C.Bytes a → x ≡ value a (a.start + a.len)
+pub chunk_bytes : (r : Option Span) (x : Parsed Span) (a : Span) → chunk_stepped r ≡ x → r ≡ Some a → x ≡ value a (a.start + a.len)
 chunk_bytes r x a f e = sym f ∙ ap chunk_stepped e
 
-pub chunk_refused : (r : ChunkRead) (x : Parsed Span) → chunk_stepped r ≡ x → r ≡ C.Short → x ≡ refused 1
+pub chunk_refused : (r : Option Span) (x : Parsed Span) → chunk_stepped r ≡ x → r ≡ None → x ≡ refused 1
 chunk_refused r x f e = sym f ∙ ap chunk_stepped e
 
 -- the bytes that a chunk takes

@@ -34,10 +34,6 @@ module _ {A : Type 0} where
   count_more n a (accept xs) = ap accept (omega arith)
   count_more n a (refuse e) = refl
 
-  pub total_more : (a : A) (o : Outcome (List A)) → total (more a o) ≤ suc (total o)
-  total_more a (accept xs) = omega arith
-  total_more a (refuse e) = omega arith
-
 pub found_here : (a : Span) (o : Outcome (List Span)) → 0 < total (more a o) → found (more a o) 0 ≡ a
 found_here a (accept xs) h = refl
 found_here a (refuse e) h = absurd (omega arith)
@@ -70,18 +66,3 @@ module _ (done : List Span) (left whole : Outcome (List Span)) (so : after done 
 
   pub done_refused : (n : ℕ) → left ≡ refuse n → refuse n ≡ whole
   done_refused n e = ap (after done) (sym e) ∙ so
-
--- number k, with one more at the end
-pub done_last : (done : List Span) (a : Span) (k : ℕ) → get_or (done ++ (a ∷ [])) k nowhere ≡ (if eqb (length done) k then a else get_or done k nowhere)
-done_last done a k =
-    let l = length-append done (a ∷ []) in
-    elim (dec_le (length done) k) [
-      | no h ↦ rw (ne_eqb (length done) k (λ e. omega arith)) (get_or-append done (a ∷ []) nowhere k (omega arith))
-      | yes h ↦
-          elim (dec_le k (length done)) [
-            | yes g ↦ let e : length done ≡ k = omega arith in rw (eq-eqb (length done) k e) (get_or_at done a [] nowhere k e)
-            | no g ↦
-                rw (ne_eqb (length done) k (λ e. omega arith), get_or-eq_default done nowhere {n = k} h)
-                (get_or-eq_default (done ++ (a ∷ [])) nowhere {n = k} (omega arith))
-          ]
-    ]

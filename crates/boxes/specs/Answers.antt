@@ -1,16 +1,8 @@
 -- The answers of the calls that read a field (SCOPE 3.1).
 use Rattle.std.specs.Prelude.{ℕ, List}
-use Rattle.error.specs.Refusals.{number_of}
 use Rattle.parse.specs.Outcome.{Outcome, accept, refuse, lent_input}
 use Rattle.parse.specs.Parse.{Parsed, value, refused}
 use Rattle.boxes.specs.Bytes.{uint}
-use Rattle.boxes.specs.declared.Field.{Field}
-use Rattle.boxes.specs.declared.Field.TheVariants.{Value, Refused}
-
--- a field's number and the place after it, or a refusal
-abbrev pub field_of : Field → Outcome (ℕ × ℕ)
-field_of (Value v p) = accept (v, p)
-field_of (Refused e) = refuse (number_of e)
 
 -- what was read and the place after it, as an outcome
 abbrev pub placed : {A : Type 0} → Parsed A → Outcome (A × ℕ)

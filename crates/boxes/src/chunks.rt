@@ -7,30 +7,20 @@ ghost use Rattle.boxes.specs.inner.Chunks.{chunk_stepped};
 
 use super::{Span, place};
 
-// A length and that many bytes: where the bytes lie, or that they are not all there.
-#[derive(Clone, Copy)]
-pub enum ChunkRead {
-    Bytes(Span),
-    Short,
-}
-
-// A length of `width` bytes and that many bytes, all before `end`.
-pub fn chunk(s: &[u8], at: usize, end: usize, width: usize) -> ChunkRead
+// Where the bytes lie that follow their length of `width` bytes, all before `end`; none where they are not all there.
+pub fn chunk(s: &[u8], at: usize, end: usize, width: usize) -> Option<Span>
     requires { (width ≤ 4) × (at ≤ end) × (end ≤ length s.now) × (length s.now ≤ 2 ^ 30) }
     ensures { chunk_stepped result ≡ chunk_of width (take end s.now) at }
 {
     if end - at < width {
-        return ChunkRead::Short;
+        return None;
     }
-    let n = place::number(s, at, width);
+    let len = place::number(s, at, width);
     let start = at + width;
-    if end - start < n {
-        return ChunkRead::Short;
+    if end - start < len {
+        return None;
     }
-    ChunkRead::Bytes(Span {
-        start: start,
-        len: n,
-    })
+    Some(Span { start, len })
 }
 
 // Stores bytes after their length of `width` bytes.

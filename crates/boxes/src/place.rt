@@ -1,27 +1,14 @@
 // Internal: reads, writes and copies bytes and numbers at places that a caller has tested, and cuts parts out of lent memory.
-ghost use Rattle.std.specs.Prelude.{◌≡◌, [], ◌+◌, ◌≤◌, ◌<◌, ◌^◌, length, get_or, set};
+ghost use Rattle.std.specs.Prelude.{◌≡◌, ◌+◌, ◌≤◌, ◌<◌, ◌^◌, length, get_or, set};
 ghost use Rattle.std.proofs.lemmas.List.Edits.{sets};
-ghost use Rattle.parse.specs.Logic.{bit};
+ghost use Rattle.parse.specs.Answers.{answer_of};
 ghost use Rattle.boxes.specs.Bytes.{be, to_be, outside};
 ghost use Rattle.boxes.specs.Parts.{PartOf};
-ghost use Rattle.boxes.specs.Places.{place_of, PlaceFits};
-ghost use Rattle.boxes.specs.inner.Places.{lying, span_in_first};
+ghost use Rattle.boxes.specs.Places.{PlaceFits};
+ghost use Rattle.boxes.specs.inner.Places.{lying};
 
-use super::{Span, UnitPlace};
-
-// A byte as a usize.
-pub fn wide(x: u8) -> usize
-    ensures { (result ≡ x) × (result < 256) }
-{
-    x as usize
-}
-
-// 1 for a flag that is set.
-pub fn bit_of(b: bool) -> u8
-    ensures { (result ≡ bit b) × (result ≤ 1) }
-{
-    if b { 1 } else { 0 }
-}
+use super::Span;
+use error::Refusal;
 
 // Whether a prefix size is outside 1 to 4.
 pub fn outside(length_size: u8) -> bool
@@ -42,8 +29,8 @@ fn number_of_four(s: &[u8], at: usize) -> usize
     requires { at + 4 ≤ length s.now }
     ensures { (result ≡ be s.now at 4) × (result < 256 ^ 4) }
 {
-    let high = wide(s[at]) * 256 + wide(s[at + 1]);
-    let low = wide(s[at + 2]) * 256 + wide(s[at + 3]);
+    let high = usize::from(s[at]) * 256 + usize::from(s[at + 1]);
+    let low = usize::from(s[at + 2]) * 256 + usize::from(s[at + 3]);
     high * 65536 + low
 }
 
@@ -56,10 +43,8 @@ pub fn number(s: &[u8], at: usize, width: usize) -> usize
         return number_of_four(s, at);
     }
     let mut n: usize = 0;
-    let mut k: usize = 0;
-    while k < width {
-        n = n * 256 + wide(s[at + k]);
-        k += 1;
+    for k in 0..width {
+        n = n * 256 + usize::from(s[at + k]);
     }
     n
 }
@@ -69,21 +54,18 @@ pub fn part(s: &[u8], a: Span) -> &[u8]
     requires { a.start + a.len ≤ length s.now }
     ensures { PartOf result s.entry a }
 {
-    let from = a.start;
-    let to = a.start + a.len;
-    &s[from..to]
+    &s[a.start..a.start + a.len]
 }
 
-// The part of the first slice where a unit lies; the empty part where none lies in it.
-pub fn part_at(s: &[u8], unit: UnitPlace) -> &[u8]
-    requires { PlaceFits s.now [] unit }
-    ensures { PartOf result s.entry (span_in_first (lying (place_of unit))) }
+// The part where a unit lies; the empty part where there is none, and on a refusal.
+pub fn part_at(s: &[u8], unit: Result<Option<Span>, Refusal>) -> &[u8]
+    requires { PlaceFits s.now unit }
+    ensures { PartOf result s.entry (lying (answer_of unit)) }
 {
-    let UnitPlace::First(a) = unit else {
-        let nowhere = Span { start: 0, len: 0 };
-        return part(s, nowhere);
-    };
-    part(s, a)
+    match unit {
+        Ok(Some(a)) => part(s, a),
+        _ => &s[..0],
+    }
 }
 
 // Stores a byte at a place; past the end nothing is stored.
@@ -101,10 +83,9 @@ pub fn put_number(out: &mut [u8], at: usize, width: usize, v: usize)
     ensures { out.new ≡ sets out.old at (to_be width v) }
 {
     let mut n = v;
-    let mut k: usize = 0;
-    while k < width {
-        k += 1;
-        let i = at + width - k;
+    for k in 0..width {
+        let i = at + width - (k + 1);
+        // `as`: below 256, so nothing is lost.
         out[i] = (n % 256) as u8;
         n = n / 256;
     }
@@ -117,7 +98,7 @@ pub const BLOCK: usize = 16384;
 fn block_len(left: usize) -> usize
     ensures { (result ≤ left) × (result ≤ 16384) × (0 < left → 0 < result) }
 {
-    if BLOCK < left { BLOCK } else { left }
+    left.min(BLOCK)
 }
 
 // Copies a block through a local array. The array overlaps neither slice, so the compiler moves the block at once and leaves the array out.
@@ -137,6 +118,7 @@ pub fn copy(src: &[u8], out: &mut [u8], at: usize)
     ensures { out.new ≡ sets out.old at src.now }
 {
     let mut done: usize = 0;
+    // No single copy: in blocks it is faster (decision 17).
     while done < src.len() {
         let n = block_len(src.len() - done);
         copy_block(&src[done..done + n], out, at + done);

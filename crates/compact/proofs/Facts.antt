@@ -22,9 +22,10 @@ use Rattle.unit_list.specs.inner.Written.{unit_bytes}
 use Rattle.unit_list.proofs.Arrays.{sound_none, sound_more}
 use Rattle.unit_list.proofs.Encode.{UnitsRead, units_encode}
 use Rattle.unit_list.proofs.StoredUnits.{room_more}
-use Rattle.compact.specs.Compact.{compact_record, CompactParsed, one_array, parsed_with, parse_compact}
+use Rattle.compact.specs.Compact.{compact_record, one_array, parsed_with, parse_compact}
 use Rattle.compact.specs.Compact.{all_at_most, compact_bytes, serialize_compact, config_of, compact_first_byte}
 use Rattle.compact.specs.inner.Units.{record_units}
+use Rattle.compact.specs.declared.CompactRead.{CompactRead}
 use Rattle.compact.specs.declared.CompactVvcConfig.{CompactVvcConfig}
 use Rattle.compact.proofs.OneArray.{list_long}
 use Rattle.compact.proofs.RecordRead.{times_length, parse_too_long, parse_empty, parse_short, parse_over, parse_given, record_given_lem}
@@ -130,7 +131,7 @@ module _ (s : List ℕ) (all : AllBytes s) where
 -- ### the record
 
 -- the parts of what reading returned
-record Taken (s : List ℕ) (r : CompactParsed) (list : List ℕ) : Type 0 where
+record Taken (s : List ℕ) (r : CompactRead) (list : List ℕ) : Type 0 where
   lent : length s ≤ 2 ^ 30
   some : 1 ≤ length s
   spans : List Span
@@ -141,7 +142,7 @@ record Taken (s : List ℕ) (r : CompactParsed) (list : List ℕ) : Type 0 where
   count : r.unit_count ≡ length spans
   list_is : list ≡ one_array (map (held s) spans)
 
-taken : (s : List ℕ) (r : CompactParsed) (list : List ℕ) → parse_compact s ≡ accept (r, list) → Taken s r list
+taken : (s : List ℕ) (r : CompactRead) (list : List ℕ) → parse_compact s ≡ accept (r, list) → Taken s r list
 taken s r list e =
     elim (dec_le (length s) (2 ^ 30)) [
       | no h ↦ absurd (never 23 (parse_too_long s (omega arith)))
@@ -166,9 +167,9 @@ taken s r list e =
           last = q;
           read = f;
           end = g;
-          config = ap (λ (y : CompactParsed × List ℕ). y.0.config) (sym x);
-          count = ap (λ (y : CompactParsed × List ℕ). y.0.unit_count) (sym x);
-          list_is = ap (λ (y : CompactParsed × List ℕ). y.1) (sym x);
+          config = ap (λ (y : CompactRead × List ℕ). y.0.config) (sym x);
+          count = ap (λ (y : CompactRead × List ℕ). y.0.unit_count) (sym x);
+          list_is = ap (λ (y : CompactRead × List ℕ). y.1) (sym x);
         }
 
     go : length s ≤ 2 ^ 30 → 1 ≤ length s → (x : Parsed (List Span)) → record_units s (get_or s 0 0 % 32 + 2) ≡ x → Taken s r list
@@ -180,7 +181,7 @@ taken s r list e =
         ]
 
 -- What is known of a compact record C that was read as r and list: where its units lie, what they are, and that the list has them.
-pub record CompactFacts (C : List ℕ) (r : CompactParsed) (list : List ℕ) : Type 0 where
+pub record CompactFacts (C : List ℕ) (r : CompactRead) (list : List ℕ) : Type 0 where
   pub spans : List Span
   pub whole : compact_record C 0 ≡ value (r.config, spans) (length C)
   pub units : List (List ℕ)
@@ -214,7 +215,7 @@ units_one us h =
     (sound_more (omega arith) (omega arith) (omega arith) sound_none) in
     record { spans = u.spans; read = u.read; bytes = u.bytes ∙ append-nil us }
 
-module _ (C : List ℕ) (all : AllBytes C) (r : CompactParsed) (list : List ℕ) (e : parse_compact C ≡ accept (r, list)) where
+module _ (C : List ℕ) (all : AllBytes C) (r : CompactRead) (list : List ℕ) (e : parse_compact C ≡ accept (r, list)) where
   pub compact_facts : CompactFacts C r list
   compact_facts =
       let k = taken C r list e in

@@ -8,6 +8,7 @@ use Rattle.boxes.specs.Parts.{held}
 use Rattle.boxes.specs.declared.Span.{Span}
 use Rattle.unit_list.specs.UnitList.{encode, encode_units}
 use Rattle.unit_list.specs.Answers.{list_units}
+use Rattle.compact.specs.declared.CompactRead.{CompactRead}
 use Rattle.compact.specs.declared.CompactVvcConfig.{CompactVvcConfig}
 
 -- the record must end here: 7 if bytes are left
@@ -26,23 +27,17 @@ compact_record = do
   at_end
   give (config_of b, units)
 
--- what reading returns: the configuration, the unit count, and the length of the list
-pub record CompactParsed : Type 0 where
-  pub config : CompactVvcConfig
-  pub unit_count : ℕ
-  pub list_length : ℕ
-
 -- the unit list of one array with complete 0 and type 0 (SCOPE 3.2)
 abbrev pub one_array : List (List ℕ) → List ℕ
 one_array us = encode (record { complete = 0; reserved_bit = 0; unit_type = 0; units = us } ∷ [])
 
 -- what is returned, and the list, for r as read from s
-abbrev pub parsed_with : List ℕ → CompactVvcConfig × List Span → CompactParsed × List ℕ
+abbrev pub parsed_with : List ℕ → CompactVvcConfig × List Span → CompactRead × List ℕ
 parsed_with s r =
     (record { config = r.0; unit_count = length r.1; list_length = length (one_array (map (held s) r.1)) }, one_array (map (held s) r.1))
 
 -- `compact_read::parse`. Refusals: 23, 1, 7; with an output 20
-unfoldable pub parse_compact : List ℕ → Outcome (CompactParsed × List ℕ)
+unfoldable pub parse_compact : List ℕ → Outcome (CompactRead × List ℕ)
 parse_compact s = lent_input s (and_then (outcome (compact_record s 0)) (λ r. accept (parsed_with s r)))
 
 -- every unit has at most n bytes

@@ -1,6 +1,5 @@
 -- Item data restored from stored bytes and stripped to them (SCOPE 3.11 and 4.1; ISO/IEC 23008-12 Amd 2 L.4.3.3.3).
-use Rattle.std.specs.Prelude.{ℕ, ◌^◌, Bool, false, ◌&&◌, List, [], ◌∷◌, ◌++◌, leb, eqb, length, drop, if◌then◌else◌}
-use Rattle.std.proofs.Math.Option.{Option, none, some}
+use Rattle.std.specs.Prelude.{ℕ, ◌^◌, Bool, false, ◌&&◌, List, [], ◌∷◌, ◌++◌, leb, eqb, length, drop, if◌then◌else◌, Option, None, Some}
 use Rattle.parse.specs.Outcome.{Outcome, accept, refuse, lent_input}
 use Rattle.boxes.specs.Bytes.{to_chunk, outside}
 use Rattle.boxes.specs.Parts.{held}
@@ -27,8 +26,8 @@ restore c stored =
 
 -- a field is present and is n
 abbrev pub is : ℕ → Option ℕ → Bool
-is n none = false
-is n (some m) = eqb m n
+is n None = false
+is n (Some m) = eqb m n
 
 -- a unit of type 8, layer 0 and temporal id plus 1 of 1
 abbrev pub is_still : List ℕ → Bool

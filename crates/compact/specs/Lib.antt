@@ -1,4 +1,3 @@
 pub mod Compact
 pub mod ItemData
-pub mod Answers
 pub mod inner

@@ -10,51 +10,49 @@ ghost use Rattle.compact_read.specs.inner.Room.{RoomSays, found_list};
 
 use boxes::place;
 use compact::CompactVvcConfig;
-use counted_units::{ListRoom, units};
+use counted_units::units;
 use error::{LARGEST_INPUT, Refusal};
 use unit_list::{LIST_WIDTH, write};
 
 // Where the units lie in the list: after the version, and the length, complete byte and type of its one array.
 pub const UNITS_AT: usize = 7;
 
-// The unit count of a record and the bytes that its units take in a list; or the refusal.
-#[derive(Clone, Copy)]
-pub enum RecordRoom {
-    Room(usize, usize),
-    Refused(Refusal),
+// The unit count of a record and the bytes that its units take in a list.
+#[derive(Clone, Copy, Debug, PartialEq, Eq)]
+pub struct RecordRoom {
+    pub count: usize,
+    pub room: usize,
 }
 
 // The configuration in the first byte of a record.
 pub fn config_of(first: u8) -> CompactVvcConfig
     ensures { result ≡ config_of first }
 {
-    let flag = first / 128 == 1;
-    let size = first / 32 % 4 + 1;
     CompactVvcConfig {
-        multi_layer_flag: flag,
-        length_size: size,
+        multi_layer_flag: first / 128 == 1,
+        length_size: first / 32 % 4 + 1,
     }
 }
 
 // Measures the units of a whole record. Refusals: 23, 1, 7.
-pub fn record_room(record: &[u8]) -> RecordRoom
+pub fn record_room(record: &[u8]) -> Result<RecordRoom, Refusal>
     ensures { RoomSays «record».now result }
 {
     if LARGEST_INPUT < record.len() {
-        return RecordRoom::Refused(Refusal::InputTooLong);
+        return Err(Refusal::InputTooLong);
     }
     let first = place::byte(record, 0);
-    if record.len() == 0 {
-        return RecordRoom::Refused(Refusal::Truncated);
+    if record.is_empty() {
+        return Err(Refusal::Truncated);
     }
-    let count = place::wide(first) % 32 + 2;
-    let ListRoom::Room(room, after) = units::units_room(record, 1, count, 1) else {
-        return RecordRoom::Refused(Refusal::Truncated);
+    let count = usize::from(first) % 32 + 2;
+    let Some((room, after)) = units::units_room(record, 1, count, 1) else {
+        return Err(Refusal::Truncated);
     };
     if after < record.len() {
-        return RecordRoom::Refused(Refusal::BytesLeftOver);
+        return Err(Refusal::BytesLeftOver);
     }
-    RecordRoom::Room(count, room)
+    Ok(RecordRoom { count, room })
 }
 
 // Stores the list of `count` units, which take `room` bytes: version, the head of the one array, the units.

@@ -10,7 +10,8 @@ use lib.Seq.{sets}
 use borrow.Author.Tests.{leb-true}
 use Rattle.error.specs.Refusals.{number_of}
 use Rattle.error.specs.declared.Refusal.{Refusal}
-use Rattle.std.specs.Prelude.{if◌then◌else◌}
+use Rattle.std.specs.Borrow.{Bor}
+use Rattle.std.specs.Prelude.{if◌then◌else◌, Result, Ok, Err}
 use Rattle.parse.specs.Outcome.{Outcome, accept, refuse, and_then}
 use Rattle.parse.specs.inner.Walk.{more}
 use Rattle.parse.specs.inner.Stores.{bytes_of}
@@ -19,16 +20,13 @@ use Rattle.boxes.specs.Bytes.{outside}
 use Rattle.boxes.specs.declared.Span.{Span}
 use Rattle.boxes.proofs.PrefixSizes.{size_inside}
 use Rattle.boxes.proofs.Spans.{held_long}
-use Rattle.unit_list.specs.UnitList.{encode_units, decode}
-use Rattle.unit_list.specs.inner.Walk.{typed_list, typed_units_from, started, arrays_started, StartFits, stepped, Fits, StepFits}
-use Rattle.unit_list.specs.inner.Walk.{units_left}
+use Rattle.unit_list.specs.UnitList.{encode_units}
+use Rattle.unit_list.specs.inner.Walk.{Fits, units_left}
+use Rattle.unit_list.specs.inner.Walks.{left_of, Starts}
 use Rattle.unit_list.specs.inner.Written.{unit_bytes}
 use Rattle.unit_list.specs.declared.ListCursor.{ListCursor}
-use Rattle.unit_list.specs.declared.ListStart.{ListStart}
-use Rattle.unit_list.specs.declared.ListStart.TheVariants as S
-use Rattle.unit_list.specs.declared.ListStep.{ListStep}
-use Rattle.unit_list.specs.declared.ListStep.TheVariants as L
-use Rattle.unit_list.proofs.Turns.{ListTurn, list_found, list_end, start_units, start_refused}
+use Rattle.unit_list.specs.declared.ListWalk.{ListWalk}
+use Rattle.unit_list.proofs.Turns.{ListTurn, walk_list, walk_units, walk_refused}
 use Rattle.unit_list.proofs.StoredUnits.{room_more}
 use Rattle.compact.specs.Compact.{all_at_most, compact_bytes, serialize_compact, compact_first_byte}
 use Rattle.compact.specs.declared.CompactVvcConfig.{CompactVvcConfig}
@@ -68,18 +66,14 @@ module _ (s : List ℕ) (c : ListCursor) where
   pub summing_start : Fits s c → Summing s c c no_units
   summing_start h = record { fits = h; few = omega arith; whole = refl }
 
-  module _ (here : ListCursor) (v : RecordSum) (i : Summing s c here v) (r : ListStep)
-      (f : (stepped s r ≡ typed_units_from s here) × StepFits s here r) where
-    pub summing_end : r ≡ L.End → (accept v ≡ summed s no_units (units_left s c)) × (v.room ≤ 2 ^ 32)
+  module _ (here : ListCursor) (v : RecordSum) (i : Summing s c here v) where
+    pub summing_end : units_left s here ≡ accept [] → (accept v ≡ summed s no_units (units_left s c)) × (v.room ≤ 2 ^ 32)
     summing_end e = (
-      ap accept (sym (adding_none s v)) ∙ ap (summed s v) (sym (list_end s here r f e)) ∙ i.whole,
+      ap accept (sym (adding_none s v)) ∙ ap (summed s v) (sym e) ∙ i.whole,
       omega (arith, i.few, i.fits.before, i.fits.within, i.fits.lent),
     )
 
-    module _ (a : Span) (next : ListCursor) (e : r ≡ L.Unit a next) where
-      turn : ListTurn s here a next
-      turn = list_found s here r f a next e
-
+    module _ (a : Span) (next : ListCursor) (turn : ListTurn s here a next) where
       pub summing_again : Summing s c next (adding_unit a.len v)
       summing_again =
           record {
@@ -167,11 +161,11 @@ module _ (c : CompactVvcConfig) (s : List ℕ) (o : Outcome (List Span)) (v : Re
   record_room_lem = let l = ap (λ (x : Outcome (List Span)). length (bytes_of (unit_bytes 1 s) x)) m.found in omega (arith, m.room)
 
 -- the whole list, from its start
-module _ (c : CompactVvcConfig) (s : List ℕ) (r : ListStart) (f : (started s r ≡ typed_list s) × (arrays_started s r ≡ decode s) × StartFits s r) where
-  pub serialize_start : (d : ListCursor) → r ≡ S.At d → compact_record_of c s (units_left s d) ≡ serialize_compact c s
+module _ (c : CompactVvcConfig) (l : Bor (List ℕ)) (r : Result ListWalk Refusal) (f : Starts l r) where
+  pub serialize_start : (w : ListWalk) → r ≡ Ok w → compact_record_of c w.list.now (left_of w) ≡ serialize_compact c l.now
   unfolding serialize_compact
-  serialize_start d e = ap (compact_record_of c s) (start_units s r f d e)
+  serialize_start w e = rw (walk_list l r f w e) (ap (compact_record_of c l.now) (walk_units l r f w e))
 
-  pub serialize_refused : (e : Refusal) → r ≡ S.Refused e → serialize_compact c s ≡ refuse (number_of e)
+  pub serialize_refused : (e : Refusal) → r ≡ Err e → serialize_compact c l.now ≡ refuse (number_of e)
   unfolding serialize_compact
-  serialize_refused n e = ap (compact_record_of c s) (sym (start_refused s r f n e))
+  serialize_refused n e = ap (compact_record_of c l.now) (sym (walk_refused l r f n e))

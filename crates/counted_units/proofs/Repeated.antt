@@ -1,21 +1,21 @@
 -- Laws of a parser repeated n times whose values are measured and stored one after the other: what is done and what is left are the
 -- whole. The same laws serve the units of an array and the arrays of a record.
-use Prim.Native.Nat.{ℕ, zero, suc, ◌+◌, ◌-◌, ◌*◌, ◌≤◌, ◌<◌}
+use Prim.Native.Nat.{ℕ, zero, suc, ◌+◌, ◌*◌, ◌≤◌}
 use mathlib.Core.Path.{◌≡◌, refl, sym, ap, ◌∙◌, subst}
 use mathlib.Core.List.{List, [], ◌∷◌, ◌++◌}
 use native.Mathlib.Omega.{arith}
 use lib.ListN.{length, length-append}
 use lib.Seq.{sets}
+use Rattle.std.specs.Prelude.{Option, Some, None}
 use Rattle.parse.specs.Parse.{Parsed, value, refused, bind, Parser, times, outcome}
 use Rattle.parse.specs.Outcome.{Outcome, accept}
 use Rattle.parse.specs.inner.Walk.{more}
 use Rattle.parse.specs.inner.Stores.{bytes_of, Puts}
+use Rattle.parse.specs.inner.Answers.{there_of}
 use Rattle.parse.proofs.Many.{times_nil, times_step, times_bad}
 use Rattle.parse.proofs.Stores.{Putting, putting_never, putting_end, putting_room, putting_again}
 use Rattle.parse.proofs.Binds.{outcome_more}
-use Rattle.counted_units.specs.inner.Counted.{list_room_of, RoomFits, room_taken, place_after, StoredAt}
-use Rattle.counted_units.specs.declared.ListRoom.{ListRoom}
-use Rattle.counted_units.specs.declared.ListRoom.TheVariants as M
+use Rattle.counted_units.specs.inner.Counted.{RoomFits, room_taken, place_after, StoredAt}
 use Rattle.counted_units.specs.declared.Stored.{Stored}
 
 -- what a measurement says
@@ -42,13 +42,13 @@ pub record RoomAt (s : List ℕ) (p : ℕ) (x : Parsed ℕ) (n q : ℕ) : Type 0
   pub inside : q ≤ length s
   pub few : p * 6 + n ≤ q * 6
 
-module _ (s : List ℕ) (p : ℕ) (x : Parsed ℕ) (r : ListRoom) (f : (list_room_of r ≡ x) × RoomFits s p r) where
-  pub room_short : r ≡ M.Short → refused 1 ≡ x
-  room_short e = sym (ap list_room_of e) ∙ f.0
+module _ (s : List ℕ) (p : ℕ) (x : Parsed ℕ) (r : Option (ℕ × ℕ)) (f : (there_of r ≡ x) × RoomFits s p r) where
+  pub room_short : r ≡ None → refused 1 ≡ x
+  room_short e = sym (ap there_of e) ∙ f.0
 
-  pub room_at : (n q : ℕ) → r ≡ M.Room n q → RoomAt s p x n q
+  pub room_at : (n q : ℕ) → r ≡ Some (n, q) → RoomAt s p x n q
   room_at n q e =
-      let g = subst (λ (r : ListRoom). (list_room_of r ≡ x) × RoomFits s p r) e f in
+      let g = subst (λ (r : Option (ℕ × ℕ)). (there_of r ≡ x) × RoomFits s p r) e f in
       record { read = g.0; inside = g.1.0; few = g.1.1 }
 
 -- what was accepted, and the place after it
@@ -74,23 +74,22 @@ module _ {A : Type 0} (P : Parser A) (f : List ℕ → A → List ℕ) (F : List
       let e : k + length (F s []) ≡ k = omega arith in
       ap (room_taken F s k) (times_done n p h) ∙ ap (λ (m : ℕ). value m p) e
 
-  module _ (n p : ℕ) (some : 0 < n) where
+  -- m values are left after the next
+  module _ (n p m : ℕ) (some : n ≡ suc m) where
     pub times_refused : (e : ℕ) → P s p ≡ refused e → times n P s p ≡ refused e
-    times_refused e w = let m : n ≡ suc (n - 1) = omega arith in rw m (times_bad P s (n - 1) p e w)
+    times_refused e w = rw some (times_bad P s m p e w)
 
     module _ (a : A) (q : ℕ) (w : P s p ≡ value a q) where
-      times_more : times n P s p ≡ bind (times (n - 1) P s q) (λ rest r. value (a ∷ rest) r)
-      times_more =
-          let m : n ≡ suc (n - 1) = omega arith in
-          ap (λ (k : ℕ). times k P s p) m ∙ times_step P s (n - 1) p a q w
+      times_more : times n P s p ≡ bind (times m P s q) (λ rest r. value (a ∷ rest) r)
+      times_more = ap (λ (k : ℕ). times k P s p) some ∙ times_step P s m p a q w
 
-      room_bind : (k m : ℕ) → m ≡ k + length (f s a)
-          → (x : Parsed (List A)) → room_taken F s m x ≡ room_taken F s k (bind x (λ rest r. value (a ∷ rest) r))
-      room_bind k m e (value xs r) = ap (λ (j : ℕ). value j r) (let l = room_more a xs in omega arith)
-      room_bind k m e (refused j) = refl
+      room_bind : (k l : ℕ) → l ≡ k + length (f s a)
+          → (x : Parsed (List A)) → room_taken F s l x ≡ room_taken F s k (bind x (λ rest r. value (a ∷ rest) r))
+      room_bind k l e (value xs r) = ap (λ (j : ℕ). value j r) (let h = room_more a xs in omega arith)
+      room_bind k l e (refused j) = refl
 
-      pub room_next : (k m : ℕ) → m ≡ k + length (f s a) → room_taken F s m (times (n - 1) P s q) ≡ room_taken F s k (times n P s p)
-      room_next k m e = room_bind k m e (times (n - 1) P s q) ∙ ap (room_taken F s k) (sym times_more)
+      pub room_next : (k l : ℕ) → l ≡ k + length (f s a) → room_taken F s l (times m P s q) ≡ room_taken F s k (times n P s p)
+      room_next k l e = room_bind k l e (times m P s q) ∙ ap (room_taken F s k) (sym times_more)
 
   -- ### stored
   place_more : (a : A) (x : Parsed (List A)) → place_after (bind x (λ rest r. value (a ∷ rest) r)) ≡ place_after x
@@ -109,30 +108,30 @@ module _ {A : Type 0} (P : Parser A) (f : List ℕ → A → List ℕ) (F : List
         let w = putting_end (F s) out₀ start (outcome x₀) (outcome (times n P s p)) out to i.putting (none s) (ap outcome e) in
         record { written = w.1; from = sym (ap place_after e) ∙ i.place; to = w.0 }
 
-    module _ (some : 0 < n) where
+    module _ (m : ℕ) (some : n ≡ suc m) where
       -- the next value is there
       pub storing_not_short : (e : ℕ) → P s p ≡ refused e → ⊥
       storing_not_short e w =
-          putting_never (F s) out₀ start (outcome x₀) (outcome (times n P s p)) out to i.putting e (ap outcome (times_refused n p some e w))
+          putting_never (F s) out₀ start (outcome x₀) (outcome (times n P s p)) out to i.putting e (ap outcome (times_refused n p m some e w))
 
       module _ (a : A) (q : ℕ) (w : P s p ≡ value a q) where
         -- the rest after one more
-        left : outcome (times n P s p) ≡ more a (outcome (times (n - 1) P s q))
-        left = ap outcome (times_more n p some a q w) ∙ outcome_more a (times (n - 1) P s q)
+        left : outcome (times n P s p) ≡ more a (outcome (times m P s q))
+        left = ap outcome (times_more n p m some a q w) ∙ outcome_more a (times m P s q)
 
-        pub storing_next : (d : List ℕ) → d ≡ sets out to (f s a) → (t : ℕ) → t ≡ to + length (f s a) → Storing out₀ start x₀ (n - 1) q d t
+        pub storing_next : (d : List ℕ) → d ≡ sets out to (f s a) → (t : ℕ) → t ≡ to + length (f s a) → Storing out₀ start x₀ m q d t
         storing_next d e t v =
             record {
               putting =
                   putting_again (F s) out₀ start (outcome x₀) (outcome (times n P s p)) out to i.putting a (f s a) (first s a)
-                  (outcome (times (n - 1) P s q)) left d e t v;
-              place = sym (place_more a (times (n - 1) P s q)) ∙ ap place_after (sym (times_more n p some a q w)) ∙ i.place;
+                  (outcome (times m P s q)) left d e t v;
+              place = sym (place_more a (times m P s q)) ∙ ap place_after (sym (times_more n p m some a q w)) ∙ i.place;
             }
 
         pub storing_room : to + length (f s a) ≤ length out
         storing_room =
             putting_room (F s) out₀ start (outcome x₀) (outcome (times n P s p)) out to i.putting a (f s a) (first s a)
-            (outcome (times (n - 1) P s q)) left
+            (outcome (times m P s q)) left
 
       one_of : (x : Parsed A) → P s p ≡ x → Puts (f s) (outcome (P s p)) out to
       one_of (value a q) w = record { it = a; found = ap outcome w; room = storing_room a q w }
@@ -143,7 +142,7 @@ module _ {A : Type 0} (P : Parser A) (f : List ℕ → A → List ℕ) (F : List
       storing_one = one_of (P s p) refl
 
       -- the rest when its bytes are stored
-      pub storing_stored : (d : List ℕ) (r : Stored) → StoredAt f s (P s p) out to d r → Storing out₀ start x₀ (n - 1) r.from d r.to
+      pub storing_stored : (d : List ℕ) (r : Stored) → StoredAt f s (P s p) out to d r → Storing out₀ start x₀ m r.from d r.to
       storing_stored d r v =
           let o = storing_one in
           let e : d ≡ sets out to (f s o.it) = v.written ∙ ap (λ (x : Outcome A). sets out to (bytes_of (f s) x)) o.found in

@@ -4,13 +4,12 @@ use mathlib.Core.Path.{◌≡◌}
 use mathlib.Core.List.{List, [], ◌∷◌, ◌++◌}
 use lib.ListN.{length, take}
 use lib.Seq.{take-length}
+use Rattle.std.specs.Prelude.{Option, Some, None}
 use Rattle.parse.specs.Parse.{value, refused}
 use Rattle.boxes.specs.Bytes.{chunk, to_chunk}
 use Rattle.boxes.specs.Parts.{held}
 use Rattle.boxes.specs.inner.Chunks.{chunk_stepped}
 use Rattle.boxes.specs.declared.Span.{Span}
-use Rattle.boxes.specs.declared.chunks.ChunkRead.{ChunkRead}
-use Rattle.boxes.specs.declared.chunks.ChunkRead.TheVariants as C
 use Rattle.boxes.proofs.Fields.{chunk_read}
 use Rattle.boxes.proofs.ChunkBytes.{chunk_bytes, chunk_refused}
 use Rattle.unit_list.specs.UnitList.{list_width}
@@ -34,11 +33,11 @@ pub record UnitAt (w : ℕ) (s : List ℕ) (p : ℕ) (a : Span) : Type 0 where
   pub inside : a.start + a.len ≤ length s
   pub room : length (unit_in_list s a) ≡ list_width + a.len
 
-module _ (w : ℕ) (s : List ℕ) (p : ℕ) (r : ChunkRead) (said : chunk_stepped r ≡ chunk w (take (length s) s) p) where
-  pub unit_short : r ≡ C.Short → chunk w s p ≡ refused 1
+module _ (w : ℕ) (s : List ℕ) (p : ℕ) (r : Option Span) (said : chunk_stepped r ≡ chunk w (take (length s) s) p) where
+  pub unit_short : r ≡ None → chunk w s p ≡ refused 1
   unit_short e = rw take-length at (chunk_refused r (chunk w (take (length s) s) p) said e)
 
-  pub unit_at : (a : Span) → r ≡ C.Bytes a → UnitAt w s p a
+  pub unit_at : (a : Span) → r ≡ Some a → UnitAt w s p a
   unit_at a e =
       let g : chunk w s p ≡ value a (a.start + a.len) = rw take-length at (chunk_bytes r (chunk w (take (length s) s) p) a said e) in
       let c = chunk_read w s p a (a.start + a.len) g in

@@ -1,33 +1,29 @@
 // Internal: `count` units of a record, each after a length of `width` bytes, measured and stored as units of a list.
 ghost use Rattle.std.specs.Prelude.{◌≡◌, ◌≤◌, ◌^◌, length};
 ghost use Rattle.parse.specs.Parse.{times, outcome};
+ghost use Rattle.parse.specs.inner.Answers.{there_of};
 ghost use Rattle.parse.specs.inner.Stores.{Puts};
 ghost use Rattle.boxes.specs.Bytes.{chunk};
-ghost use Rattle.counted_units.specs.inner.Counted.{units_in_list, list_room_of, RoomFits, room_taken, StoredAt};
+ghost use Rattle.counted_units.specs.inner.Counted.{units_in_list, RoomFits, room_taken, StoredAt};
 
-use super::{ListRoom, Stored};
+use super::Stored;
 use boxes::chunks;
-use boxes::chunks::ChunkRead;
 use unit_list::LIST_WIDTH;
 
-// Measures the units from place `from` on.
-pub fn units_room(record: &[u8], from: usize, count: usize, width: usize) -> ListRoom
+// Measures the units from place `from` on: the bytes that they take in a list, and the place after them; none where the record is too short.
+pub fn units_room(record: &[u8], from: usize, count: usize, width: usize) -> Option<(usize, usize)>
     requires { (1 ≤ width) × (width ≤ 4) × (length «record».now ≤ 2 ^ 30) × (from ≤ length «record».now) }
-    ensures { (list_room_of result ≡ room_taken units_in_list «record».now 0 (times count (chunk width) «record».now from))
+    ensures { (there_of result ≡ room_taken units_in_list «record».now 0 (times count (chunk width) «record».now from))
         × RoomFits «record».now from result }
 {
-    let mut left = count;
     let mut at = from;
     let mut room: usize = 0;
-    while 0 < left {
-        let ChunkRead::Bytes(a) = chunks::chunk(record, at, record.len(), width) else {
-            return ListRoom::Short;
-        };
+    for _ in 0..count {
+        let a = chunks::chunk(record, at, record.len(), width)?;
         room = room + LIST_WIDTH + a.len;
         at = a.start + a.len;
-        left -= 1;
     }
-    ListRoom::Room(room, at)
+    Some((room, at))
 }
 
 // Stores the units from place `from` on, which are all there, each after a length of a list that calls write.
@@ -44,17 +40,15 @@ pub fn put_units(
     ensures { StoredAt units_in_list «record».now (times count (chunk width) «record».now from) out.old to
         out.new result }
 {
-    let mut left = count;
     let mut at = from;
     let mut next = to;
-    while 0 < left {
-        let ChunkRead::Bytes(a) = chunks::chunk(record, at, record.len(), width) else {
+    for _ in 0..count {
+        let Some(a) = chunks::chunk(record, at, record.len(), width) else {
             return Stored { from: at, to: next };
         };
         chunks::put_unit(record, a, out, next, LIST_WIDTH);
         next = next + LIST_WIDTH + a.len;
         at = a.start + a.len;
-        left -= 1;
     }
     Stored { from: at, to: next }
 }

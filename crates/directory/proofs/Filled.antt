@@ -11,12 +11,12 @@ use borrow.Author.Tests.{le-leb}
 use Rattle.std.specs.Prelude.{if◌then◌else◌}
 use Rattle.parse.specs.Outcome.{Outcome, accept, overlay}
 use Rattle.boxes.specs.Parts.{nowhere}
-use Rattle.boxes.specs.Places.{in_first, nth}
+use Rattle.boxes.specs.Places.{nth}
 use Rattle.boxes.specs.declared.Span.{Span}
 use Rattle.unit_list.specs.UnitList.{Array, decode, units_of, units_of_type}
 use Rattle.unit_list.proofs.Accepted.{accepted}
 use Rattle.directory.specs.Directory.{entries_of, entries_of_type, filled, fill_directory, totals_of, in_use, asked_for, part_of_list, unit_asked}
-use Rattle.directory.specs.Directory.{place_asked, part_asked, count_asked}
+use Rattle.directory.specs.Directory.{part_asked, count_asked}
 use Rattle.directory.specs.Filled.{AnswersAsWalk, FilledAnswers, FrontsAnswer}
 use Rattle.directory.specs.declared.Asked.{Asked}
 use Rattle.directory.specs.declared.Asked.TheVariants.{FirstOfType, Number}
@@ -29,13 +29,7 @@ use Rattle.directory.proofs.Totals.{sum_totals, total_at}
 abbrev Inside : List ℕ → List Span → Type 0
 Inside s us = (k : ℕ) → (get_or us k nowhere).start + (get_or us k nowhere).len ≤ length s
 
--- unit k, by the units
-place_nth : (us : List Span) (k : ℕ) → place_asked (accept (nth us k)) ≡ accept (nth (map in_first us) k)
-unfolding nth
-place_nth [] k = refl
-place_nth (u ∷ us) zero = refl
-place_nth (u ∷ us) (suc k) = place_nth us k
-
+-- the part of unit k, by the units
 part_nth : (us : List Span) (k : ℕ) → part_asked (accept (nth us k)) ≡ get_or us k nowhere
 unfolding nth
 part_nth [] k = refl
@@ -94,10 +88,10 @@ module _ (s : List ℕ) where
 
     answers : AnswersAsWalk s d (totals_of es)
     answers = record {
-      first_at = λ t. rw e (ap place_asked (first t) ∙ place_nth (units_of_type t xs) 0);
+      first_at = λ t. rw e (first t);
       first = λ t. rw e (ap part_asked (first t) ∙ part_nth (units_of_type t xs) 0);
       count = λ t. rw e (count t);
-      number_at = λ k. rw e (ap place_asked (number k) ∙ place_nth (units_of xs) k);
+      number_at = λ k. rw e (number k);
       number = λ k. rw e (ap part_asked (number k) ∙ part_nth (units_of xs) k);
     }
 

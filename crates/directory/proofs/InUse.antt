@@ -10,7 +10,6 @@ use borrow.Author.Tests.{leb-true, le-leb, lt-leb}
 use Rattle.std.specs.Prelude.{if◌then◌else◌}
 use Rattle.parse.specs.Outcome.{accept, refuse}
 use Rattle.directory.specs.Directory.{sum, in_use}
-use Rattle.directory.specs.inner.Entries.{number_in}
 
 module _ (s totals : List ℕ) (room : ℕ) where
   pub used_too_long : 2 ^ 30 < length s → refuse 23 ≡ in_use s totals room
@@ -27,11 +26,11 @@ module _ (s totals : List ℕ) (room : ℕ) where
     used_fit h = rw (le-leb (length s) (2 ^ 30) lent, le-leb (sum totals) room h)
 
 -- they are at most those of the directory
-pub used_fits : (s totals : List ℕ) (room : ℕ) → number_in (in_use s totals room) ≤ room
+pub used_fits : (s totals : List ℕ) (room n : ℕ) → accept n ≡ in_use s totals room → n ≤ room
 unfolding in_use
-used_fits s totals room = go (leb (length s) (2 ^ 30)) (leb (sum totals) room) refl
+used_fits s totals room n = go (leb (length s) (2 ^ 30)) (leb (sum totals) room) refl
   where
-    go : (b c : Bool) → leb (sum totals) room ≡ c → number_in (if b then (if c then accept (sum totals) else refuse 1) else refuse 23) ≤ room
-    go true true h = leb-true (sum totals) room h
-    go true false h = omega arith
-    go false c h = omega arith
+    go : (b c : Bool) → leb (sum totals) room ≡ c → accept n ≡ (if b then (if c then accept (sum totals) else refuse 1) else refuse 23) → n ≤ room
+    go true true h e = let f : n ≡ sum totals = cc in omega (arith, leb-true (sum totals) room h)
+    go true false h e = absurd (let z : ◌≡◌ {A = ℕ} 0 1 = cc in omega arith)
+    go false c h e = absurd (let z : ◌≡◌ {A = ℕ} 0 1 = cc in omega arith)

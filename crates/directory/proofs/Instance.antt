@@ -3,7 +3,7 @@
 use Prim.Native.Nat.{ℕ, ◌-◌, ◌^◌}
 use mathlib.Core.Path.{◌≡◌, refl}
 use mathlib.Core.List.{List, [], ◌∷◌, ◌++◌}
-use mathlib.Core.Option.{none, some}
+use Rattle.std.specs.Prelude.{None, Some}
 use lib.ListN.{length, replicate}
 use Rattle.parse.specs.Outcome.{accept, refuse}
 use Rattle.parse.specs.Parse.{many, many_up_to}
@@ -64,12 +64,12 @@ module _ (a b c d e f : Entry) (totals : List ℕ) where
 
   pub record Answers : Type 0 where
     -- the first of types 15, 16 and 20, numbers 1 and 3, and number 4, which is not in use
-    pub first15 : unit_asked (FirstOfType 15) listed directory list_totals ≡ accept (some (span 11 2))
-    pub first16 : unit_asked (FirstOfType 16) listed directory list_totals ≡ accept (some (span 27 1))
-    pub first20 : unit_asked (FirstOfType 20) listed directory list_totals ≡ accept none
-    pub number1 : unit_asked (Number 1) listed directory list_totals ≡ accept (some (span 17 0))
-    pub number3 : unit_asked (Number 3) listed directory list_totals ≡ accept (some (span 38 3))
-    pub number4 : unit_asked (Number 4) listed directory list_totals ≡ accept none
+    pub first15 : unit_asked (FirstOfType 15) listed directory list_totals ≡ accept (Some (span 11 2))
+    pub first16 : unit_asked (FirstOfType 16) listed directory list_totals ≡ accept (Some (span 27 1))
+    pub first20 : unit_asked (FirstOfType 20) listed directory list_totals ≡ accept None
+    pub number1 : unit_asked (Number 1) listed directory list_totals ≡ accept (Some (span 17 0))
+    pub number3 : unit_asked (Number 3) listed directory list_totals ≡ accept (Some (span 38 3))
+    pub number4 : unit_asked (Number 4) listed directory list_totals ≡ accept None
     -- how many there are of types 15, 16, 20, and 200, which has no total
     pub count15 : count_asked 15 listed directory list_totals ≡ accept 3
     pub count16 : count_asked 16 listed directory list_totals ≡ accept 1
@@ -110,9 +110,9 @@ module _ (a b c d e f : Entry) (totals : List ℕ) where
     pub huge_count : count_asked 0 listed directory huge ≡ refuse 1
     pub past_end : unit_asked (Number 0) listed other list_totals ≡ refuse 1
     pub past_end_first : unit_asked (FirstOfType 15) listed other list_totals ≡ refuse 1
-    pub whole : unit_asked (Number 1) listed other list_totals ≡ accept (some (span 0 41))
-    pub zeros_number : unit_asked (Number 0) listed directory (replicate 64 0) ≡ accept none
-    pub zeros_first : unit_asked (FirstOfType 15) listed directory (replicate 64 0) ≡ accept none
+    pub whole : unit_asked (Number 1) listed other list_totals ≡ accept (Some (span 0 41))
+    pub zeros_number : unit_asked (Number 0) listed directory (replicate 64 0) ≡ accept None
+    pub zeros_first : unit_asked (FirstOfType 15) listed directory (replicate 64 0) ≡ accept None
     pub zeros_count : count_asked 15 listed directory (replicate 64 0) ≡ accept 0
 
   pub not_filled : NotFilled

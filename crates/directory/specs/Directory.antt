@@ -1,9 +1,8 @@
 -- A directory of the units of a list (SCOPE 4.12): how it is filled, and what a question to any directory and totals answers.
-use Rattle.std.specs.Prelude.{ℕ, zero, suc, ◌+◌, List, [], ◌∷◌, ◌++◌, map, eqb, leb, length, get_or, take, if◌then◌else◌}
-use Rattle.std.proofs.Math.Option.{Option, none, some}
+use Rattle.std.specs.Prelude.{ℕ, zero, suc, ◌+◌, List, [], ◌∷◌, ◌++◌, map, eqb, leb, length, get_or, take, if◌then◌else◌, Option, None, Some}
 use Rattle.parse.specs.Outcome.{Outcome, accept, refuse, and_then, lent_input, overlay}
 use Rattle.boxes.specs.Parts.{nowhere}
-use Rattle.boxes.specs.Places.{Place, in_first, nth}
+use Rattle.boxes.specs.Places.{nth}
 use Rattle.boxes.specs.declared.Span.{Span}
 use Rattle.unit_list.specs.UnitList.{Array, largest_type, decode}
 use Rattle.directory.specs.declared.Entry.{Entry}
@@ -68,24 +67,18 @@ asked_for (Number k) es = nth es k
 
 -- an entry's part of the list: 1 if it passes the list's end
 abbrev pub part_of_list : List ℕ → Option Entry → Outcome (Option Span)
-part_of_list s none = accept none
-part_of_list s (some e) =
-    if leb (e.offset + e.len) (length s) then accept (some (record { start = e.offset; len = e.len })) else refuse 1
+part_of_list s None = accept None
+part_of_list s (Some e) =
+    if leb (e.offset + e.len) (length s) then accept (Some (record { start = e.offset; len = e.len })) else refuse 1
 
--- The unit that is asked for, by the entries in use alone: 23, 1.
+-- Where the unit that is asked for lies (`nal_unit_at`), by the entries in use alone: 23, 1.
 unfoldable pub unit_asked : Asked → List ℕ → List Entry → List ℕ → Outcome (Option Span)
 unit_asked asked s d totals = and_then (in_use s totals (length d)) (λ n. part_of_list s (asked_for asked (take n d)))
 
--- where that unit lies (`nal_unit_at`)
-abbrev pub place_asked : Outcome (Option Span) → Outcome (Option Place)
-place_asked (accept (some a)) = accept (some (in_first a))
-place_asked (accept none) = accept none
-place_asked (refuse e) = refuse e
-
 -- the part of the list that it is, the empty one where there is none and on a refusal (`nal_unit`)
 abbrev pub part_asked : Outcome (Option Span) → Span
-part_asked (accept (some a)) = a
-part_asked (accept none) = nowhere
+part_asked (accept (Some a)) = a
+part_asked (accept None) = nowhere
 part_asked (refuse e) = nowhere
 
 -- The number of units of a type, by the totals alone (`nal_count_of_type`): 23, 1.

@@ -2,19 +2,19 @@
 use Rattle.std.specs.Prelude.{ℕ, ◌≡◌, List, take}
 use Rattle.parse.specs.Outcome.{accept}
 use Rattle.boxes.specs.Walk.{count_found, found}
-use Rattle.boxes.specs.Places.{in_first, place_found}
+use Rattle.boxes.specs.Places.{nth_found}
 use Rattle.unit_list.specs.Answers.{list_units, list_units_of_type}
-use Rattle.directory.specs.Directory.{fill_directory, unit_asked, place_asked, part_asked, count_asked}
+use Rattle.directory.specs.Directory.{fill_directory, unit_asked, part_asked, count_asked}
 use Rattle.directory.specs.declared.Entry.{Entry}
 use Rattle.directory.specs.declared.Asked.TheVariants.{FirstOfType, Number}
 
 -- Every question about s to d and totals has the answer of `unit_list`: the first of a type that of `nal_unit_of_type_at` and
 -- `nal_unit_of_type` with k 0, the count of a type that of `nal_count_of_type`, number k that of `nal_unit_at` and `nal_unit`.
 pub record AnswersAsWalk (s : List ℕ) (d : List Entry) (totals : List ℕ) : Type 0 where
-  pub first_at : (t : ℕ) → place_asked (unit_asked (FirstOfType t) s d totals) ≡ place_found in_first (list_units_of_type t s) 0
+  pub first_at : (t : ℕ) → unit_asked (FirstOfType t) s d totals ≡ nth_found (list_units_of_type t s) 0
   pub first : (t : ℕ) → part_asked (unit_asked (FirstOfType t) s d totals) ≡ found (list_units_of_type t s) 0
   pub count : (t : ℕ) → count_asked t s d totals ≡ count_found (list_units_of_type t s)
-  pub number_at : (k : ℕ) → place_asked (unit_asked (Number k) s d totals) ≡ place_found in_first (list_units s) k
+  pub number_at : (k : ℕ) → unit_asked (Number k) s d totals ≡ nth_found (list_units s) k
   pub number : (k : ℕ) → part_asked (unit_asked (Number k) s d totals) ≡ found (list_units s) k
 
 -- whatever the directory and the totals held before

@@ -1,46 +1,49 @@
 -- Laws of storing the entries of a list one after another.
-use Prim.Native.Nat.{ℕ, suc, ◌+◌, ◌≤◌, ◌<◌}
+use Prim.Native.Nat.{ℕ, suc, ◌+◌, ◌<◌, ◌≤◌}
 use mathlib.Core.Path.{◌≡◌, sym, ap, ◌∙◌}
-use mathlib.Core.List.{List, [], ◌∷◌, ◌++◌}
-use native.Mathlib.Nat.{le_of_lt, lt_of_lt_of_le}
-use native.Mathlib.Numerals.{add-one, add-one-le}
-use lib.ListN.{length, get_or, set, take, drop}
-use lib.Seq.{append_snoc, set_at, take-suc, drop-cons, length-take-le}
-use Rattle.unit_list.specs.inner.Walk.{Fits}
+use mathlib.Core.List.{List, [], ◌∷◌, ◌++◌, append_assoc, append-nil}
+use native.Mathlib.Omega.{arith}
+use native.Mathlib.Numerals.{add-one}
+use lib.ListN.{length, get_or, set, take, drop, length-append}
+use lib.Seq.{append_snoc, set_at, drop-cons, take_at, take_all}
+use Rattle.parse.specs.Outcome.{overlay}
+use Rattle.boxes.specs.declared.Span.{Span}
 use Rattle.unit_list.specs.declared.ListCursor.{ListCursor}
-use Rattle.directory.specs.inner.Entries.{no_entry}
-use Rattle.directory_fill.specs.inner.Entries.{entries_in, entries_from, NextEntry}
+use Rattle.unit_list.proofs.Turns.{ListTurn}
+use Rattle.directory.specs.Directory.{entry_of}
 use Rattle.directory.specs.declared.Entry.{Entry}
-use Rattle.directory_fill.specs.declared.entries.EntryStep.{EntryStep}
+use Rattle.directory_fill.specs.inner.Entries.{entries_from, Reads}
+use Rattle.directory_fill.proofs.Reading.{ReadTurn, read_turn}
 
--- the directory once k entries are stored
-abbrev pub stored : List Entry → List Entry → ℕ → List Entry
-stored es d k = take k es ++ drop k d
+-- one entry more stored after those that are done
+stored_next : (done d : List Entry) (k : ℕ) (e : Entry) → k ≡ length done → k < length d
+    → set (done ++ drop k d) k e ≡ (done ++ (e ∷ [])) ++ drop (k + 1) d
+stored_next done d k e n h =
+    let z : Entry = e in
+    ap (λ (r : List Entry). set (done ++ r) k e) (drop-cons d k z h)
+    ∙ set_at done (get_or d k z) (drop (suc k) d) e k (sym n)
+    ∙ sym (append_snoc done e (drop (suc k) d))
+    ∙ ap (λ (i : ℕ). (done ++ (e ∷ [])) ++ drop i d) (sym (add-one k))
 
-pub stored_next : (es d : List Entry) (k : ℕ) (e : Entry) → k < length es → k < length d → e ≡ get_or es k no_entry
-    → set (stored es d k) k e ≡ stored es d (k + 1)
-stored_next es d k e h h' is =
-    ap (λ (r : List Entry). set (take k es ++ r) k e) (drop-cons d k no_entry h')
-    ∙ set_at (take k es) (get_or d k no_entry) (drop (suc k) d) e k (length-take-le k es (le_of_lt h))
-    ∙ sym (append_snoc (take k es) e (drop (suc k) d))
-    ∙ ap (λ (x : Entry). (take k es ++ (x ∷ [])) ++ drop (suc k) d) is
-    ∙ ap (λ (r : List Entry). r ++ drop (suc k) d) (sym (take-suc es k no_entry h)) ∙ ap (stored es d) (sym (add-one k))
+module _ (s : List ℕ) (c : ListCursor) (d₀ : List Entry) where
+  -- the walk from c has come to `here`, and the k entries before it are stored
+  pub record Filling (here : ListCursor) (k : ℕ) (d : List Entry) : Type 0 where
+    pub units : Reads s here
+    pub done : List Entry
+    pub count : k ≡ length done
+    pub all : done ++ entries_from s here ≡ entries_from s c
+    pub stored : d ≡ done ++ drop k d₀
 
--- c is before the entries that are left of the n to be stored, k being stored
-pub record Filling (s : List ℕ) (n k : ℕ) (c : ListCursor) : Type 0 where
-  pub under : k ≤ n
-  pub left : k < n → (entries_from s c ≡ drop k (entries_in s)) × Fits s c
-
-module _ (s : List ℕ) (n k : ℕ) (c : ListCursor) (r : EntryStep) (fill : Filling s n k c) (less : k < n) (some : n ≤ length (entries_in s))
-    (next : NextEntry s c r) where
-  stepped : (r.entry ≡ get_or (entries_in s) k no_entry) × (entries_from s r.next ≡ drop (suc k) (entries_in s)) × Fits s r.next
-  stepped = next _ _ ((fill.left less).0 ∙ drop-cons (entries_in s) k no_entry (lt_of_lt_of_le less some))
-
-  pub filling_entry : r.entry ≡ get_or (entries_in s) k no_entry
-  filling_entry = stepped.0
-
-  pub filling_step : Filling s n (k + 1) r.next
-  filling_step = record {
-    under = add-one-le less;
-    left = λ _. (stepped.1 ∙ ap (λ (i : ℕ). drop i (entries_in s)) (sym (add-one k)), stepped.2);
-  }
+  -- one entry more: that of the unit found
+  module _ (here : ListCursor) (k : ℕ) (d : List Entry) (i : Filling here k d) (room : k < length d₀) where
+    pub filling_turn : (a : Span) (next : ListCursor) → ListTurn s here a next → Filling next (k + 1) (set d k (entry_of next.unit_type a))
+    filling_turn a next turn =
+        let read : ReadTurn s here a next = read_turn s here i.units a next turn in
+        let e : Entry = entry_of next.unit_type a in
+        record {
+          units = read.units;
+          done = i.done ++ (e ∷ []);
+          count = omega (arith, i.count, length-append i.done (e ∷ []));
+          all = append_assoc i.done (e ∷ []) (entries_from s next) ∙ ap (λ (es : List Entry). i.done ++ es) (sym read.entries) ∙ i.all;
+          stored = ap (λ (x : List Entry). set x k e) i.stored ∙ stored_next i.done d₀ k e i.count room;
+        }

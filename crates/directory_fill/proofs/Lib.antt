@@ -1,5 +1,5 @@
 pub mod Fitting
-pub mod EntrySteps
+pub mod Reading
 pub mod TotalsPlus
 pub mod Adding
 pub mod Filling

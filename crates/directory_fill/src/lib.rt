@@ -5,23 +5,22 @@ pub mod entries;
 pub mod slots;
 
 ghost use Rattle.std.specs.Prelude.{◌≡◌};
-ghost use Rattle.parse.specs.Answers.{count_of};
+ghost use Rattle.parse.specs.Answers.{answer_of};
 ghost use Rattle.directory.specs.Directory.{fill_directory};
 
-use directory::entries::number;
 use directory::{Entry, TYPES};
-use error::Counted;
+use error::Refusal;
+use unit_list::ListWalk;
 
 // Fills a directory with the units of a list, and the totals with the number of units of each type; the count is that of the entries.
 // Entries after the last keep their contents. Refusals: 23, 21, 28.
-pub fn fill(list: &[u8], dir: &mut [Entry], totals: &mut [usize; TYPES]) -> Counted
-    ensures { (count_of result, (dir.new, totals.new))
+pub fn fill(list: &[u8], dir: &mut [Entry], totals: &mut [usize; TYPES]) -> Result<usize, Refusal>
+    ensures { (answer_of result, (dir.new, totals.new))
         ≡ fill_directory list.now dir.old totals.old }
 {
-    let room = dir.len();
-    let counted = entries::fitting(list, room);
-    let n = number(counted);
-    slots::fill_entries(list, dir, n);
-    entries::put_totals(list, counted, totals);
-    counted
+    let walk = ListWalk::start(list)?;
+    let n = entries::fitting(list, dir.len())?;
+    slots::fill_entries(walk, dir);
+    entries::put_totals(walk, totals);
+    Ok(n)
 }

@@ -1,22 +1,25 @@
-// Internal: stores the entries of a lent directory; what is decided is decided in `entries`, on plain parameters.
-ghost use Rattle.std.specs.Prelude.{◌≡◌, ◌≤◌, length, take};
+// Internal: stores the entries of a lent directory.
+ghost use Rattle.std.specs.Prelude.{◌≡◌, length, take};
 ghost use Rattle.parse.specs.Outcome.{overlay};
-ghost use Rattle.directory_fill.specs.inner.Entries.{entries_in};
+ghost use Rattle.directory_fill.specs.inner.Entries.{entries_left, LeftReads};
 
-use super::entries;
 use directory::Entry;
+use unit_list::ListWalk;
 
-// Stores the entries of the first n units of a list.
-pub fn fill_entries(list: &[u8], dir: &mut [Entry], n: usize)
-    requires { (n ≤ length dir.old) × (n ≤ length (entries_in list.now)) }
-    ensures { dir.new ≡ overlay (take n (entries_in list.now)) dir.old }
+// Stores the entries of the units that are left of a walk, as many as the directory has room for. The list was counted, so no step is refused.
+pub fn fill_entries(walk: ListWalk, dir: &mut [Entry])
+    requires { LeftReads walk }
+    ensures { dir.new ≡ overlay (take (length dir.old) (entries_left walk.entry)) dir.old }
 {
-    let mut here = entries::first(list);
-    let mut k: usize = 0;
-    while k < n {
-        let step = entries::next_entry(list, here);
-        dir[k] = step.entry;
-        here = step.next;
-        k += 1;
+    let mut walk = walk;
+    for slot in dir.iter_mut() {
+        let Ok(Some(unit)) = walk.next_unit() else {
+            return;
+        };
+        *slot = Entry {
+            unit_type: walk.cursor.unit_type,
+            offset: unit.start,
+            len: unit.len,
+        };
     }
 }

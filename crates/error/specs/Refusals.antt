@@ -1,7 +1,8 @@
 -- The number of each refusal (SCOPE 6.2).
-use Rattle.std.specs.Prelude.{ℕ}
+use Rattle.std.specs.Prelude.{ℕ, ◌≡◌, ◌<◌, ◌⊎◌, Result, MatchResult}
 use Rattle.error.specs.declared.Refusal.{Refusal}
 use Rattle.error.specs.declared.Refusal.TheVariants as R
+use Rattle.error.specs.declared.UnknownNumber.{UnknownNumber}
 
 abbrev pub number_of : Refusal → ℕ
 number_of R.Truncated = 1
@@ -33,3 +34,7 @@ number_of R.ArrayType = 26
 number_of R.ConfigurationVersion = 27
 number_of R.DirectoryTooShort = 28
 number_of R.TooLongToNarrow = 29
+
+-- the refusal that a number is read as, or that no refusal has it
+abbrev pub Numbered : ℕ → Result Refusal UnknownNumber → Type 0
+Numbered n r = MatchResult r (λ e. number_of e ≡ n) (λ u. (u.0 ≡ n) × ((n ≡ 0) ⊎ (29 < n)))

@@ -21,7 +21,8 @@ use Rattle.vps.specs.Vps.{vps_first_ptl}
 use Rattle.grouping.specs.Grouping.{having_type, first_element, grouped}
 use Rattle.grouping.proofs.GroupedFits.{Every}
 use Rattle.compact.specs.declared.CompactVvcConfig.{CompactVvcConfig}
-use Rattle.expand.specs.Expand.{FullHead, multi_layer_vps, ptl_of_sets, expanded_head, with_list, expand_units, to_full}
+use Rattle.expand.specs.Expand.{multi_layer_vps, ptl_of_sets, expanded_head, with_list, expand_units, to_full}
+use Rattle.expand.specs.declared.Expanded.{Expanded}
 use Rattle.expand.specs.declared.Picture.{Picture}
 use Rattle.expand.proofs.Ptls.{sps_ptl, vps_ptl_lem}
 
@@ -65,7 +66,7 @@ module _ (us : List (List ℕ)) (bytes : Every AllBytes us) where
   unfolding expand_units
   expands_as c pic x u h p d e f g = rw (d, e, f, g)
 
-  pub record Expansion (c : CompactVvcConfig) (pic : Picture) (full : FullHead) (list : List ℕ) : Type 0 where
+  pub record Expansion (c : CompactVvcConfig) (pic : Picture) (full : Expanded) (list : List ℕ) : Type 0 where
     pub ptl : VvcPtlRecord
     pub writable : P.Writable ptl
     pub head : full.head ≡ expanded_head c pic ptl
@@ -73,7 +74,7 @@ module _ (us : List (List ℕ)) (bytes : Every AllBytes us) where
     -- the picture changes the head alone
     pub of_any : (any : Picture) → expand_units c any us ≡ accept (with_list (expanded_head c any ptl) (encode (grouped us)))
 
-  pub expansion : (c : CompactVvcConfig) (pic : Picture) (full : FullHead) (list : List ℕ) → expand_units c pic us ≡ accept (full, list)
+  pub expansion : (c : CompactVvcConfig) (pic : Picture) (full : Expanded) (list : List ℕ) → expand_units c pic us ≡ accept (full, list)
       → Expansion c pic full list
   unfolding expand_units
   expansion c pic full list e =
@@ -86,20 +87,20 @@ module _ (us : List (List ℕ)) (bytes : Every AllBytes us) where
       record {
         ptl = t.0;
         writable = ptl_of_lem s.0 r.0 t.0 (first_is AllBytes 15 us bytes 17 r.0 r.1) s.1 t.1;
-        head = ap (λ (x : FullHead × List ℕ). x.0.head) (sym m);
-        is_list = ap (λ (x : FullHead × List ℕ). x.1) (sym m);
+        head = ap (λ (x : Expanded × List ℕ). x.0.head) (sym m);
+        is_list = ap (λ (x : Expanded × List ℕ). x.1) (sym m);
         of_any = λ any. expands_as c any q.0 r.0 s.0 t.0 q.1 r.1 s.1 t.1;
       }
     where
-      made : VvcPtlRecord → FullHead × List ℕ
+      made : VvcPtlRecord → Expanded × List ℕ
       made p = with_list (expanded_head c pic p) (encode (grouped us))
 
-      after : Outcome (FullHead × List ℕ)
+      after : Outcome (Expanded × List ℕ)
       after =
           and_then (or_refuse 17 (first_element (having_type 15 us))) (λ u. and_then (parse_sps u) (λ h. and_then (ptl_of_sets h us) (λ p. accept (made p))))
 
 -- an accepted expansion of a list is one of its units
-pub of_units_lem : (c : CompactVvcConfig) (pic : Picture) (list : List ℕ) (xs : List Span) (r : FullHead × List ℕ) → list_units list ≡ accept xs
+pub of_units_lem : (c : CompactVvcConfig) (pic : Picture) (list : List ℕ) (xs : List Span) (r : Expanded × List ℕ) → list_units list ≡ accept xs
     → to_full c pic list ≡ accept r → expand_units c pic (map (held list) xs) ≡ accept r
 unfolding to_full
 of_units_lem c pic list xs r e f = rw e at f

@@ -6,7 +6,7 @@ use native.Mathlib.Omega.{arith}
 use lib.ListN.{length}
 use lib.Seq.{sets}
 use borrow.Author.Tests.{le-leb, lt-leb}
-use Rattle.parse.specs.Outcome.{Outcome, accept, refuse, and_then}
+use Rattle.parse.specs.Outcome.{Outcome, accept, refuse, and_then, lent_output}
 use Rattle.parse.proofs.General.{sets_front}
 use Rattle.boxes.specs.Parts.{held}
 use Rattle.boxes.specs.declared.Span.{Span}
@@ -15,30 +15,27 @@ use Rattle.unit_list.specs.Answers.{list_units}
 use Rattle.grouping.specs.Grouping.{grouped}
 use Rattle.grouping.specs.inner.Units.{held_units}
 use Rattle.compact.specs.declared.CompactVvcConfig.{CompactVvcConfig}
-use Rattle.full.specs.Read.{zero_head}
 use Rattle.full.specs.declared.VvcConfig.{VvcConfig}
-use Rattle.expand.specs.Expand.{FullHead, expand_units, to_full}
-use Rattle.expand.specs.Answers.{expanded_given}
+use Rattle.expand.specs.Expand.{expand_units, to_full}
 use Rattle.expand.specs.inner.ParameterSets.{with_units}
+use Rattle.expand.specs.declared.Expanded.{Expanded}
 use Rattle.expand.specs.declared.Picture.{Picture}
 
--- what a call returns: the answer with the head, and the output after the call
-abbrev pub Given : Type 0
-Given = (Outcome FullHead × VvcConfig) × List ℕ
-
-pub expanded_refused : (o : Outcome (FullHead × List ℕ)) (out : List ℕ) (n : ℕ) → o ≡ refuse n
-    → ◌≡◌ {A = Given} ((refuse n, zero_head), out) (expanded_given o out)
-expanded_refused o out n e = rw e
-
 module _ (h : VvcConfig) (us : List (List ℕ)) (out : List ℕ) where
-  pub expanded_short : length out < length (encode (grouped us)) → ◌≡◌ {A = Given} ((refuse 20, zero_head), out) (expanded_given (with_units h us) out)
+  pub expanded_short : length out < length (encode (grouped us))
+      → ◌≡◌ {A = Outcome Expanded × List ℕ} (refuse 20, out) (lent_output (with_units h us) out)
   expanded_short g = rw (lt-leb (length (encode (grouped us))) (length out) g)
 
   pub expanded_fits : (n : ℕ) (d : List ℕ) → n ≡ length (encode (grouped us)) → n ≤ length out → d ≡ sets out 0 (encode (grouped us))
-      → ◌≡◌ {A = Given} ((accept (record { head = h; list_length = n }), h), d) (expanded_given (with_units h us) out)
+      → ◌≡◌ {A = Outcome Expanded × List ℕ} (accept (record { head = h; list_length = n }), d) (lent_output (with_units h us) out)
   expanded_fits n d l g f =
       let k : length (encode (grouped us)) ≤ length out = rw l at g in
       rw (le-leb (length (encode (grouped us))) (length out) k, l, f, sets_front out (encode (grouped us)) k)
+
+-- a refusal leaves the output
+pub expanded_refused : (o : Outcome (Expanded × List ℕ)) (out : List ℕ) (n : ℕ) → o ≡ refuse n
+    → ◌≡◌ {A = Outcome Expanded × List ℕ} (refuse n, out) (lent_output o out)
+expanded_refused o out n e = rw e
 
 -- the units of a list that reads, or its refusal
 module _ (c : CompactVvcConfig) (pic : Picture) (s : List ℕ) where

@@ -12,6 +12,7 @@ use Rattle.vps.specs.Vps.{vps_first_ptl}
 use Rattle.grouping.specs.Grouping.{having_type, first_element, grouped}
 use Rattle.compact.specs.declared.CompactVvcConfig.{CompactVvcConfig}
 use Rattle.full.specs.declared.VvcConfig.{VvcConfig}
+use Rattle.expand.specs.declared.Expanded.{Expanded}
 use Rattle.expand.specs.declared.Picture.{Picture}
 
 -- step 1: with the flag set, 16 if there is no VPS, then the refusals of the first
@@ -46,17 +47,12 @@ expanded_head c pic ptl = record {
   avg_frame_rate = 0;
 }
 
--- what expansion returns: the head and the length of the list
-pub record FullHead : Type 0 where
-  pub head : VvcConfig
-  pub list_length : ℕ
-
 -- a head and a list as what expansion returns and writes
-abbrev pub with_list : VvcConfig → List ℕ → FullHead × List ℕ
+abbrev pub with_list : VvcConfig → List ℕ → Expanded × List ℕ
 with_list h list = (record { head = h; list_length = length list }, list)
 
 -- the head and list of units: steps 1 to 4, with the refusals after 23 and 21
-unfoldable pub expand_units : CompactVvcConfig → Picture → List (List ℕ) → Outcome (FullHead × List ℕ)
+unfoldable pub expand_units : CompactVvcConfig → Picture → List (List ℕ) → Outcome (Expanded × List ℕ)
 expand_units c pic us = do
   multi_layer_vps c.multi_layer_flag us
   unit ← or_refuse 17 (first_element (having_type 15 us))
@@ -65,7 +61,7 @@ expand_units c pic us = do
   accept (with_list (expanded_head c pic ptl) (encode (grouped us)))
 
 -- `to_full`. Refusals: 23, 21, then those of `expand_units`; with an output 20
-unfoldable pub to_full : CompactVvcConfig → Picture → List ℕ → Outcome (FullHead × List ℕ)
+unfoldable pub to_full : CompactVvcConfig → Picture → List ℕ → Outcome (Expanded × List ℕ)
 to_full c pic list = do
   us ← list_units list
   expand_units c pic (map (held list) us)

@@ -1,3 +1,2 @@
 pub mod Expand
-pub mod Answers
 pub mod inner

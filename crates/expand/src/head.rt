@@ -1,5 +1,5 @@
 // Internal: the head of an expanded record (SCOPE 3.8).
-ghost use Rattle.std.specs.Prelude.{◌≡◌, ◌-◌, min};
+ghost use Rattle.std.specs.Prelude.{◌≡◌, min};
 ghost use Rattle.expand.specs.Expand.{expanded_head};
 
 use super::Picture;
@@ -11,29 +11,14 @@ use ptl::VvcPtlRecord;
 fn cut(side: u32) -> u16
     ensures { result ≡ min side 65535 }
 {
-    if 65535 < side {
-        return 65535;
-    }
-    side as u16
+    // `as`: at most 65,535, so nothing is lost.
+    side.min(65535) as u16
 }
 
-// A bit depth minus 8; 0 for a depth below 8.
-fn depth_minus8(bit_depth: u8) -> u8
-    ensures { result ≡ bit_depth - 8 }
-{
-    if bit_depth < 8 {
-        return 0;
-    }
-    bit_depth - 8
-}
-
-// The head that a compact record with this PTL expands to, for the caller's picture.
+// The head that a compact record with this PTL expands to, for the caller's picture. A bit depth below 8 is written as 0.
 pub fn expanded_head(config: CompactVvcConfig, picture: Picture, ptl: VvcPtlRecord) -> VvcConfig
     ensures { result ≡ expanded_head config picture ptl }
 {
-    let depth = depth_minus8(picture.bit_depth);
-    let max_width = cut(picture.width);
-    let max_height = cut(picture.height);
     VvcConfig {
         length_size: config.length_size,
         ptl_present_flag: true,
@@ -41,10 +26,10 @@ pub fn expanded_head(config: CompactVvcConfig, picture: Picture, ptl: VvcPtlReco
         num_sublayers: 1,
         constant_frame_rate: 1,
         chroma_format_idc: picture.chroma_format_idc,
-        bit_depth_minus8: depth,
+        bit_depth_minus8: picture.bit_depth.saturating_sub(8),
         native_ptl: ptl,
-        max_picture_width: max_width,
-        max_picture_height: max_height,
+        max_picture_width: cut(picture.width),
+        max_picture_height: cut(picture.height),
         avg_frame_rate: 0,
     }
 }

@@ -5,23 +5,20 @@ pub mod head;
 pub mod parameter_sets;
 
 ghost use Rattle.std.specs.Prelude.{◌≡◌};
-ghost use Rattle.error.specs.Refusals.{number_of};
-ghost use Rattle.parse.specs.Outcome.{refuse};
-ghost use Rattle.grouping.specs.inner.Units.{Readable, units_at};
-ghost use Rattle.full.specs.Read.{zero_head};
+ghost use Rattle.parse.specs.Answers.{answer_of};
+ghost use Rattle.parse.specs.Outcome.{lent_output};
+ghost use Rattle.grouping.specs.inner.TypedUnits.{units_of};
 ghost use Rattle.expand.specs.Expand.{expand_units, to_full};
-ghost use Rattle.expand.specs.Answers.{expanded_of, expanded_given};
 ghost use Rattle.expand.specs.inner.ParameterSets.{with_units};
 
 use compact::CompactVvcConfig;
 use error::Refusal;
 use full::VvcConfig;
-use grouping::units;
-use params::ParamsAnswer;
-use unit_list::{ListCursor, ListStart};
+use grouping::groups;
+use grouping::units::TypedUnits;
 
 // What the caller knows of the picture.
-#[derive(Clone, Copy)]
+#[derive(Clone, Copy, Debug, PartialEq, Eq)]
 pub struct Picture {
     pub chroma_format_idc: u8,
     pub bit_depth: u8,
@@ -29,81 +26,50 @@ pub struct Picture {
     pub height: u32,
 }
 
-// The length of the unit list in the output, or the refusal.
-#[derive(Clone, Copy)]
-pub enum ExpandAnswer {
-    List(usize),
-    Refused(Refusal),
-}
-
-// The answer with the head, all zeros on a refusal.
-#[derive(Clone, Copy)]
+// What expansion gives: the head, and the length of the unit list in the output.
+#[derive(Clone, Copy, Debug, PartialEq, Eq)]
 pub struct Expanded {
-    pub answer: ExpandAnswer,
     pub head: VvcConfig,
+    pub list_length: usize,
 }
 
-// A refusal, with a head of zeros.
-fn refused(e: Refusal) -> Expanded
-    ensures { expanded_of result ≡ (refuse (number_of e), zero_head) }
+// The head, with the list of the units written to the output. Refusal: 20.
+fn put_expanded(head: VvcConfig, units: TypedUnits<'_>, out: &mut [u8]) -> Result<Expanded, Refusal>
+    ensures { (answer_of result, out.new) ≡ lent_output (with_units head (units_of units.entry)) out.old }
 {
-    let zeros = full::plain_head(0);
-    let answer = ExpandAnswer::Refused(e);
-    Expanded {
-        answer,
-        head: zeros,
+    let list_length = 1 + groups::groups_len(units);
+    if out.len() < list_length {
+        return Err(Refusal::BufferTooShort);
     }
+    groups::put_list(units, out);
+    Ok(Expanded { head, list_length })
 }
 
-// The head, with the list of the units after a cursor written to the output. Refusal: 20.
-fn put_expanded(full_head: VvcConfig, list: &[u8], c: ListCursor, out: &mut [u8]) -> Expanded
-    requires { Readable list.now c }
-    ensures { (expanded_of result, out.new) ≡ expanded_given (with_units full_head (units_at list.now c)) out.old }
-{
-    let len = 1 + grouping::groups::groups_len(list, c);
-    if out.len() < len {
-        return refused(Refusal::BufferTooShort);
-    }
-    grouping::groups::put_list(list, c, out);
-    let answer = ExpandAnswer::List(len);
-    Expanded {
-        answer,
-        head: full_head,
-    }
-}
-
-// Expands the units after a cursor. Refusals: with the flag set 16 and the VPS's; 17, the SPS's, 18, the VPS's, 20.
+// Expands the units. Refusals: with the flag set 16 and the VPS's; 17, the SPS's, 18, the VPS's, 20.
 fn expand_units(
     config: CompactVvcConfig,
-    list: &[u8],
-    c: ListCursor,
+    units: TypedUnits<'_>,
     picture: Picture,
     out: &mut [u8],
-) -> Expanded
-    requires { Readable list.now c }
-    ensures { (expanded_of result, out.new)
-        ≡ expanded_given (expand_units config picture (units_at list.now c)) out.old }
+) -> Result<Expanded, Refusal>
+    ensures { (answer_of result, out.new)
+        ≡ lent_output (expand_units config picture (units_of units.entry)) out.old }
 {
-    let flag = config.multi_layer_flag;
-    let read = parameter_sets::sets_ptl(flag, list, c);
-    let answer = read.answer;
-    let ptl = read.ptl;
-    match answer {
-        ParamsAnswer::Read => {
-            let full_head = head::expanded_head(config, picture, ptl);
-            put_expanded(full_head, list, c, out)
-        }
-        ParamsAnswer::Refused(e) => refused(e),
-    }
+    let ptl = parameter_sets::sets_ptl(config.multi_layer_flag, units)?;
+    let head = head::expanded_head(config, picture, ptl);
+    put_expanded(head, units, out)
 }
 
 // Expands a compact record with the units of a list (the original's `CompactVvcConfig::to_full`); the units go to the output grouped by type.
 // Refusals: 23, 21; with the flag set 16 and the VPS's; 17, the SPS's, 18, the VPS's, 20.
-pub fn to_full(config: CompactVvcConfig, list: &[u8], picture: Picture, out: &mut [u8]) -> Expanded
-    ensures { (expanded_of result, out.new) ≡ expanded_given (to_full config picture list.now) out.old }
+pub fn to_full(
+    config: CompactVvcConfig,
+    list: &[u8],
+    picture: Picture,
+    out: &mut [u8],
+) -> Result<Expanded, Refusal>
+    ensures { (answer_of result, out.new) ≡ lent_output (to_full config picture list.now) out.old }
 {
-    match units::start(list) {
-        ListStart::At(c) => expand_units(config, list, c, picture, out),
-        ListStart::Refused(e) => refused(e),
-    }
+    let units = TypedUnits::start(list)?;
+    expand_units(config, units, picture, out)
 }

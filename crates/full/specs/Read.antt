@@ -10,8 +10,9 @@ use Rattle.ptl.specs.Ptl.{zero_ptl}
 use Rattle.ptl.specs.declared.VvcPtlRecord.{VvcPtlRecord}
 use Rattle.ptl_record.specs.Read.{vvc_ptl_record}
 use Rattle.record_arrays.specs.Read.{record_array}
-use Rattle.record_arrays.specs.Record.{RecordParsed, record_parsed}
+use Rattle.record_arrays.specs.Record.{record_parsed}
 use Rattle.record_arrays.specs.declared.Codec.TheVariants.{Vvc}
+use Rattle.record_arrays.specs.declared.ParsedRecord.{ParsedRecord}
 use Rattle.full.specs.declared.VvcConfig.{VvcConfig}
 
 -- a head without the PTL flag: the fields under the flag are 0
@@ -29,10 +30,6 @@ plain_head size = record {
   max_picture_height = 0;
   avg_frame_rate = 0;
 }
-
--- the head on a refusal
-abbrev pub zero_head : VvcConfig
-zero_head = plain_head 0
 
 -- the fields under the PTL flag, from the numbers that hold them
 abbrev pub head_fields : ℕ → ℕ → ℕ → VvcPtlRecord → ℕ → ℕ → ℕ → VvcConfig
@@ -78,7 +75,7 @@ vvc_record = do
 
 -- what reading returns: the head, the number of bytes consumed, and the length of the list
 abbrev pub FullParsed : Type 0
-FullParsed = RecordParsed VvcConfig
+FullParsed = ParsedRecord VvcConfig
 
 -- `full_read::parse`. Refusals: 23, then in byte order 3, 1 and 2; with an output 20
 unfoldable pub parse_full : List ℕ → Outcome (FullParsed × List ℕ)

@@ -1,19 +1,20 @@
 // The full record: its head, and the definitions of its bytes (SCOPE 3.9, 3.10 and 4.3).
 #![tactic(auto)]
 
-ghost use Rattle.std.specs.Prelude.{◌≡◌, []};
+ghost use Rattle.std.specs.Prelude.{◌≡◌};
+ghost use Rattle.parse.specs.Answers.{answer_of};
 ghost use Rattle.boxes.specs.Parts.{PartOf};
-ghost use Rattle.boxes.specs.Places.{place_of, PlaceFits};
+ghost use Rattle.boxes.specs.Places.{PlaceFits};
 ghost use Rattle.full.specs.Read.{plain_head};
-ghost use Rattle.full.specs.Answers.{depth_of, bit_depth_of, sps_span, sps_place};
+ghost use Rattle.full.specs.Answers.{bit_depth_of, sps_span, sps_place};
 
-use boxes::UnitPlace;
+use boxes::Span;
 use error::Refusal;
 use ptl::{VvcPtlRecord, zeros};
 
 // The head of a full record: VvcDecoderConfigurationRecord (ISO/IEC 14496-15:2024 11.2.4) without its arrays, which are in a unit list.
 // Without the PTL flag the fields under it are 0.
-#[derive(Clone, Copy)]
+#[derive(Clone, Copy, Debug, PartialEq, Eq)]
 pub struct VvcConfig {
     pub length_size: u8,
     pub ptl_present_flag: bool,
@@ -28,27 +29,19 @@ pub struct VvcConfig {
     pub avg_frame_rate: u16,
 }
 
-// A bit depth, or a refusal.
-#[derive(Clone, Copy)]
-pub enum BitDepth {
-    Bits(u8),
-    Refused(Refusal),
-}
-
 impl VvcConfig {
     // The bit depth of the head: bit_depth_minus8 plus 8. Refusal: 22.
-    pub fn bit_depth(self) -> BitDepth
-        ensures { depth_of result ≡ bit_depth_of self }
+    pub fn bit_depth(self) -> Result<u8, Refusal>
+        ensures { answer_of result ≡ bit_depth_of self }
     {
-        if 247 < self.bit_depth_minus8 {
-            return BitDepth::Refused(Refusal::FieldTooWide);
-        }
-        BitDepth::Bits(self.bit_depth_minus8 + 8)
+        self.bit_depth_minus8
+            .checked_add(8)
+            .ok_or(Refusal::FieldTooWide)
     }
 
-    // Where the first SPS of a record's unit list lies: the first unit in an array of type 15. Refusals: 23, 21.
-    pub fn sps_at(list: &[u8]) -> UnitPlace
-        ensures { (place_of result ≡ sps_place list.now) × PlaceFits list.now [] result }
+    // Where the first SPS of a record's unit list lies: the first unit in an array of type 15; none if there is no SPS. Refusals: 23, 21.
+    pub fn sps_at(list: &[u8]) -> Result<Option<Span>, Refusal>
+        ensures { (answer_of result ≡ sps_place list.now) × PlaceFits list.now result }
     {
         list_units::nal_unit_of_type_at(list, nal::NAL_SPS, 0)
     }
@@ -61,13 +54,13 @@ impl VvcConfig {
     }
 }
 
-// A head without the PTL flag: every other field is 0. With length_size 0 it is the head of a refusal.
+// A head without the PTL flag: every other field is 0.
 pub fn plain_head(length_size: u8) -> VvcConfig
     ensures { result ≡ plain_head length_size }
 {
     let ptl = zeros::zero_ptl();
     VvcConfig {
-        length_size: length_size,
+        length_size,
         ptl_present_flag: false,
         ols_idx: 0,
         num_sublayers: 0,

@@ -6,20 +6,15 @@ use native.Mathlib.Omega.{arith}
 use native.Mathlib.Decide.{dec_le}
 use lib.ListN.{length, get_or}
 use borrow.Author.Tests.{eq-eqb, ne_eqb}
+use Rattle.std.specs.Prelude.{Result, Ok, Err}
 use Rattle.error.specs.Refusals.{number_of}
 use Rattle.error.specs.declared.Refusal.{Refusal}
 use Rattle.parse.specs.Parse.{Parsed, value, refused, bind}
-use Rattle.parse.specs.inner.Answers.{or_zeros}
-use Rattle.parse.proofs.Zeros.{zeros_beside}
+use Rattle.parse.specs.inner.Answers.{read_of}
 use Rattle.boxes.specs.Bytes.{be, uint}
 use Rattle.boxes.proofs.Fields.{uint_there, uint_short}
-use Rattle.ptl.specs.Ptl.{zero_ptl}
 use Rattle.ptl.specs.declared.VvcPtlRecord.{VvcPtlRecord}
 use Rattle.ptl_record.specs.Read.{vvc_ptl_record}
-use Rattle.ptl_record.specs.inner.Answers.{ptl_record_read, ptl_record_of}
-use Rattle.ptl_record.specs.declared.PtlRecordAnswer.{PtlRecordAnswer}
-use Rattle.ptl_record.specs.declared.PtlRecordAnswer.TheVariants as P
-use Rattle.ptl_record.specs.declared.PtlRecordRead.{PtlRecordRead}
 use Rattle.ptl_record.proofs.Reading.{Reach, reach_bind, reach_value, reach_uint, reach_byte}
 use Rattle.full.specs.Read.{plain_head, head_with_ptl, vvc_head, head_fields}
 use Rattle.full_read.specs.inner.Heads.{sizes_after}
@@ -61,22 +56,18 @@ module _ (size : ℕ) (s : List ℕ) where
     after_number = rw (uint_there 2 s 1 (omega arith), uint_there 1 s 3 there)
 
     -- the PTL is read or refused
-    module _ (w : ℕ) (is : w ≡ be s 1 2) (r : PtlRecordRead) (f : ptl_record_of r ≡ or_zeros zero_ptl (vvc_ptl_record (w / 16 % 8) s 4)) where
-      ptl_said : vvc_ptl_record (be s 1 2 / 16 % 8) s 4 ≡ ptl_record_read r.answer r.ptl
-      ptl_said = rw (← is) (sym (ap (λ (y : Parsed VvcPtlRecord × VvcPtlRecord). y.0) f ∙ zeros_beside zero_ptl (vvc_ptl_record (w / 16 % 8) s 4)))
-
-      known : (a : PtlRecordAnswer) → r.answer ≡ a
-          → head_with_ptl size s 1 ≡ bind (ptl_record_read a r.ptl) (λ ptl q. sizes_after size (be s 1 2) (be s 3 1) ptl s q)
-      known a e =
+    module _ (w : ℕ) (is : w ≡ be s 1 2) (r : Result (VvcPtlRecord × ℕ) Refusal) (f : read_of r ≡ vvc_ptl_record (w / 16 % 8) s 4) where
+      known : (x : Result (VvcPtlRecord × ℕ) Refusal) → r ≡ x
+          → head_with_ptl size s 1 ≡ bind (read_of x) (λ ptl q. sizes_after size (be s 1 2) (be s 3 1) ptl s q)
+      known x e =
           after_number
-          ∙ ap (λ (x : Parsed VvcPtlRecord). bind x (λ ptl q. sizes_after size (be s 1 2) (be s 3 1) ptl s q))
-          (ptl_said ∙ ap (λ (a : PtlRecordAnswer). ptl_record_read a r.ptl) e)
+          ∙ ap (λ (y : Parsed VvcPtlRecord). bind y (λ ptl q. sizes_after size (be s 1 2) (be s 3 1) ptl s q)) (rw (← is) (sym f ∙ ap read_of e))
 
-      pub ptl_read : (q : ℕ) → r.answer ≡ P.Read q → head_with_ptl size s 1 ≡ sizes_after size (be s 1 2) (be s 3 1) r.ptl s q
-      ptl_read q e = known (P.Read q) e
+      pub ptl_read : (ptl : VvcPtlRecord) (q : ℕ) → r ≡ Ok (ptl, q) → head_with_ptl size s 1 ≡ sizes_after size (be s 1 2) (be s 3 1) ptl s q
+      ptl_read ptl q e = known (Ok (ptl, q)) e
 
-      pub ptl_refused : (e : Refusal) → r.answer ≡ P.Refused e → head_with_ptl size s 1 ≡ refused (number_of e)
-      ptl_refused e h = known (P.Refused e) h
+      pub ptl_refused : (e : Refusal) → r ≡ Err e → head_with_ptl size s 1 ≡ refused (number_of e)
+      ptl_refused e h = known (Err e) h
 
 -- the first byte
 module _ (s : List ℕ) where

@@ -8,7 +8,7 @@ use lib.Dec.{eqb, ltb}
 use lib.ListN.{length, get_or}
 use borrow.Author.Tests.{le-leb, lt-leb}
 use Rattle.std.specs.Prelude.{if◌then◌else◌}
-use Rattle.parse.specs.Outcome.{Outcome, accept, refuse, and_then}
+use Rattle.parse.specs.Outcome.{Outcome, accept, refuse, and_then, lent_output}
 use Rattle.parse.specs.Parse.{Parsed, value, refused, bind, Parser, give, refuse_if, times, outcome}
 use Rattle.parse.proofs.Gives.{Gives, gives_value, gives_any, gives_bind}
 use Rattle.parse.proofs.General.{if_elim}
@@ -22,14 +22,12 @@ use Rattle.record_arrays.specs.Read.{record_array}
 use Rattle.record_arrays.specs.Record.{record_parsed}
 use Rattle.record_arrays.specs.declared.Codec.TheVariants.{Vvc}
 use Rattle.record_arrays_read.specs.inner.Arrays.{counted_arrays}
-use Rattle.record_arrays_read.specs.inner.Given.{refused_with}
 use Rattle.record_arrays_read.proofs.Given.{with_head, split, read_too_long}
-use Rattle.full.specs.Read.{FullParsed, parse_full, head_with_ptl, vvc_head, zero_head}
+use Rattle.full.specs.Read.{FullParsed, parse_full, head_with_ptl, vvc_head}
 use Rattle.full.specs.Rules.{array_byte, record_array_bytes, reserved_kept, types_kept}
 use Rattle.full.specs.Strict.{holds_or, parse_strict}
 use Rattle.full.specs.declared.VvcConfig.{VvcConfig}
 use Rattle.record_rules.specs.inner.Rules.{SmallHead, counted_bytes, rules_kept}
-use Rattle.full_read.specs.Answers.{full_given, strict_given}
 use Rattle.full_read.specs.inner.Strict.{rules_after, strict_rules}
 use Rattle.full_read.proofs.Given.{reads_record}
 
@@ -187,14 +185,13 @@ module _ (s : List ℕ) where
 
 module _ (s : List ℕ) (out : List ℕ) where
   -- a rule is broken
-  pub strict_refused : (n : ℕ) → strict_rules s ≡ refuse n → (y : Outcome FullParsed × VvcConfig) → y ≡ refused_with zero_head n
-      → (y, out) ≡ strict_given s out
-  strict_refused n e y f =
+  pub strict_refused : (n : ℕ) → strict_rules s ≡ refuse n → (refuse n, out) ≡ lent_output (parse_strict s) out
+  strict_refused n e =
       let g : parse_strict s ≡ refuse n = rules_first s ∙ rw e in
-      rw (f, g)
+      rw g
 
   -- no rule is broken
-  pub strict_kept : strict_rules s ≡ accept tt → full_given s out ≡ strict_given s out
+  pub strict_kept : strict_rules s ≡ accept tt → lent_output (parse_full s) out ≡ lent_output (parse_strict s) out
   strict_kept e =
       let g : parse_strict s ≡ parse_full s = rules_first s ∙ rw e in
       rw g

@@ -4,102 +4,57 @@
 pub mod head;
 
 ghost use Rattle.std.specs.Prelude.{◌≡◌};
-ghost use Rattle.error.specs.Refusals.{number_of};
-ghost use Rattle.record_arrays_read.specs.inner.Arrays.{list_of};
-ghost use Rattle.record_arrays_read.specs.inner.Given.{beside_head, refused_with};
-ghost use Rattle.record_rules.specs.inner.Rules.{rules_of};
-ghost use Rattle.full.specs.Read.{zero_head};
-ghost use Rattle.full_read.specs.Answers.{full_of, full_given, strict_given};
+ghost use Rattle.parse.specs.Answers.{answer_of};
+ghost use Rattle.parse.specs.Outcome.{lent_output};
+ghost use Rattle.full.specs.Read.{parse_full};
+ghost use Rattle.full.specs.Strict.{parse_strict};
 ghost use Rattle.full_read.specs.inner.Strict.{strict_rules};
 
 use error::{LARGEST_INPUT, Refusal};
 use full::VvcConfig;
-use record_arrays::Codec;
-use record_arrays_read::{HeadAnswer, ListRead};
-use record_rules::RulesTest;
+use record_arrays::{Codec, ParsedRecord};
+use record_arrays_read::arrays;
+use record_rules::rules;
 
-// A full record that was read: how many bytes were consumed, and the length of the list in the output.
-#[derive(Clone, Copy)]
-pub enum FullAnswer {
-    Read(usize, usize),
-    Refused(Refusal),
-}
-
-// The answer with the head, all zeros on a refusal.
-#[derive(Clone, Copy)]
-pub struct FullRead {
-    pub answer: FullAnswer,
-    pub head: VvcConfig,
-}
-
-// A refusal, with a head of zeros.
-fn refused(e: Refusal) -> FullRead
-    ensures { full_of result ≡ refused_with zero_head (number_of e) }
-{
-    let head = full::plain_head(0);
-    let answer = FullAnswer::Refused(e);
-    FullRead {
-        answer: answer,
-        head: head,
-    }
-}
-
-// The answer of the arrays, with the head; on a refusal the head is zeros.
-fn with_head(head: VvcConfig, list: ListRead) -> FullRead
-    ensures { full_of result ≡ beside_head zero_head head (list_of list) }
-{
-    match list {
-        ListRead::Read(consumed, len) => FullRead {
-            answer: FullAnswer::Read(consumed, len),
-            head: head,
-        },
-        ListRead::Refused(e) => refused(e),
-    }
-}
+// A full record that was read.
+pub type FullRead = ParsedRecord<VvcConfig>;
 
 // Reads a full record (the original's `VvcConfig::parse`); its arrays go to the output as a unit list.
 // Refusals: 23, then in byte order 3, 1 and 2, then 20.
-pub fn parse(record: &[u8], out: &mut [u8]) -> FullRead
-    ensures { (full_of result, out.new) ≡ full_given «record».now out.old }
+// What both records share is `read_list`; head, codec and definition differ.
+pub fn parse(record: &[u8], out: &mut [u8]) -> Result<FullRead, Refusal>
+    ensures { (answer_of result, out.new) ≡ lent_output (parse_full «record».now) out.old }
 {
     if LARGEST_INPUT < record.len() {
-        return refused(Refusal::InputTooLong);
+        return Err(Refusal::InputTooLong);
     }
-    let read = head::read_head(record);
-    let answer = read.answer;
-    let head = read.head;
-    match answer {
-        HeadAnswer::Read(at) => with_head(
-            head,
-            record_arrays_read::arrays::read_list(Codec::Vvc, record, at, out),
-        ),
-        HeadAnswer::Refused(e) => refused(e),
-    }
+    let (head, at) = head::read_head(record)?;
+    let (consumed, list_length) = arrays::read_list(Codec::Vvc, record, at, out)?;
+    Ok(ParsedRecord {
+        head,
+        consumed,
+        list_length,
+    })
 }
 
-// Which rule of strict reading a record breaks. One that `parse` refuses breaks none.
-fn broken(record: &[u8]) -> RulesTest
-    ensures { rules_of result ≡ strict_rules «record».now }
+// Tests the rules of strict reading. A record that `parse` refuses breaks none.
+fn check_rules(record: &[u8]) -> Result<(), Refusal>
+    ensures { answer_of result ≡ strict_rules «record».now }
 {
     if LARGEST_INPUT < record.len() {
-        return RulesTest::Kept;
+        return Ok(());
     }
-    let read = head::read_head(record);
-    let answer = read.answer;
-    let head = read.head;
-    match answer {
-        HeadAnswer::Read(at) => record_rules::rules::broken(record, head, at),
-        HeadAnswer::Refused(_) => RulesTest::Kept,
+    match head::read_head(record) {
+        Ok((head, at)) => rules::check(record, head, at),
+        Err(_) => Ok(()),
     }
 }
 
 // Reads a full record as `parse` does, if its reserved bits are the standard's and its arrays have types that a record may have. The rules are
 // tested before a byte is written. Refusals: 23, then in byte order 3, 1 and 2, then 25, 26, 20.
-pub fn parse_strict(record: &[u8], out: &mut [u8]) -> FullRead
-    ensures { (full_of result, out.new) ≡ strict_given «record».now out.old }
+pub fn parse_strict(record: &[u8], out: &mut [u8]) -> Result<FullRead, Refusal>
+    ensures { (answer_of result, out.new) ≡ lent_output (parse_strict «record».now) out.old }
 {
-    match broken(record) {
-        RulesTest::Broken(e) => refused(e),
-        RulesTest::Kept => parse(record, out),
-    }
+    check_rules(record)?;
+    parse(record, out)
 }

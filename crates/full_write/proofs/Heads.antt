@@ -9,7 +9,7 @@ use lib.Seq.{sets}
 use Rattle.std.specs.Prelude.{if◌then◌else◌}
 use Rattle.parse.specs.Logic.{bit}
 use Rattle.parse.proofs.General.{both_true, sets_then}
-use Rattle.boxes.specs.Bytes.{to_be, outside}
+use Rattle.boxes.specs.Bytes.{to_be}
 use Rattle.boxes.proofs.Numbers.{length_to_be}
 use Rattle.boxes.proofs.PrefixSizes.{size_fits}
 use Rattle.ptl_record.specs.Write.{ptl_bytes}
@@ -74,11 +74,6 @@ module _ (h : VvcConfig) where
       let a = both_true _ _ e in
       let b = size_fits _ a.0 in
       record { one = b.0; four = b.1; part = λ f. subst (λ (t : Bool). (if t then ptl_part_fits h else true) ≡ true) f a.1 }
-
-  -- with the flag set, the values under it have to fit
-  pub head_flagged : outside h.length_size ≡ false → h.ptl_present_flag ≡ true → head_fits h ≡ ptl_part_fits h
-  unfolding head_fits
-  head_flagged inside e = rw inside (ap (λ (t : Bool). if t then ptl_part_fits h else true) e)
 
   -- the first byte
   abbrev pub first : ℕ

@@ -9,41 +9,26 @@ ghost use Rattle.full_write.specs.inner.Head.{head_written};
 use boxes::place;
 use error::Refusal;
 use full::VvcConfig;
-use record_arrays_write::record::HeadSize;
 
 // Whether every value under the PTL flag fits its field.
+#[tactic(auto, unfolding(full::specs::Write::ptl_part_fits))]
 fn ptl_part_fits(h: VvcConfig) -> bool
     ensures { result ≡ ptl_part_fits h }
 {
-    if 511 < h.ols_idx {
-        return false;
-    }
-    if 7 < h.num_sublayers {
-        return false;
-    }
-    if 3 < h.constant_frame_rate {
-        return false;
-    }
-    if 3 < h.chroma_format_idc {
-        return false;
-    }
-    if 7 < h.bit_depth_minus8 {
-        return false;
-    }
-    ptl_record_write::write::ptl_fits(h.native_ptl)
+    h.ols_idx <= 511
+        && h.num_sublayers <= 7
+        && h.constant_frame_rate <= 3
+        && h.chroma_format_idc <= 3
+        && h.bit_depth_minus8 <= 7
+        && ptl_record_write::write::ptl_fits(h.native_ptl)
 }
 
 // Whether every value that is written fits its field.
+#[tactic(auto, unfolding(full::specs::Write::head_fits))]
 fn head_fits(h: VvcConfig) -> bool
     ensures { result ≡ head_fits h }
 {
-    if place::outside(h.length_size) {
-        return false;
-    }
-    if h.ptl_present_flag {
-        return ptl_part_fits(h);
-    }
-    true
+    !place::outside(h.length_size) && (!h.ptl_present_flag || ptl_part_fits(h))
 }
 
 // The length of a head.
@@ -58,24 +43,24 @@ fn head_len(h: VvcConfig) -> usize
 }
 
 // The length of a head. Refusals: 3, 22.
-pub fn head_size(h: VvcConfig) -> HeadSize
+pub fn head_size(h: VvcConfig) -> Result<usize, Refusal>
     ensures { HeadIs (head_written h) result × HeadShort result }
 {
     if h.length_size == 3 {
-        return HeadSize::Refused(Refusal::PrefixSizeThree);
+        return Err(Refusal::PrefixSizeThree);
     }
     if !head_fits(h) {
-        return HeadSize::Refused(Refusal::FieldTooWide);
+        return Err(Refusal::FieldTooWide);
     }
-    HeadSize::Len(head_len(h))
+    Ok(head_len(h))
 }
 
 // The first two bytes under the PTL flag as one number: ols_idx 9, num_sublayers 3, constant_frame_rate 2, chroma_format_idc 2.
 fn word_of(ols_idx: u16, sublayers: u8, rate: u8, chroma: u8) -> usize
     ensures { result ≡ ols_idx * 128 + sublayers * 16 + rate * 4 + chroma }
 {
-    let high = ols_idx as usize * 128 + place::wide(sublayers) * 16;
-    high + place::wide(rate) * 4 + place::wide(chroma)
+    let high = usize::from(ols_idx) * 128 + usize::from(sublayers) * 16;
+    high + usize::from(rate) * 4 + usize::from(chroma)
 }
 
 // Stores max_picture_width, max_picture_height and avg_frame_rate, two bytes each.
@@ -83,9 +68,9 @@ fn put_picture(out: &mut [u8], at: usize, width: u16, height: u16, rate: u16)
     requires { at + 6 ≤ length out.old }
     ensures { out.new ≡ sets out.old at (to_be 2 width ++ to_be 2 height ++ to_be 2 rate) }
 {
-    place::put_number(out, at, 2, width as usize);
-    place::put_number(out, at + 2, 2, height as usize);
-    place::put_number(out, at + 4, 2, rate as usize);
+    place::put_number(out, at, 2, usize::from(width));
+    place::put_number(out, at + 2, 2, usize::from(height));
+    place::put_number(out, at + 4, 2, usize::from(rate));
 }
 
 // Stores the fields under the PTL flag.
@@ -116,7 +101,7 @@ pub fn put_head(out: &mut [u8], h: VvcConfig)
     requires { (head_fits h ≡ true) × (length (head_bytes h) ≤ length out.old) }
     ensures { out.new ≡ sets out.old 0 (head_bytes h) }
 {
-    let flag = place::bit_of(h.ptl_present_flag);
+    let flag = u8::from(h.ptl_present_flag);
     place::put(out, 0, 248 + (h.length_size - 1) * 2 + flag);
     if h.ptl_present_flag {
         put_ptl_part(out, 1, h);

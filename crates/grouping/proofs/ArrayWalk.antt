@@ -56,7 +56,7 @@ module _ (us : List (List ℕ)) where
           record { met = i.met; marks = i.marks; few = omega (arith, i.few, w.ahead); whole = omega (arith, i.whole) }
 
       pub summed_new : get_or seen k false ≡ false → (n : ℕ) → n ≡ length (group_bytes us t) → n ≤ 2 ^ 31
-          → Summed us rest q (set seen k true) (len + 6 + n)
+          → Summed us rest q (set seen k true) (len + (6 + n))
       summed_new e n g few =
           let c = ap length (come_new us left p seen i.met i.marks u rest q w t k h small j e) in
           let l = length-append (encode_array list_width (group us t)) (arrays_left us (t ∷ i.met) rest) in

@@ -55,7 +55,7 @@ module _ (t : ℕ) (us : List (List ℕ)) where
     measured_end e = let z = ap length (bytes_none t left e) in omega (arith, i.whole)
 
     module _ (u : List ℕ) (rest : List (List ℕ)) (q : ℕ) (w : Turn left p u rest q) where
-      pub measured_same : type_or31 u ≡ t → (n : ℕ) → length u ≡ n → TypeMeasured t us rest q (len + 4 + n)
+      pub measured_same : type_or31 u ≡ t → (n : ℕ) → length u ≡ n → TypeMeasured t us rest q (len + (4 + n))
       measured_same h n l =
           let k = length_same t left p u rest q w h in
           record { few = omega (arith, i.few, w.ahead); whole = omega (arith, i.whole) }
@@ -84,11 +84,11 @@ module _ (t : ℕ) (us : List (List ℕ)) (out₀ : List ℕ) (at : ℕ) where
       stored_room g h = omega (arith, length_same t left p u rest q w h, i.place, i.same)
 
       pub stored_same : type_or31 u ≡ t → (n : ℕ) → length u ≡ n → (d : List ℕ) → d ≡ sets out to (to_chunk list_width u)
-          → Stored t us out₀ at rest d (to + 4 + n)
+          → Stored t us out₀ at rest d (to + (4 + n))
       stored_same h n l d e =
           let k = length_same t left p u rest q w h in
           let m = length_to_chunk list_width u in
-          let b : to + 4 + n ≡ to + length (to_chunk list_width u) = omega arith in
+          let b : to + (4 + n) ≡ to + length (to_chunk list_width u) = omega arith in
           record {
             same = ap length e ∙ length-sets out to (to_chunk list_width u) ∙ i.same;
             place = omega (arith, i.place);

@@ -1,6 +1,5 @@
 -- Units grouped by type (SCOPE 3.8, step 4; ISO/IEC 23008-12 Amd 2 L.4.3.3.4). A unit without byte 1 has type 31.
-use Rattle.std.specs.Prelude.{ℕ, List, [], ◌∷◌, map, eqb, if◌then◌else◌}
-use Rattle.std.proofs.Math.Option.{Option, none, some}
+use Rattle.std.specs.Prelude.{ℕ, List, [], ◌∷◌, map, eqb, if◌then◌else◌, Option, None, Some}
 use Rattle.nal.specs.Header.{type_or31}
 use Rattle.unit_list.specs.UnitList.{Array}
 
@@ -29,5 +28,5 @@ grouped us = map (group us) (firsts (map type_or31 us))
 
 -- the first element of a list, none of the empty list
 abbrev pub first_element : {A : Type 0} → List A → Option A
-first_element [] = none
-first_element (u ∷ us) = some u
+first_element [] = None
+first_element (u ∷ us) = Some u

@@ -1,2 +1,3 @@
 -- Internal: what the contracts of internal functions say. No public definition needs it.
 pub mod Units
+pub mod TypedUnits

@@ -1,57 +1,27 @@
-// Internal: the units of a list with the types in their headers. Grouping uses `next_unit` alone.
-ghost use Rattle.std.specs.Prelude.{◌≡◌, true, ◌+◌, ◌≤◌, length};
+// Internal: the units of a list with the types in their headers.
+ghost use Rattle.std.specs.Prelude.{◌≡◌, true, ◌+◌, ◌-◌, ◌≤◌, length};
+ghost use Rattle.std.proofs.Props.{props};
+ghost use Rattle.std.specs.Iterator.{at_most};
 ghost use Rattle.boxes.specs.Parts.{held};
 ghost use Rattle.nal.specs.Header.{largest_unit_type, type_or31};
 ghost use Rattle.nal.specs.Kinds.{is_record_type};
 ghost use Rattle.unit_list.specs.Answers.{list_units};
-ghost use Rattle.unit_list.specs.inner.Walk.{Fits};
-ghost use Rattle.unit_list.specs.inner.Walk.{units_left};
+ghost use Rattle.unit_list.specs.inner.Walk.{Fits, units_left, two_or_four-prop};
 ghost use Rattle.grouping.specs.Grouping.{having_type, first_element};
-ghost use Rattle.grouping.specs.inner.Units.{Readable, units_at, found_unit, FirstFits, started_units, StartReads, held_units, Steps};
+ghost use Rattle.grouping.specs.inner.Units.{Readable, found_unit, held_units};
 
 use boxes::{Span, place};
-use error::Counted;
+use error::Refusal;
 use list_units::{Wanted, find};
 use nal::header;
-use unit_list::{ListCursor, ListStart, ListStep, walk};
+use unit_list::{ListCursor, ListWalk, walk};
 
-// A step of a walk over units that read: where the unit lies, its type, and the cursor after it; or the end.
-#[derive(Clone, Copy)]
-pub enum UnitStep {
-    Unit(Span, u8, ListCursor),
-    End,
-}
-
-// Where the first unit of a type lies, or that there is none.
-#[derive(Clone, Copy)]
-pub enum FirstUnit {
-    At(Span),
-    Missing,
-}
-
-// The cursor itself if all units after it read. Refusal: 21.
-fn start_at(list: &[u8], c: ListCursor) -> ListStart
-    requires { Fits list.now c }
-    ensures { (started_units list.now result ≡ held_units list.now (units_left list.now c))
-        × StartReads list.now result }
-{
-    let found = find::find_from(list, c, Wanted::Every, 0);
-    let counted = found.counted;
-    match counted {
-        Counted::Count(_) => ListStart::At(c),
-        Counted::Refused(e) => ListStart::Refused(e),
-    }
-}
-
-// The start of a walk over a list whose units all read. Refusals: 23, 21.
-pub fn start(list: &[u8]) -> ListStart
-    ensures { (started_units list.now result ≡ held_units list.now (list_units list.now))
-        × StartReads list.now result }
-{
-    match walk::start(list) {
-        ListStart::At(c) => start_at(list, c),
-        ListStart::Refused(e) => ListStart::Refused(e),
-    }
+// The units of a list after a cursor, all of which read. A copy walks over them anew.
+#[derive(Clone, Copy, Debug)]
+pub struct TypedUnits<'a> {
+    pub list: &'a [u8],
+    pub cursor: ListCursor,
+    pub ghost readable: { Readable list.now cursor } by { Prim.hlevel (two_or_four-prop, props) },
 }
 
 // The type of the unit at span a; 31 if byte 1 is absent.
@@ -63,33 +33,59 @@ fn unit_type(list: &[u8], a: Span) -> u8
     header::type_or_31(unit)
 }
 
-// The next unit after a cursor, with its type, or the end.
-pub fn next_unit(list: &[u8], c: ListCursor) -> UnitStep
-    requires { Readable list.now c }
-    ensures { Steps list.now c result }
-{
-    let step = walk::step(list, c);
-    let ListStep::Unit(a, next) = step else {
-        return UnitStep::End;
-    };
-    let t = unit_type(list, a);
-    UnitStep::Unit(a, t, next)
+impl<'a> TypedUnits<'a> {
+    ghost use Rattle.std.specs.Prelude.{IfOk};
+    ghost use Rattle.grouping.specs.inner.TypedUnits.{units_of, started_units};
+
+    // The units after a cursor if all of them read. Refusal: 21.
+    fn after(list: &'a [u8], cursor: ListCursor) -> Result<TypedUnits<'a>, Refusal>
+        requires { Fits list.now cursor }
+        ensures { (started_units result ≡ held_units list.now (units_left list.now cursor))
+            × IfOk result (λ units. units.list.now ≡ list.now) }
+    {
+        find::find_from(ListWalk { list, cursor }, Wanted::Every, 0)?;
+        Ok(TypedUnits { list, cursor })
+    }
+
+    // The units of a list, all of which read. Refusals: 23, 21.
+    pub fn start(list: &'a [u8]) -> Result<TypedUnits<'a>, Refusal>
+        ensures { (started_units result ≡ held_units list.now (list_units list.now))
+            × IfOk result (λ units. units.list.now ≡ list.now) }
+    {
+        let first = walk::start(list)?;
+        TypedUnits::after(list, first)
+    }
+
+    // The first unit of a record kind, if there is one; t is the type of that kind.
+    pub fn first_having(self, t: u8) -> Option<&'a [u8]>
+        requires { is_record_type t ≡ true }
+        ensures { found_unit result ≡ first_element (having_type t (units_of self.entry)) }
+    {
+        for (unit, found) in self {
+            if header::is_record_of(found, t) {
+                return Some(place::part(self.list, unit));
+            }
+        }
+        None
+    }
 }
 
-// The first unit of a record kind after a cursor; t is the type of that kind.
-pub fn first_having(list: &[u8], c: ListCursor, t: u8) -> FirstUnit
-    requires { Readable list.now c × (is_record_type t ≡ true) }
-    ensures { (found_unit list.now result ≡ first_element (having_type t (units_at list.now c)))
-        × FirstFits list.now result }
-{
-    let mut here = c;
-    loop {
-        let UnitStep::Unit(a, found, next) = next_unit(list, here) else {
-            return FirstUnit::Missing;
+// The next unit and its type. All units read, so no step is refused.
+impl<'a> Iterator for TypedUnits<'a> {
+    ghost use Rattle.grouping.specs.inner.TypedUnits.{Steps};
+
+    type Item = (Span, u8);
+
+    ghost next_gives = { Steps };
+
+    ghost remaining = { λ u. at_most (length u.list.now - u.cursor.at) };
+
+    fn next(&mut self) -> Option<(Span, u8)> {
+        let Ok(Some((unit, next))) = walk::step(self.list, self.cursor) else {
+            return None;
         };
-        if header::is_record_of(found, t) {
-            return FirstUnit::At(a);
-        }
-        here = next;
+        let t = unit_type(self.list, unit);
+        self.cursor = next;
+        Some((unit, t))
     }
 }

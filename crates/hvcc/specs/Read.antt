@@ -1,35 +1,15 @@
 -- The HEVC record read (SCOPE 4.11; HEVCDecoderConfigurationRecord, ISO/IEC 14496-15 8.3.3.1). Reserved bits of the head are ignored.
-use Rattle.std.specs.Prelude.{ℕ, ◌+◌, ◌/◌, ◌%◌, false, not, List, eqb}
+use Rattle.std.specs.Prelude.{ℕ, ◌+◌, ◌/◌, ◌%◌, not, List, eqb}
 use Rattle.parse.specs.Outcome.{Outcome, lent_input}
 use Rattle.parse.specs.Parse.{Parser, ◌>>=◌, ◌>>◌, give, refuse_if, times}
 use Rattle.boxes.specs.Bytes.{uint}
 use Rattle.boxes.specs.declared.Span.{Span}
 use Rattle.unit_list.specs.UnitList.{Array}
 use Rattle.record_arrays.specs.Read.{record_array}
-use Rattle.record_arrays.specs.Record.{RecordParsed, record_parsed}
+use Rattle.record_arrays.specs.Record.{record_parsed}
 use Rattle.record_arrays.specs.declared.Codec.TheVariants.{Hevc}
+use Rattle.record_arrays.specs.declared.ParsedRecord.{ParsedRecord}
 use Rattle.hvcc.specs.declared.HevcConfig.{HevcConfig}
-
--- the head on a refusal
-abbrev pub zero_head : HevcConfig
-zero_head = record {
-  general_profile_space = 0;
-  general_tier_flag = false;
-  general_profile_idc = 0;
-  general_profile_compatibility_flags = 0;
-  general_constraint_indicator_flags = 0;
-  general_level_idc = 0;
-  min_spatial_segmentation_idc = 0;
-  parallelism_type = 0;
-  chroma_format_idc = 0;
-  bit_depth_luma_minus8 = 0;
-  bit_depth_chroma_minus8 = 0;
-  avg_frame_rate = 0;
-  constant_frame_rate = 0;
-  num_temporal_layers = 0;
-  temporal_id_nested = false;
-  length_size = 0;
-}
 
 -- the head: 27 for a version other than 1, directly after byte 0
 unfoldable pub hevc_head : Parser HevcConfig
@@ -76,7 +56,7 @@ hevc_record = do
 
 -- what reading returns: the head, the number of bytes consumed, and the length of the list
 abbrev pub HevcParsed : Type 0
-HevcParsed = RecordParsed HevcConfig
+HevcParsed = ParsedRecord HevcConfig
 
 -- `hvcc_read::parse`. Refusals: 23, then in byte order 1 and 27; with an output 20
 unfoldable pub parse_hevc : List ℕ → Outcome (HevcParsed × List ℕ)

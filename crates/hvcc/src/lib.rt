@@ -4,7 +4,7 @@
 
 // The head of an HEVC record: HEVCDecoderConfigurationRecord (ISO/IEC 14496-15 8.3.3.1) without its version, which is 1, and without its
 // arrays, which are in a unit list.
-#[derive(Clone, Copy)]
+#[derive(Clone, Copy, Debug, PartialEq, Eq)]
 pub struct HevcConfig {
     pub general_profile_space: u8,
     pub general_tier_flag: bool,

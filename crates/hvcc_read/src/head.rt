@@ -1,66 +1,20 @@
 // Internal: the head of an HEVC record.
 ghost use Rattle.std.specs.Prelude.{◌≡◌, ◌≤◌, ◌^◌, length};
-ghost use Rattle.error.specs.Refusals.{number_of};
-ghost use Rattle.parse.specs.Parse.{refused as refused_by};
-ghost use Rattle.parse.specs.inner.Answers.{or_zeros};
+ghost use Rattle.parse.specs.inner.Answers.{read_of};
 ghost use Rattle.boxes.specs.Bytes.{be};
-ghost use Rattle.hvcc.specs.Read.{hevc_head, zero_head};
+ghost use Rattle.hvcc.specs.Read.{hevc_head};
 ghost use Rattle.hvcc.specs.inner.Fields.{head_fields};
-ghost use Rattle.hvcc_read.specs.inner.Heads.{head_read_of};
 
 use boxes::place;
 use error::Refusal;
 use hvcc::{HEAD_LEN, HevcConfig, LOW_FLAGS_END};
-use record_arrays_read::HeadAnswer;
-
-// The answer with the head, which is all zeros on a refusal.
-#[derive(Clone, Copy)]
-pub struct HeadRead {
-    pub answer: HeadAnswer,
-    pub head: HevcConfig,
-}
-
-// The head on a refusal.
-pub fn zero_head() -> HevcConfig
-    ensures { result ≡ zero_head }
-{
-    HevcConfig {
-        general_profile_space: 0,
-        general_tier_flag: false,
-        general_profile_idc: 0,
-        general_profile_compatibility_flags: 0,
-        general_constraint_indicator_flags: 0,
-        general_level_idc: 0,
-        min_spatial_segmentation_idc: 0,
-        parallelism_type: 0,
-        chroma_format_idc: 0,
-        bit_depth_luma_minus8: 0,
-        bit_depth_chroma_minus8: 0,
-        avg_frame_rate: 0,
-        constant_frame_rate: 0,
-        num_temporal_layers: 0,
-        temporal_id_nested: false,
-        length_size: 0,
-    }
-}
-
-// A refusal, with a head of zeros.
-fn refused(e: Refusal) -> HeadRead
-    ensures { head_read_of result ≡ or_zeros zero_head (refused_by (number_of e)) }
-{
-    let head = zero_head();
-    let answer = HeadAnswer::Refused(e);
-    HeadRead {
-        answer: answer,
-        head: head,
-    }
-}
 
 // general_constraint_indicator_flags: 48 bits, read as two numbers.
 fn constraint_flags(s: &[u8]) -> u64
     requires { 12 ≤ length s.now }
     ensures { result ≡ be s.now 6 6 }
 {
+    // `as`: u64 has no From of a usize; nothing is lost.
     let high = place::number(s, 6, 2) as u64;
     let low = place::number(s, 8, 4) as u64;
     high * LOW_FLAGS_END + low
@@ -86,14 +40,17 @@ fn head_fields(s: &[u8]) -> HevcConfig
         general_profile_space: profile / 64,
         general_tier_flag: profile / 32 % 2 == 1,
         general_profile_idc: profile % 32,
+        // `as`: a number of four bytes, so nothing is lost.
         general_profile_compatibility_flags: compatibility as u32,
         general_constraint_indicator_flags: constraints,
         general_level_idc: level,
+        // `as`: twelve bits, so nothing is lost.
         min_spatial_segmentation_idc: (segmentation % 4096) as u16,
         parallelism_type: parallelism % 4,
         chroma_format_idc: chroma % 4,
         bit_depth_luma_minus8: luma % 8,
         bit_depth_chroma_minus8: depth % 8,
+        // `as`: a number of two bytes, so nothing is lost.
         avg_frame_rate: rate as u16,
         constant_frame_rate: layers / 64,
         num_temporal_layers: layers / 8 % 8,
@@ -102,24 +59,21 @@ fn head_fields(s: &[u8]) -> HevcConfig
     }
 }
 
-// Reads the head at the front of a record. Refusals: 1 for an empty record, 27 for a version other than 1, then 1.
-pub fn read_head(s: &[u8]) -> HeadRead
+// Reads the head at the front of a record, and returns the place after it. Refusals: 1 for an empty record, 27 for a version other than 1,
+// then 1.
+pub fn read_head(s: &[u8]) -> Result<(HevcConfig, usize), Refusal>
     requires { length s.now ≤ 2 ^ 30 }
-    ensures { head_read_of result ≡ or_zeros zero_head (hevc_head s.now 0) }
+    ensures { read_of result ≡ hevc_head s.now 0 }
 {
-    if s.len() == 0 {
-        return refused(Refusal::Truncated);
+    if s.is_empty() {
+        return Err(Refusal::Truncated);
     }
     if s[0] != 1 {
-        return refused(Refusal::ConfigurationVersion);
+        return Err(Refusal::ConfigurationVersion);
     }
     if s.len() < HEAD_LEN {
-        return refused(Refusal::Truncated);
+        return Err(Refusal::Truncated);
     }
     let head = head_fields(s);
-    let answer = HeadAnswer::Read(HEAD_LEN);
-    HeadRead {
-        answer: answer,
-        head: head,
-    }
+    Ok((head, HEAD_LEN))
 }

@@ -10,14 +10,7 @@ ghost use Rattle.item_data.specs.inner.Still.{payload_of, PayloadFits, restored_
 use boxes::{Span, place};
 use compact::CompactVvcConfig;
 use nal::{NAL_IDR_N_LP, header};
-use split::{NextUnit, walk};
-
-// Where the payload of the one unit lies, or that the item is not one such unit.
-#[derive(Clone, Copy)]
-pub enum Still {
-    Payload(Span),
-    Other,
-}
+use split::walk;
 
 // Stores the length in `size` bytes, the header 00 41 and the stored bytes at the front of the output.
 fn store_still(size: usize, stored: &[u8], out: &mut [u8])
@@ -39,50 +32,48 @@ pub fn store_item(config: CompactVvcConfig, stored: &[u8], out: &mut [u8])
         place::copy(stored, out, 0);
         return;
     }
-    store_still(place::wide(config.length_size), stored, out);
+    store_still(usize::from(config.length_size), stored, out);
 }
 
 // The payload of an item's one unit, if that unit has type 8, layer 0 and temporal id plus 1 of 1.
-pub fn find_still(length_size: u8, item: &[u8]) -> Still
+pub fn find_still(length_size: u8, item: &[u8]) -> Option<Span>
     requires { length item.now ≤ 2 ^ 30 }
     ensures { (payload_of item.now result ≡ only_still item.now (item_units length_size item.now))
         × PayloadFits item.now result }
 {
     if place::outside(length_size) {
-        return Still::Other;
+        return None;
     }
-    let size = place::wide(length_size);
-    let NextUnit::Unit(a, next) = walk::item_step(item, size, 0) else {
-        return Still::Other;
+    let Ok(Some(first)) = walk::item_step(item, usize::from(length_size), 0) else {
+        return None;
     };
-    if next < item.len() {
-        return Still::Other;
+    if first.next < item.len() {
+        return None;
     }
-    still_of(item, a)
+    still_of(item, first.unit)
 }
 
-// Whether the unit at span a is that of a plain still, and where its payload lies.
-fn still_of(item: &[u8], a: Span) -> Still
+// Where the payload of the unit at span a lies, if the unit is that of a plain still.
+fn still_of(item: &[u8], a: Span) -> Option<Span>
     requires { a.start + a.len ≤ length item.now }
     ensures { (payload_of item.now result ≡ only_still item.now (accept (a ∷ []))) × PayloadFits item.now result }
 {
     if a.len < 2 {
-        return Still::Other;
+        return None;
     }
-    let start = a.start;
-    let first = item[start];
-    let second = item[start + 1];
+    let first = item[a.start];
+    let second = item[a.start + 1];
     if first % 64 != 0 {
-        return Still::Other;
+        return None;
     }
     if !header::is_picture_data_of(second / 8, NAL_IDR_N_LP) {
-        return Still::Other;
+        return None;
     }
     if second % 8 != 1 {
-        return Still::Other;
+        return None;
     }
-    Still::Payload(Span {
-        start: start + 2,
+    Some(Span {
+        start: a.start + 2,
         len: a.len - 2,
     })
 }

@@ -6,7 +6,8 @@ use mathlib.Core.List.{List, [], ◌∷◌, ◌++◌, map}
 use native.Mathlib.Omega.{arith}
 use lib.Dec.{leb}
 use lib.ListN.{length, length-append}
-use Rattle.std.specs.Prelude.{if◌then◌else◌}
+use Rattle.std.specs.Prelude.{if◌then◌else◌, Option, Some, None, Result, Ok}
+use Rattle.error.specs.declared.Refusal.{Refusal}
 use Rattle.parse.specs.Outcome.{Outcome, accept, refuse, and_then}
 use Rattle.parse.specs.inner.Walk.{more}
 use Rattle.boxes.specs.Bytes.{to_be, to_chunk}
@@ -19,10 +20,6 @@ use Rattle.unit_list.specs.UnitList.{Array, array_with, encode_units, encode_res
 use Rattle.unit_list.specs.UnitList.{units_fit, lengths_fit}
 use Rattle.unit_list.specs.inner.Walk.{array_units_from, units_stepped, UnitStepFits, arrays_from, arrays_stepped, ArrayStepFits, TwoOrFour, Fits, Entered}
 use Rattle.unit_list.specs.declared.ListCursor.{ListCursor}
-use Rattle.unit_list.specs.declared.ListStep.{ListStep}
-use Rattle.unit_list.specs.declared.ListStep.TheVariants as L
-use Rattle.unit_list.specs.declared.ArrayStep.{ArrayStep}
-use Rattle.unit_list.specs.declared.ArrayStep.TheVariants as A
 use Rattle.unit_list.proofs.Arrays.{two_to_four}
 use Rattle.unit_list.proofs.Encode.{length_array}
 use Rattle.record_arrays.specs.Read.{holds_one}
@@ -34,8 +31,6 @@ use Rattle.list_arrays.specs.inner.Measures.{measured_by, after_measured, array_
 use Rattle.list_arrays.specs.declared.Layout.{Layout}
 use Rattle.list_arrays.specs.declared.Layout.TheVariants as Y
 use Rattle.list_arrays.specs.declared.measure.Measure.{Measure}
-use Rattle.list_arrays.specs.declared.measure.ArrayMeasured.{ArrayMeasured}
-use Rattle.list_arrays.specs.declared.measure.ArrayMeasured.TheVariants as R
 
 and_yes : (b : Bool) → b && true ≡ b
 and_yes true = refl
@@ -79,13 +74,13 @@ module _ (w : ℕ) where
       ap accept (same_measure (omega arith) (omega arith) (rw l))
 
 -- a step inside an array
-module _ (s : List ℕ) (here : ListCursor) (r : ListStep) (f : (units_stepped s r ≡ array_units_from s here) × UnitStepFits s here r) where
-  pub units_end : r ≡ L.End → array_units_from s here ≡ accept []
+module _ (s : List ℕ) (here : ListCursor) (r : Result (Option (Span × ListCursor)) Refusal) (f : (units_stepped s r ≡ array_units_from s here) × UnitStepFits s here r) where
+  pub units_end : r ≡ Ok None → array_units_from s here ≡ accept []
   units_end e = sym (sym (ap (units_stepped s) e) ∙ f.0)
 
-  module _ (a : Span) (next : ListCursor) (e : r ≡ L.Unit a next) where
-    passed : (units_stepped s (L.Unit a next) ≡ array_units_from s here) × UnitStepFits s here (L.Unit a next)
-    passed = subst (λ (r : ListStep). (units_stepped s r ≡ array_units_from s here) × UnitStepFits s here r) e f
+  module _ (a : Span) (next : ListCursor) (e : r ≡ Ok (Some (a, next))) where
+    passed : (units_stepped s (Ok (Some (a, next))) ≡ array_units_from s here) × UnitStepFits s here (Ok (Some (a, next)))
+    passed = subst (λ (r : Result (Option (Span × ListCursor)) Refusal). (units_stepped s r ≡ array_units_from s here) × UnitStepFits s here r) e f
 
     pub units_next : array_units_from s here ≡ more a (array_units_from s next)
     units_next = sym passed.0
@@ -122,9 +117,9 @@ pub record MeasuringUnits (w : ℕ) (s : List ℕ) (c here : ListCursor) (v : Me
   pub whole : after_measured v (measured_by (units_measure w s) (array_units_from s here)) ≡ measured_by (units_measure w s) (array_units_from s c)
 
 module _ (w : ℕ) (s : List ℕ) (c : ListCursor) where
-  module _ (here : ListCursor) (v : Measure) (i : MeasuringUnits w s c here v) (r : ListStep)
+  module _ (here : ListCursor) (v : Measure) (i : MeasuringUnits w s c here v) (r : Result (Option (Span × ListCursor)) Refusal)
       (f : (units_stepped s r ≡ array_units_from s here) × UnitStepFits s here r) where
-    pub units_ended : r ≡ L.End
+    pub units_ended : r ≡ Ok None
         → (accept v ≡ measured_by (units_measure w s) (array_units_from s c)) × ((2 * c.at + v.len ≤ 2 * c.end) × (c.at + v.count ≤ c.end))
     units_ended e = (
       after_end v ∙ ap (λ (m : Measure). after_measured v (accept m)) (sym (units_none w s))
@@ -132,7 +127,7 @@ module _ (w : ℕ) (s : List ℕ) (c : ListCursor) where
       (omega (arith, i.len, i.fits.before, i.end), omega (arith, i.count, i.fits.before, i.end)),
     )
 
-    module _ (a : Span) (next : ListCursor) (e : r ≡ L.Unit a next) (small : w ≤ 4) where
+    module _ (a : Span) (next : ListCursor) (e : r ≡ Ok (Some (a, next))) (small : w ≤ 4) where
       pub units_again : MeasuringUnits w s c next (joined v (unit_measure w a.len))
       units_again =
           let h = ahead s here r f a next e in
@@ -180,11 +175,11 @@ module _ (s : List ℕ) (b t : ℕ) where
       let m = length-append (array_bytes k (held_array s (array_with b t us))) (arrays_bytes k (held_arrays s xs)) in
       same_measure (omega arith) (omega arith) refl
   array_more (Y.List w) us xs =
-      let l = length_array w (held_array s (array_with b t us)) in
-      let m = length-append (encode_array w (held_array s (array_with b t us))) (encode_arrays w (held_arrays s xs)) in
-      let n : 2 + length (encode_units w (map (held s) us)) ≡ length (encode_rest w (held_array s (array_with b t us))) = omega arith in
+      let l = length_array w.bytes (held_array s (array_with b t us)) in
+      let m = length-append (encode_array w.bytes (held_array s (array_with b t us))) (encode_arrays w.bytes (held_arrays s xs)) in
+      let n : 2 + length (encode_units w.bytes (map (held s) us)) ≡ length (encode_rest w.bytes (held_array s (array_with b t us))) = omega arith in
       same_measure (omega arith) (omega arith)
-      (ap (λ (k : ℕ). (leb k 65535 && units_fit (map (held s) us)) && lengths_fit w (held_arrays s xs)) n)
+      (ap (λ (k : ℕ). (leb k 65535 && units_fit (map (held s) us)) && lengths_fit w.bytes (held_arrays s xs)) n)
 
   arrays_more : (l : Layout) (m : Measure) (u : Outcome (List Span)) (rest : Outcome (List (Array Span)))
       → accept m ≡ measured_by (units_measure (unit_width l) s) u
@@ -197,36 +192,36 @@ module _ (s : List ℕ) (b t : ℕ) where
       rw y (ap accept (array_more l us xs))
 
 -- an array takes at most eight bytes besides its units, which is twice what it takes in a list
-array_room : (l : Layout) → unit_width l ≤ 4 → (b t : ℕ) (m : Measure) → ((array_by l b t m).count ≡ 1) × ((array_by l b t m).len ≤ 8 + m.len)
-array_room (Y.Record k) h b t m = let n = count_small (holds_one k t) in (refl, omega arith)
-array_room (Y.List w) h b t m = (refl, omega arith)
+array_room : (l : Layout) (b t : ℕ) (m : Measure) → ((array_by l b t m).count ≡ 1) × ((array_by l b t m).len ≤ 8 + m.len)
+array_room (Y.Record k) b t m = let n = count_small (holds_one k t) in (refl, omega arith)
+array_room (Y.List w) b t m = let h = w.small in (refl, omega arith)
 
 -- a step over one array
-module _ (s : List ℕ) (here : ListCursor) (r : ArrayStep) (f : (arrays_stepped s r ≡ arrays_from s here) × ArrayStepFits s here r) where
-  pub array_end : r ≡ A.End → arrays_from s here ≡ accept []
+module _ (s : List ℕ) (here : ListCursor) (r : Result (Option (ℕ × ListCursor)) Refusal) (f : (arrays_stepped s r ≡ arrays_from s here) × ArrayStepFits s here r) where
+  pub array_end : r ≡ Ok None → arrays_from s here ≡ accept []
   array_end e = sym (sym (ap (arrays_stepped s) e) ∙ f.0)
 
-  pub entered : (b : ℕ) (c : ListCursor) → r ≡ A.Array b c → (arrays_stepped s (A.Array b c) ≡ arrays_from s here) × Entered TwoOrFour s here b c
-  entered b c e = subst (λ (r : ArrayStep). (arrays_stepped s r ≡ arrays_from s here) × ArrayStepFits s here r) e f
+  pub entered : (b : ℕ) (c : ListCursor) → r ≡ Ok (Some (b, c)) → (arrays_stepped s (Ok (Some (b, c))) ≡ arrays_from s here) × Entered TwoOrFour s here b c
+  entered b c e = subst (λ (r : Result (Option (ℕ × ListCursor)) Refusal). (arrays_stepped s r ≡ arrays_from s here) × ArrayStepFits s here r) e f
 
 -- what it adds to the measure
-module _ (l : Layout) (s : List ℕ) (here : ListCursor) (r : ArrayStep) (f : (arrays_stepped s r ≡ arrays_from s here) × ArrayStepFits s here r) where
-  pub end_measured : r ≡ A.End → accept nothing ≡ measured_by (arrays_measure l s) (arrays_from s here)
+module _ (l : Layout) (s : List ℕ) (here : ListCursor) (r : Result (Option (ℕ × ListCursor)) Refusal) (f : (arrays_stepped s r ≡ arrays_from s here) × ArrayStepFits s here r) where
+  pub end_measured : r ≡ Ok None → accept nothing ≡ measured_by (arrays_measure l s) (arrays_from s here)
   end_measured e = arrays_none l s ∙ ap (measured_by (arrays_measure l s)) (sym (array_end s here r f e))
 
-  module _ (b : ℕ) (c : ListCursor) (e : r ≡ A.Array b c) where
-    step : (arrays_stepped s (A.Array b c) ≡ arrays_from s here) × Entered TwoOrFour s here b c
+  module _ (b : ℕ) (c : ListCursor) (e : r ≡ Ok (Some (b, c))) where
+    step : (arrays_stepped s (Ok (Some (b, c))) ≡ arrays_from s here) × Entered TwoOrFour s here b c
     step = entered s here r f b c e
 
     module _ (m : Measure) (h : accept m ≡ measured_by (units_measure (unit_width l) s) (array_units_from s c))
         (w : (2 * c.at + m.len ≤ 2 * c.end) × (c.at + m.count ≤ c.end)) where
-      pub array_measured_lem : array_measured l s (R.Array (array_by l b c.unit_type m) c) ≡ measured_by (arrays_measure l s) (arrays_from s here)
+      pub array_measured_lem : array_measured l s (Ok (Some (array_by l b c.unit_type m, c))) ≡ measured_by (arrays_measure l s) (arrays_from s here)
       array_measured_lem = arrays_more s b c.unit_type l m (array_units_from s c) (arrays_from s c) h ∙ ap (measured_by (arrays_measure l s)) step.0
 
-      pub array_takes : unit_width l ≤ 4 → Takes s here (array_by l b c.unit_type m) c
-      array_takes small =
+      pub array_takes : Takes s here (array_by l b c.unit_type m) c
+      array_takes =
           let g = step.1 in
-          let n = array_room l small b c.unit_type m in
+          let n = array_room l b c.unit_type m in
           record {
             one = n.0;
             len = omega (arith, n.1, w.0, g.first, (two_to_four c.width g.fits.width).0);
@@ -242,11 +237,11 @@ pub record MeasuringArrays (l : Layout) (s : List ℕ) (c here : ListCursor) (v 
   pub whole : after_measured v (measured_by (arrays_measure l s) (arrays_from s here)) ≡ measured_by (arrays_measure l s) (arrays_from s c)
 
 module _ (l : Layout) (s : List ℕ) (c : ListCursor) where
-  module _ (here : ListCursor) (v : Measure) (i : MeasuringArrays l s c here v) (r : ArrayMeasured)
+  module _ (here : ListCursor) (v : Measure) (i : MeasuringArrays l s c here v) (r : Result (Option (Measure × ListCursor)) Refusal)
       (f : (array_measured l s r ≡ measured_by (arrays_measure l s) (arrays_from s here)) × ArrayWithin s here r) where
-    module _ (m : Measure) (d : ListCursor) (e : r ≡ R.Array m d) where
-      took : (array_measured l s (R.Array m d) ≡ measured_by (arrays_measure l s) (arrays_from s here)) × Takes s here m d
-      took = subst (λ (r : ArrayMeasured). (array_measured l s r ≡ measured_by (arrays_measure l s) (arrays_from s here)) × ArrayWithin s here r) e f
+    module _ (m : Measure) (d : ListCursor) (e : r ≡ Ok (Some (m, d))) where
+      took : (array_measured l s (Ok (Some (m, d))) ≡ measured_by (arrays_measure l s) (arrays_from s here)) × Takes s here m d
+      took = subst (λ (r : Result (Option (Measure × ListCursor)) Refusal). (array_measured l s r ≡ measured_by (arrays_measure l s) (arrays_from s here)) × ArrayWithin s here r) e f
 
       pub arrays_again : MeasuringArrays l s c d (joined v m)
       arrays_again =

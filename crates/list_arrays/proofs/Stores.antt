@@ -7,6 +7,8 @@ use native.Mathlib.Omega.{arith}
 use native.Mathlib.Numerals.{add-one}
 use lib.ListN.{length, set, length-append, length-set}
 use lib.Seq.{sets, length-sets}
+use Rattle.std.specs.Prelude.{Option, Some, None, Result, Ok}
+use Rattle.error.specs.declared.Refusal.{Refusal}
 use Rattle.parse.specs.Outcome.{Outcome, accept, refuse, and_then}
 use Rattle.parse.specs.inner.Walk.{more}
 use Rattle.parse.specs.inner.Stores.{Puts, bytes_of}
@@ -19,12 +21,8 @@ use Rattle.unit_list.specs.UnitList.{Array, array_with, largest_type, encode_arr
 use Rattle.unit_list.specs.inner.Walk.{array_units_from, units_stepped, UnitStepFits, arrays_from, arrays_stepped, ArrayStepFits, Fits}
 use Rattle.unit_list.specs.inner.Written.{unit_bytes}
 use Rattle.unit_list.specs.declared.ListCursor.{ListCursor}
-use Rattle.unit_list.specs.declared.ListStep.{ListStep}
-use Rattle.unit_list.specs.declared.ListStep.TheVariants as L
-use Rattle.unit_list.specs.declared.ArrayStep.{ArrayStep}
-use Rattle.unit_list.specs.declared.ArrayStep.TheVariants as A
 use Rattle.unit_list.proofs.Encode.{length_array}
-use Rattle.unit_list.proofs.StoredUnits.{Copying, copying_never, copying_done, copying_room, copying_again}
+use Rattle.unit_list.proofs.StoredUnits.{Copying, copying_done, copying_room, copying_again}
 use Rattle.unit_list.proofs.Written as written
 use Rattle.record_arrays.specs.Read.{holds_one}
 use Rattle.record_arrays.specs.Write.{array_bytes, arrays_bytes}
@@ -43,20 +41,14 @@ pub record PuttingUnits (w : ℕ) (s : List ℕ) (c : ListCursor) (out₀ : List
   pub putting : Copying w s out₀ to₀ (array_units_from s c) (array_units_from s here) out to
 
 module _ (w : ℕ) (s : List ℕ) (c : ListCursor) (out₀ : List ℕ) (to₀ : ℕ) where
-  module _ (here : ListCursor) (out : List ℕ) (to : ℕ) (i : PuttingUnits w s c out₀ to₀ here out to) (r : ListStep)
+  module _ (here : ListCursor) (out : List ℕ) (to : ℕ) (i : PuttingUnits w s c out₀ to₀ here out to) (r : Result (Option (Span × ListCursor)) Refusal)
       (f : (units_stepped s r ≡ array_units_from s here) × UnitStepFits s here r) where
-    pub units_done : ((a : Span) (n : ListCursor) → r ≡ L.Unit a n → ⊥)
+    pub units_done : r ≡ Ok None
         → (to ≡ to₀ + length (bytes_of (unit_bytes w s) (array_units_from s c))) × (out ≡ sets out₀ to₀ (bytes_of (unit_bytes w s) (array_units_from s c)))
-    units_done = go r f
-      where
-        go : (r : ListStep) → (units_stepped s r ≡ array_units_from s here) × UnitStepFits s here r → ((a : Span) (n : ListCursor) → r ≡ L.Unit a n → ⊥)
-            → (to ≡ to₀ + length (bytes_of (unit_bytes w s) (array_units_from s c)))
-            × (out ≡ sets out₀ to₀ (bytes_of (unit_bytes w s) (array_units_from s c)))
-        go (L.Unit a next) f k = absurd (k a next refl)
-        go L.End f k = copying_done w s out₀ to₀ (array_units_from s c) (array_units_from s here) out to i.putting (sym f.0)
-        go L.Malformed f k = absurd (copying_never w s out₀ to₀ (array_units_from s c) (array_units_from s here) out to i.putting 21 (sym f.0))
+    units_done e =
+        copying_done w s out₀ to₀ (array_units_from s c) (array_units_from s here) out to i.putting (sym (sym (ap (units_stepped s) e) ∙ f.0))
 
-    module _ (a : Span) (next : ListCursor) (e : r ≡ L.Unit a next) where
+    module _ (a : Span) (next : ListCursor) (e : r ≡ Ok (Some (a, next))) where
       pub unit_room : (a.start + a.len ≤ length s) × (to + w + a.len ≤ length out)
       unit_room =
           let h = (ahead s here r f a next e).inside in (
@@ -196,20 +188,14 @@ pub record PuttingArrays (l : Layout) (s : List ℕ) (c₀ : ListCursor) (out₀
   pub putting : Putting (arrays_laid l s) out₀ to₀ (arrays_from s c₀) (arrays_from s here) out to
 
 module _ (l : Layout) (s : List ℕ) (c₀ : ListCursor) (out₀ : List ℕ) (to₀ : ℕ) where
-  module _ (here : ListCursor) (out : List ℕ) (to : ℕ) (i : PuttingArrays l s c₀ out₀ to₀ here out to) (r : ArrayStep)
+  module _ (here : ListCursor) (out : List ℕ) (to : ℕ) (i : PuttingArrays l s c₀ out₀ to₀ here out to) (r : Result (Option (ℕ × ListCursor)) Refusal)
       (f : (arrays_stepped s r ≡ arrays_from s here) × ArrayStepFits s here r) where
-    pub arrays_done : ((b : ℕ) (c : ListCursor) → r ≡ A.Array b c → ⊥) → out ≡ sets out₀ to₀ (bytes_of (arrays_laid l s) (arrays_from s c₀))
-    arrays_done = go r f
-      where
-        go : (r : ArrayStep) → (arrays_stepped s r ≡ arrays_from s here) × ArrayStepFits s here r → ((b : ℕ) (c : ListCursor) → r ≡ A.Array b c → ⊥)
-            → out ≡ sets out₀ to₀ (bytes_of (arrays_laid l s) (arrays_from s c₀))
-        go (A.Array b c) f n = absurd (n b c refl)
-        go A.End f n =
-            (putting_end (arrays_laid l s) out₀ to₀ (arrays_from s c₀) (arrays_from s here) out to i.putting (arrays_nil l s) (sym f.0)).1
-        go A.Malformed f n =
-            absurd (putting_never (arrays_laid l s) out₀ to₀ (arrays_from s c₀) (arrays_from s here) out to i.putting 21 (sym f.0))
+    pub arrays_done : r ≡ Ok None → out ≡ sets out₀ to₀ (bytes_of (arrays_laid l s) (arrays_from s c₀))
+    arrays_done e =
+        (putting_end (arrays_laid l s) out₀ to₀ (arrays_from s c₀) (arrays_from s here) out to i.putting (arrays_nil l s)
+        (sym (sym (ap (arrays_stepped s) e) ∙ f.0))).1
 
-    module _ (b : ℕ) (c : ListCursor) (e : r ≡ A.Array b c) where
+    module _ (b : ℕ) (c : ListCursor) (e : r ≡ Ok (Some (b, c))) where
       -- the units of this array, since all are found
       pub record HasUnits : Type 0 where
         pub units : List Span

@@ -5,11 +5,20 @@
 pub mod measure;
 pub mod put;
 
+ghost use Rattle.std.specs.Prelude.{◌≤◌};
+
 use record_arrays::Codec;
 
+// How many bytes a length has: at most four.
+#[derive(Clone, Copy, Debug, PartialEq, Eq)]
+pub struct LengthWidth {
+    pub bytes: usize,
+    pub ghost small: { bytes ≤ 4 },
+}
+
 // How arrays are written: as those of a full record, or as those of a unit list whose lengths have so many bytes.
-#[derive(Clone, Copy)]
+#[derive(Clone, Copy, Debug, PartialEq, Eq)]
 pub enum Layout {
     Record(Codec),
-    List(usize),
+    List(LengthWidth),
 }

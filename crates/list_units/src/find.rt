@@ -1,19 +1,18 @@
 // Internal: counts the wanted units of a list and finds one of them, in one walk.
-ghost use Rattle.std.specs.Prelude.{◌≡◌, [], ◌+◌, ◌<◌, ◌^◌};
-ghost use Rattle.boxes.specs.Places.{in_first, place_of, place_found, PlaceFits};
-ghost use Rattle.unit_list.specs.inner.Walk.{Fits, typed_units_from};
+ghost use Rattle.std.specs.Prelude.{◌≡◌, ◌<◌, ◌^◌};
+ghost use Rattle.unit_list.specs.inner.Walks.{typed_left};
 ghost use Rattle.list_units.specs.inner.Find.{wants, Finds, wanted_of, wanted_list, seeing};
 
-use super::{Found, Wanted};
-use boxes::{Span, UnitPlace};
-use error::{Counted, Refusal};
-use unit_list::{ListCursor, ListStart, ListStep, walk};
+use super::Wanted;
+use boxes::Span;
+use error::Refusal;
+use unit_list::ListWalk;
 
-// The wanted units passed so far: how many, and the span of number k.
-#[derive(Clone, Copy)]
+// The wanted units passed so far: how many, and where number k lies, if it was passed.
+#[derive(Clone, Copy, Debug, PartialEq, Eq)]
 pub struct Seen {
     pub count: usize,
-    pub unit: Span,
+    pub unit: Option<Span>,
 }
 
 // Whether a unit in an array of type `t` is wanted.
@@ -35,79 +34,33 @@ fn see(seen: Seen, w: Wanted, k: usize, t: u8, a: Span) -> Seen
         return seen;
     }
     let number = seen.count;
-    let count = number + 1;
-    let unit = seen.unit;
-    if number == k {
-        return Seen {
-            count: count,
-            unit: a,
-        };
-    }
+    let unit = if number == k { Some(a) } else { seen.unit };
     Seen {
-        count: count,
-        unit: unit,
+        count: number + 1,
+        unit,
     }
 }
 
-// Counts the wanted units after a cursor, and finds number k.
-pub fn find_from(list: &[u8], c: ListCursor, w: Wanted, k: usize) -> Found
-    requires { Fits list.now c }
-    ensures { Finds list.now (wanted_of w (typed_units_from list.now c)) k result }
+// Counts the wanted units that are left of a walk, and finds number k. Refusal: 21.
+pub fn find_from(walk: ListWalk, w: Wanted, k: usize) -> Result<Seen, Refusal>
+    ensures { Finds walk.entry.list.now (wanted_of w (typed_left walk.entry)) k result }
 {
-    let nowhere = Span { start: 0, len: 0 };
-    let mut here = c;
+    let mut walk = walk;
     let mut seen = Seen {
         count: 0,
-        unit: nowhere,
+        unit: None,
     };
-    loop {
-        match walk::step(list, here) {
-            ListStep::Unit(a, next) => {
-                seen = see(seen, w, k, next.unit_type, a);
-                here = next;
-            }
-            ListStep::End => {
-                let unit = seen.unit;
-                return Found {
-                    counted: Counted::Count(seen.count),
-                    unit: unit,
-                };
-            }
-            ListStep::Malformed => return Found {
-                counted: Counted::Refused(Refusal::UnitList),
-                unit: nowhere,
-            },
-        }
+    // No `for`: a step can be refused, and `?` ends the loop there.
+    while let Some(unit) = walk.next_unit()? {
+        seen = see(seen, w, k, walk.cursor.unit_type, unit);
     }
+    Ok(seen)
 }
 
 // Counts the wanted units of a list, and finds number k. Refusals: 23, 21.
-pub fn find(list: &[u8], w: Wanted, k: usize) -> Found
+pub fn find(list: &[u8], w: Wanted, k: usize) -> Result<Seen, Refusal>
     ensures { Finds list.now (wanted_list w list.now) k result }
 {
-    match walk::start(list) {
-        ListStart::At(c) => find_from(list, c, w, k),
-        ListStart::Refused(e) => Found {
-            counted: Counted::Refused(e),
-            unit: Span { start: 0, len: 0 },
-        },
-    }
-}
-
-// Where number k of the wanted units of a list lies. Refusals: 23, 21.
-pub fn unit_at(list: &[u8], w: Wanted, k: usize) -> UnitPlace
-    ensures { (place_of result ≡ place_found in_first (wanted_list w list.now) k) × PlaceFits list.now [] result }
-{
-    let found = find(list, w, k);
-    let counted = found.counted;
-    match counted {
-        Counted::Count(n) => {
-            if n <= k {
-                return UnitPlace::Past;
-            }
-            let unit = found.unit;
-            UnitPlace::First(unit)
-        }
-        Counted::Refused(e) => UnitPlace::Refused(e),
-    }
+    let walk = ListWalk::start(list)?;
+    find_from(walk, w, k)
 }

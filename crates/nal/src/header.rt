@@ -27,20 +27,12 @@ pub fn kind_of(nal: &[u8]) -> UnitKind
 pub fn is_picture_data_of(nal_unit_type: u8, t: u8) -> bool
     ensures { result ≡ is_picture_data_of t (unit_kind nal_unit_type) }
 {
-    let kind = unit_kind(nal_unit_type);
-    match kind {
-        UnitKind::PictureData(x) => x == t,
-        _ => false,
-    }
+    unit_kind(nal_unit_type) == UnitKind::PictureData(t)
 }
 
 // Whether a type is a record kind and is `t`.
 pub fn is_record_of(nal_unit_type: u8, t: u8) -> bool
     ensures { result ≡ is_record_of t (unit_kind nal_unit_type) }
 {
-    let kind = unit_kind(nal_unit_type);
-    match kind {
-        UnitKind::Record(x) => x == t,
-        _ => false,
-    }
+    unit_kind(nal_unit_type) == UnitKind::Record(t)
 }

@@ -4,9 +4,10 @@
 pub mod header;
 
 ghost use Rattle.std.specs.Prelude.{◌≡◌};
+ghost use Rattle.parse.specs.Answers.{answer_of};
 ghost use Rattle.nal.specs.Header.{layer_id_of, unit_type_of, temporal_id_plus1_of, nal_header};
 ghost use Rattle.nal.specs.Kinds.{unit_kind, is_picture_data, is_record};
-ghost use Rattle.nal.specs.Answers.{header_of, header_part};
+ghost use Rattle.nal.specs.Answers.{header_part};
 
 use error::{LARGEST_INPUT, Refusal};
 
@@ -50,16 +51,8 @@ pub const LARGEST_UNIT_TYPE: u8 = 31;
 
 pub const UNIT_TYPES: usize = 32;
 
-// A field of a unit's header, or that it is absent (the original's `Option`).
-#[derive(Clone, Copy)]
-pub enum HeaderField {
-    Present(u8),
-    Absent,
-    Refused(Refusal),
-}
-
 // The kind of a unit; picture data and record kinds with their type.
-#[derive(Clone, Copy)]
+#[derive(Clone, Copy, Debug, PartialEq, Eq)]
 pub enum UnitKind {
     PictureData(u8),
     Record(u8),
@@ -68,42 +61,33 @@ pub enum UnitKind {
 }
 
 // The type of a unit: bits 7 to 3 of byte 1. Refusal: 23.
-pub fn nal_unit_type(nal: &[u8]) -> HeaderField
-    ensures { header_of result ≡ header_part unit_type_of nal.now }
+pub fn nal_unit_type(nal: &[u8]) -> Result<Option<u8>, Refusal>
+    ensures { answer_of result ≡ header_part unit_type_of nal.now }
 {
     if LARGEST_INPUT < nal.len() {
-        return HeaderField::Refused(Refusal::InputTooLong);
+        return Err(Refusal::InputTooLong);
     }
-    if nal.len() < 2 {
-        return HeaderField::Absent;
-    }
-    HeaderField::Present(nal[1] / 8)
+    Ok(nal.get(1).map(|b| b / 8))
 }
 
 // The layer id of a unit: the low 6 bits of byte 0. Refusal: 23.
-pub fn nal_layer_id(nal: &[u8]) -> HeaderField
-    ensures { header_of result ≡ header_part layer_id_of nal.now }
+pub fn nal_layer_id(nal: &[u8]) -> Result<Option<u8>, Refusal>
+    ensures { answer_of result ≡ header_part layer_id_of nal.now }
 {
     if LARGEST_INPUT < nal.len() {
-        return HeaderField::Refused(Refusal::InputTooLong);
+        return Err(Refusal::InputTooLong);
     }
-    if nal.len() < 1 {
-        return HeaderField::Absent;
-    }
-    HeaderField::Present(nal[0] % 64)
+    Ok(nal.get(0).map(|b| b % 64))
 }
 
 // The temporal id plus 1 of a unit: the low 3 bits of byte 1. Refusal: 23.
-pub fn nal_temporal_id_plus1(nal: &[u8]) -> HeaderField
-    ensures { header_of result ≡ header_part temporal_id_plus1_of nal.now }
+pub fn nal_temporal_id_plus1(nal: &[u8]) -> Result<Option<u8>, Refusal>
+    ensures { answer_of result ≡ header_part temporal_id_plus1_of nal.now }
 {
     if LARGEST_INPUT < nal.len() {
-        return HeaderField::Refused(Refusal::InputTooLong);
+        return Err(Refusal::InputTooLong);
     }
-    if nal.len() < 2 {
-        return HeaderField::Absent;
-    }
-    HeaderField::Present(nal[1] % 8)
+    Ok(nal.get(1).map(|b| b % 8))
 }
 
 // The two bytes of a unit's header, each field cut to its width.
@@ -131,20 +115,12 @@ pub fn unit_kind(nal_unit_type: u8) -> UnitKind
 pub fn is_vcl(nal_unit_type: u8) -> bool
     ensures { result ≡ is_picture_data (unit_kind nal_unit_type) }
 {
-    let kind = unit_kind(nal_unit_type);
-    match kind {
-        UnitKind::PictureData(_) => true,
-        _ => false,
-    }
+    matches!(unit_kind(nal_unit_type), UnitKind::PictureData(_))
 }
 
 // Whether this type is a record kind: a record may have units of it.
 pub fn is_record_nal_type(nal_unit_type: u8) -> bool
     ensures { result ≡ is_record (unit_kind nal_unit_type) }
 {
-    let kind = unit_kind(nal_unit_type);
-    match kind {
-        UnitKind::Record(_) => true,
-        _ => false,
-    }
+    matches!(unit_kind(nal_unit_type), UnitKind::Record(_))
 }

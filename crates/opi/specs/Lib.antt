@@ -1,3 +1,2 @@
 pub mod Opi
 pub mod Answers
-pub mod inner

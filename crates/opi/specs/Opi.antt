@@ -1,6 +1,5 @@
 -- The operating point of an OPI as bits (SCOPE 3.12; H.266 7.3.2.2), read from a unit.
-use Rattle.std.specs.Prelude.{List, ℕ, drop, if◌then◌else◌}
-use Rattle.std.proofs.Math.Option.{Option, none, some}
+use Rattle.std.specs.Prelude.{List, ℕ, drop, if◌then◌else◌, Option, None, Some}
 use Rattle.parse.specs.Parse.{Parsed, value, refused, Parser, ◌>>=◌, ◌>>◌, refusing}
 use Rattle.rbsp.specs.Rbsp.{rbsp}
 use Rattle.bit_reader.specs.Bits.{u, is_set, ue}
@@ -14,8 +13,8 @@ opi_point = do
 
 -- the value, or none on a refusal
 abbrev pub where_read : {A : Type 0} → Parsed A → Option A
-where_read (value a p) = some a
-where_read (refused e) = none
+where_read (value a p) = Some a
+where_read (refused e) = None
 
 -- the operating point of an OPI unit, from the RBSP after its header; none where it does not read
 unfoldable pub opi_ols_idx : List ℕ → Option ℕ

@@ -4,27 +4,21 @@
 pub mod point;
 
 ghost use Rattle.std.specs.Prelude.{◌≡◌};
-ghost use Rattle.opi.specs.Answers.{ols_idx_of, ols_idx_given};
+ghost use Rattle.parse.specs.Answers.{answer_of};
+ghost use Rattle.opi.specs.Answers.{ols_idx_given};
 
 use error::{LARGEST_INPUT, Refusal};
 
-// The operating point of an OPI, or that it does not read.
-#[derive(Clone, Copy)]
-pub enum OlsIdx {
-    Present(u32),
-    Absent,
-    Refused(Refusal),
-}
-
-// Reads the operating point of an OPI from its unit; absent where it does not read. Refusal: 23.
-pub fn opi_ols_idx(nal: &[u8]) -> OlsIdx
-    ensures { ols_idx_of result ≡ ols_idx_given nal.now }
+// Reads the operating point of an OPI from its unit; none where it does not read. Refusal: 23.
+#[tactic(auto, using(params::proofs::Units::after_header, crate::proofs::Units::opi_short), unfolding(crate::specs::Opi::opi_ols_idx))]
+pub fn opi_ols_idx(nal: &[u8]) -> Result<Option<u32>, Refusal>
+    ensures { answer_of result ≡ ols_idx_given nal.now }
 {
     if LARGEST_INPUT < nal.len() {
-        return OlsIdx::Refused(Refusal::InputTooLong);
+        return Err(Refusal::InputTooLong);
     }
     if nal.len() < 2 {
-        return OlsIdx::Absent;
+        return Ok(None);
     }
-    point::parse_payload(&nal[2..])
+    Ok(point::parse_payload(&nal[2..]))
 }

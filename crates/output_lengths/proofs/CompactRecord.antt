@@ -14,7 +14,8 @@ use Rattle.boxes.specs.Bytes.{uint, chunk, to_chunk, outside}
 use Rattle.boxes.proofs.Numbers.{be_one}
 use Rattle.unit_list.specs.UnitList.{encode_units}
 use Rattle.grouping.proofs.GroupedFits.{units_long}
-use Rattle.compact.specs.Compact.{at_end, compact_record, CompactParsed, all_at_most, compact_bytes, compact_first_byte}
+use Rattle.compact.specs.declared.CompactRead.{CompactRead}
+use Rattle.compact.specs.Compact.{at_end, compact_record, all_at_most, compact_bytes, compact_first_byte}
 use Rattle.compact.specs.declared.CompactVvcConfig.{CompactVvcConfig}
 use Rattle.compact.proofs.Facts.{CompactFacts}
 use Rattle.access_unit.specs.inner.Gathered.{lengths}
@@ -53,7 +54,7 @@ module _ (C : List ℕ) where
       gives_bind (at_end C r) _ (gives_any _) (λ _ t _.
       gives_value _ t (ap (λ (n : ℕ). eqb (n / 128) 1) (u.is ∙ be_one C 0)))))
 
-  module _ (r : CompactParsed) (list : List ℕ) (f : CompactFacts C r list) where
+  module _ (r : CompactRead) (list : List ℕ) (f : CompactFacts C r list) where
     pub compact_long : length C ≡ 1 + length f.units + lengths f.units
     compact_long = omega (arith, written_long r.config f.units C f.written, encoded_long 1 f.units)
 

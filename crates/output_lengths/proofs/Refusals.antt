@@ -3,11 +3,10 @@ use Prim.Native.Nat.{ℕ, zero, suc, ◌+◌, ◌-◌, ◌*◌, ◌/◌, ◌%◌
 use mathlib.Core.Path.{◌≡◌, refl, ◌∙◌}
 use mathlib.Core.Bool.{Bool, true, false, not}
 use mathlib.Core.List.{List, [], ◌∷◌, map}
-use mathlib.Core.Option.{Option, none, some}
 use native.Mathlib.Omega.{arith}
 use lib.Dec.{leb, ltb, eqb}
 use lib.ListN.{length, get_or, drop}
-use Rattle.std.specs.Prelude.{if◌then◌else◌}
+use Rattle.std.specs.Prelude.{if◌then◌else◌, Option, None, Some}
 use Rattle.parse.specs.Outcome.{Outcome, accept, refuse, and_then}
 use Rattle.parse.specs.Steps.{or_refuse}
 use Rattle.parse.specs.Parse.{Parsed, value, refused, bind, Parser, ◌>>=◌, give, refusing, refuse_if, here, times, many, many_up_to, outcome, outcome_or}
@@ -39,7 +38,8 @@ use Rattle.full.specs.Strict.{holds_or, parse_strict}
 use Rattle.full.specs.declared.VvcConfig.{VvcConfig}
 use Rattle.expand.specs.Expand.{multi_layer_vps, ptl_of_sets, expand_units, to_full}
 use Rattle.expand.specs.declared.Picture.{Picture}
-use Rattle.access_unit.specs.AccessUnit.{Source, target_of, arranged, not_empty, access_unit, assemble}
+use Rattle.access_unit.specs.declared.Source.{Source}
+use Rattle.access_unit.specs.AccessUnit.{target_of, arranged, not_empty, access_unit, assemble}
 use Rattle.access_unit.specs.declared.StartCodes.{StartCodes}
 use Rattle.still.specs.Stills.{any_picture, still_record, stream_with, still_stream}
 use Rattle.vvcc_records.specs.Records.{read_beside}
@@ -340,8 +340,8 @@ list_not_short list = not_short_then (decode list) _ (not_short_lent list _ (go 
     go (refused n) = λ e. omega arith
 
 or_not_short : {A : Type 0} (n : ℕ) (o : Option A) → (n ≡ 20 → ⊥) → NotShort (or_refuse n o)
-or_not_short n none h = h
-or_not_short n (some a) h = tt
+or_not_short n None h = h
+or_not_short n (Some a) h = tt
 
 unit_not_short : {A : Type 0} {P : Parser A} → NeverShort P → (t : ℕ) (unit : List ℕ)
     → NotShort (if eqb (type_or31 unit) t then outcome (P (rbsp (drop 2 unit)) 0) else refuse 10)

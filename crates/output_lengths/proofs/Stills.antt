@@ -3,7 +3,7 @@ use Prim.Native.Nat.{ℕ, ◌+◌, ◌*◌, ◌^◌, ◌≤◌}
 use mathlib.Core.Path.{◌≡◌, refl, sym, ap, ◌∙◌, subst}
 use mathlib.Core.Bool.{Bool, true, false}
 use mathlib.Core.List.{List, [], ◌∷◌, ◌++◌, map}
-use mathlib.Core.Option.{Option}
+use Rattle.std.specs.Prelude.{Option}
 use native.Mathlib.Omega.{arith}
 use lib.ListN.{length, length-append}
 use Rattle.parse.specs.Outcome.{Outcome, accept, and_then}
@@ -16,14 +16,16 @@ use Rattle.unit_list.specs.Answers.{list_units}
 use Rattle.annex_b.specs.Stream.{annex_b}
 use Rattle.grouping.specs.Grouping.{grouped}
 use Rattle.grouping.proofs.GroupedFits.{grouped_sound, grouped_few, grouped_count}
-use Rattle.compact.specs.Compact.{CompactParsed, parse_compact}
+use Rattle.compact.specs.declared.CompactRead.{CompactRead}
+use Rattle.compact.specs.Compact.{parse_compact}
 use Rattle.compact.specs.ItemData.{still_unit, restore}
 use Rattle.compact.specs.declared.CompactVvcConfig.{CompactVvcConfig}
 use Rattle.record_arrays.specs.Write.{arrays_bytes}
 use Rattle.record_arrays.specs.declared.Codec.TheVariants.{Vvc}
 use Rattle.full.specs.Write.{head_bytes, full_bytes, serialize_full}
 use Rattle.full.specs.declared.VvcConfig.{VvcConfig}
-use Rattle.expand.specs.Expand.{FullHead, expanded_head, to_full}
+use Rattle.expand.specs.declared.Expanded.{Expanded}
+use Rattle.expand.specs.Expand.{expanded_head, to_full}
 use Rattle.expand.specs.declared.Picture.{Picture}
 use Rattle.access_unit.specs.AccessUnit.{code_of, assemble}
 use Rattle.access_unit.specs.inner.Gathered.{lengths}
@@ -42,8 +44,8 @@ use Rattle.output_lengths.proofs.Grouped.{grouped_less}
 use Rattle.output_lengths.proofs.CompactRecord.{encoded_long, compact_long, flag_is}
 
 -- a compact record that was read and expanded
-module _ (C : List ℕ) (all : AllBytes C) (r : CompactParsed) (list : List ℕ) (e : parse_compact C ≡ accept (r, list)) (pic : Picture)
-    (full : FullHead) (arrays : List ℕ)
+module _ (C : List ℕ) (all : AllBytes C) (r : CompactRead) (list : List ℕ) (e : parse_compact C ≡ accept (r, list)) (pic : Picture)
+    (full : Expanded) (arrays : List ℕ)
     (x : to_full r.config pic list ≡ accept (full, arrays)) where
   abbrev c : CompactVvcConfig
   c = r.config

@@ -2,34 +2,22 @@
 use mathlib.Core.Path.{◌≡◌, refl}
 use mathlib.Core.Bool.{Bool, true, false}
 use mathlib.Core.List.{List}
-use Prim.Native.Nat.{ℕ, ◌-◌, ◌^◌, ◌≤◌, ◌<◌}
+use Prim.Native.Nat.{ℕ, ◌-◌, ◌^◌, ◌≤◌}
 use native.Mathlib.Omega.{arith}
 use lib.Dec.{leb, eqb}
 use lib.ListN.{length, take, drop, length-drop}
 use lib.Seq.{take_all}
-use borrow.Author.Tests.{leb-true, eqb-true, le-leb, lt-leb, eq-eqb, ne_eqb}
+use borrow.Author.Tests.{leb-true, eqb-true, le-leb, eq-eqb}
 use Rattle.std.specs.Prelude.{if◌then◌else◌}
-use Rattle.parse.specs.Outcome.{accept, refuse, hands_back}
+use Rattle.parse.specs.Outcome.{accept, refuse}
 use Rattle.parse.specs.Parse.{Parsed, value, refused, Parser, outcome}
 use Rattle.nal.specs.Header.{type_or31}
 use Rattle.rbsp.specs.Rbsp.{rbsp}
 use Rattle.params.specs.OfUnit.{of_unit}
-use Rattle.params.specs.inner.Answers.{read_or}
 
 -- what follows the header, as a part of the unit
 pub after_header : (unit : List ℕ) → take (length unit - 2) (drop 2 unit) ≡ drop 2 unit
 after_header unit = take_all (length unit - 2) (drop 2 unit) (omega (arith, length-drop 2 unit))
-
-module _ {A : Type 0} (zeros : A) (t : ℕ) (P : Parser A) (unit : List ℕ) where
-  pub unit_long : 2 ^ 30 < length unit → (refuse 23, zeros) ≡ hands_back (λ a. a) zeros (of_unit t P unit)
-  unit_long h = rw (lt-leb (length unit) (2 ^ 30) h)
-
-  pub unit_other : length unit ≤ 2 ^ 30 → (type_or31 unit ≡ t → ⊥) → (refuse 10, zeros) ≡ hands_back (λ a. a) zeros (of_unit t P unit)
-  unit_other h n = rw (le-leb (length unit) (2 ^ 30) h, ne_eqb (type_or31 unit) t n)
-
-  pub unit_read_lem : length unit ≤ 2 ^ 30 → type_or31 unit ≡ t
-      → read_or zeros (P (rbsp (take (length unit - 2) (drop 2 unit))) 0) ≡ hands_back (λ a. a) zeros (of_unit t P unit)
-  unit_read_lem h e = rw (after_header unit, le-leb (length unit) (2 ^ 30) h, eq-eqb (type_or31 unit) t e)
 
 -- A unit is accepted exactly where it has at most 2^30 bytes, is of the type, and its bits read.
 pub record Accepted {A : Type 0} (t : ℕ) (P : Parser A) (unit : List ℕ) (a : A) : Type 0 where

@@ -1,3 +1,2 @@
 pub mod OfUnit
-pub mod Answers
 pub mod inner

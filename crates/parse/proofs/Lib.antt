@@ -1,9 +1,9 @@
+pub mod PassedOn
 pub mod Many
 pub mod Lent
 pub mod Binds
 pub mod General
 pub mod Output
 pub mod Writes
-pub mod Zeros
 pub mod Gives
 pub mod Stores

@@ -33,8 +33,3 @@ counted (refuse e) = refuse e
 -- A call that writes is accepted with any output that is long enough: it returns a, and its bytes are at the front of the output.
 abbrev pub Writes : {A : Type 0} → Outcome (A × List ℕ) → A → List ℕ → Type 0
 Writes o a bytes = (out : List ℕ) → length bytes ≤ length out → lent_output o out ≡ (accept a, overlay bytes out)
-
--- an answer with a value beside it in a struct: what f makes of the result, or zeros on a refusal
-abbrev pub hands_back : {A B : Type 0} → (A → B) → B → Outcome A → Outcome A × B
-hands_back f zeros (accept a) = (accept a, f a)
-hands_back f zeros (refuse e) = (refuse e, zeros)

@@ -1,6 +1,5 @@
 -- Steps one after another: the first refusal is that of the whole (SCOPE 4.7).
-use Rattle.std.proofs.Math.Option.{Option, none, some}
-use Rattle.std.specs.Prelude.{ℕ}
+use Rattle.std.specs.Prelude.{ℕ, Option, None, Some}
 use Rattle.parse.specs.Outcome.{Outcome, accept, refuse, and_then}
 
 infixl 20 ◌>>=◌
@@ -13,5 +12,5 @@ abbrev pub ◌>>◌ : {A B : Type 0} → Outcome A → Outcome B → Outcome B
 
 -- the value where there is one, else refused with e
 abbrev pub or_refuse : {A : Type 0} → ℕ → Option A → Outcome A
-or_refuse e (some a) = accept a
-or_refuse e none = refuse e
+or_refuse e (Some a) = accept a
+or_refuse e None = refuse e

@@ -22,9 +22,11 @@ use Rattle.annex_b.proofs.Checked.{all_checked, all_splittable}
 use Rattle.ptl.proofs.Examples.{ptl_of_p}
 use Rattle.grouping.specs.Grouping.{having_type, grouped}
 use Rattle.grouping.specs.Order.{type_at}
-use Rattle.compact.specs.Compact.{CompactParsed, one_array, parse_compact}
+use Rattle.compact.specs.declared.CompactRead.{CompactRead}
+use Rattle.compact.specs.Compact.{one_array, parse_compact}
 use Rattle.compact.specs.declared.CompactVvcConfig.{CompactVvcConfig}
-use Rattle.expand.specs.Expand.{FullHead, expanded_head, with_list, to_full}
+use Rattle.expand.specs.declared.Expanded.{Expanded}
+use Rattle.expand.specs.Expand.{expanded_head, with_list, to_full}
 use Rattle.expand.specs.declared.Picture.{Picture}
 use Rattle.path.specs.Still.{AtMostOne, units_in, Still}
 
@@ -61,10 +63,10 @@ module _ (C S : List ℕ) (size : ℕ) (us : List (List ℕ)) where
   abbrev pub config : CompactVvcConfig
   config = record { multi_layer_flag = false; length_size = size }
 
-  abbrev pub read : CompactParsed
+  abbrev pub read : CompactRead
   read = record { config = config; unit_count = length us; list_length = length (one_array us) }
 
-  abbrev pub full : FullHead × List ℕ
+  abbrev pub full : Expanded × List ℕ
   full = with_list (expanded_head config picture ptl_of_p) (encode (grouped us))
 
   pub meets : units_in C ≡ us → all_bytes C ≡ true → parse_compact C ≡ accept (read, one_array us)

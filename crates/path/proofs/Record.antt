@@ -12,12 +12,13 @@ use Rattle.boxes.specs.declared.Span.{Span}
 use Rattle.unit_list.specs.Answers.{list_units}
 use Rattle.unit_list.proofs.Encode.{UnitsRead}
 use Rattle.grouping.proofs.GroupedFits.{Every}
-use Rattle.compact.specs.Compact.{CompactParsed, compact_record, one_array, parsed_with, parse_compact}
+use Rattle.compact.specs.declared.CompactRead.{CompactRead}
+use Rattle.compact.specs.Compact.{compact_record, one_array, parsed_with, parse_compact}
 use Rattle.compact.proofs.Facts.{CompactFacts, compact_facts}
 use Rattle.expand.proofs.Units.{every_of}
 use Rattle.path.specs.Still.{units_in}
 
-pub record Facts (us : List (List ℕ)) (read : CompactParsed) (list : List ℕ) : Type 0 where
+pub record Facts (us : List (List ℕ)) (read : CompactRead) (list : List ℕ) : Type 0 where
   pub few : length us ≤ 33
   pub short : Every (λ u. length u ≤ 255) us
   pub all_bytes_lem : Every AllBytes us
@@ -26,7 +27,7 @@ pub record Facts (us : List (List ℕ)) (read : CompactParsed) (list : List ℕ)
   pub units : UnitsRead list (list_units list) us
 
 -- what reading returns: the number of units, and the length of the list
-module _ (C : List ℕ) (read : CompactParsed) (list : List ℕ) (spans : List Span) (lent : length C ≤ 2 ^ 30)
+module _ (C : List ℕ) (read : CompactRead) (list : List ℕ) (spans : List Span) (lent : length C ≤ 2 ^ 30)
     (whole : compact_record C 0 ≡ value (read.config, spans) (length C)) (reads : parse_compact C ≡ accept (read, list)) where
   given : parse_compact C ≡ accept (parsed_with C (read.config, spans))
   unfolding parse_compact
@@ -35,10 +36,10 @@ module _ (C : List ℕ) (read : CompactParsed) (list : List ℕ) (spans : List S
   counts_read : parse_compact C ≡ accept (record { config = read.config; unit_count = length (units_in C); list_length = length list }, list)
   counts_read =
       let x : parsed_with C (read.config, spans) ≡ (read, list) = cc given in
-      let z : one_array (map (held C) spans) ≡ list = ap (λ (y : CompactParsed × List ℕ). y.1) x in
+      let z : one_array (map (held C) spans) ≡ list = ap (λ (y : CompactRead × List ℕ). y.1) x in
       rw (← z, whole, length-map spans (held C)) given
 
-module _ (C : List ℕ) (bytes : AllBytes C) (read : CompactParsed) (list : List ℕ) (reads : parse_compact C ≡ accept (read, list)) where
+module _ (C : List ℕ) (bytes : AllBytes C) (read : CompactRead) (list : List ℕ) (reads : parse_compact C ≡ accept (read, list)) where
   known : CompactFacts C read list
   known = compact_facts C bytes read list reads
 

@@ -18,7 +18,8 @@ use Rattle.sps.specs.Sps.{window, sps_head, parse_sps}
 use Rattle.sps.proofs.Examples.{head_of_p}
 use Rattle.vps.specs.Vps.{vps_ptl, vps_first_ptl}
 use Rattle.grouping.specs.Grouping.{having_type, without, firsts, grouped}
-use Rattle.compact.specs.Compact.{CompactParsed, at_end, compact_record, one_array, parse_compact}
+use Rattle.compact.specs.declared.CompactRead.{CompactRead}
+use Rattle.compact.specs.Compact.{at_end, compact_record, one_array, parse_compact}
 use Rattle.compact.specs.ItemData.{restore}
 use Rattle.compact.specs.declared.CompactVvcConfig.{CompactVvcConfig}
 use Rattle.record_arrays.specs.Read.{record_array}
@@ -42,7 +43,7 @@ abbrev plain : ℕ → CompactVvcConfig
 plain size = record { multi_layer_flag = false; length_size = size }
 
 -- a list that was read, expanded with chroma 1, depth 8, 16 by 8, and its full record
-abbrev written : Outcome (CompactParsed × List ℕ) → Outcome (List ℕ)
+abbrev written : Outcome (CompactRead × List ℕ) → Outcome (List ℕ)
 written o =
     and_then o (λ r.
     and_then (to_full r.0.config (record { chroma_format_idc = 1; bit_depth = 8; width = 16; height = 8 }) r.1) (λ f.

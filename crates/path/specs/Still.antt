@@ -7,9 +7,11 @@ use Rattle.boxes.specs.Bytes.{AllBytes}
 use Rattle.boxes.specs.declared.Span.{Span}
 use Rattle.start_code.specs.Splittable.{Clean}
 use Rattle.grouping.specs.Order.{type_at}
-use Rattle.compact.specs.Compact.{CompactParsed, compact_record, parse_compact}
+use Rattle.compact.specs.declared.CompactRead.{CompactRead}
+use Rattle.compact.specs.Compact.{compact_record, parse_compact}
 use Rattle.compact.specs.declared.CompactVvcConfig.{CompactVvcConfig}
-use Rattle.expand.specs.Expand.{FullHead, to_full}
+use Rattle.expand.specs.declared.Expanded.{Expanded}
+use Rattle.expand.specs.Expand.{to_full}
 use Rattle.expand.specs.declared.Picture.{Picture}
 
 -- at most one unit has type t
@@ -29,12 +31,12 @@ units_in C = units_read C (compact_record C 0)
 pub record Still (C S : List ℕ) : Type 0 where
   pub bytes : AllBytes C
   -- C reads
-  pub read : CompactParsed
+  pub read : CompactRead
   pub list : List ℕ
   pub reads : parse_compact C ≡ accept (read, list)
   -- C expands with some picture; whether it expands does not depend on the picture
   pub picture : Picture
-  pub full : FullHead
+  pub full : Expanded
   pub full_list : List ℕ
   pub expands : to_full read.config picture list ≡ accept (full, full_list)
   -- the multi-layer flag is clear, and the prefix size is 1, 2 or 4

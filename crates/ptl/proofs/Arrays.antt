@@ -12,11 +12,6 @@ module _ {A : Type 0} where
   pub length_padded : (N : ℕ) (z : A) (xs : List A) → length xs ≤ N → length (padded N z xs) ≡ N
   length_padded N z xs h = rw (length-append, length-replicate) (omega arith)
 
-  pub drop_replicate : (m n : ℕ) (a : A) → drop m (replicate n a) ≡ replicate (n - m) a
-  drop_replicate zero n a = rw (sub-zero n)
-  drop_replicate (suc m) zero a = rw (zero-sub (suc m))
-  drop_replicate (suc m) (suc n) a = rw (suc-sub-suc n m) (drop_replicate m n a)
-
   -- one more value, after those stored
   pub padded_more : (N : ℕ) (z : A) (xs : List A) (v : A) (k : ℕ) → length xs ≡ k → k < N → set (padded N z xs) k v ≡ padded N z (xs ++ (v ∷ []))
   padded_more N z xs v k e h =

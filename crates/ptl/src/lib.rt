@@ -8,13 +8,14 @@ ghost use Rattle.ptl.specs.Answers.{num_sublayers_of, num_bytes_constraint_info_
 
 // VvcPTLRecord (ISO/IEC 14496-15 11.2.4.1) with the original's fields. Its vectors are arrays with counts: 0 past a count and for an absent
 // level.
-#[derive(Clone, Copy)]
+#[derive(Clone, Copy, Debug, PartialEq, Eq)]
 pub struct VvcPtlRecord {
     pub general_profile_idc: u8,
     pub general_tier_flag: bool,
     pub general_level_idc: u8,
     pub ptl_frame_only_constraint_flag: bool,
     pub ptl_multilayer_enabled_flag: bool,
+    // arrays with counts: no call allocates
     pub num_bytes_constraint_info: usize,
     pub general_constraint_info: [u8; 63],
     pub num_sublayer_levels: usize,
@@ -29,19 +30,14 @@ impl VvcPtlRecord {
     pub fn num_sublayers(self) -> u8
         ensures { result ≡ num_sublayers_of self }
     {
-        if self.num_sublayer_levels < 7 {
-            return self.num_sublayer_levels as u8 + 1;
-        }
-        7
+        // `as`: at most 6, so nothing is lost.
+        self.num_sublayer_levels.min(6) as u8 + 1
     }
 
     // The number of constraint bytes that are written: 1 where there are none.
     pub fn num_bytes_constraint_info(self) -> usize
         ensures { result ≡ num_bytes_constraint_info_of self }
     {
-        if self.num_bytes_constraint_info == 0 {
-            return 1;
-        }
-        self.num_bytes_constraint_info
+        self.num_bytes_constraint_info.max(1)
     }
 }

@@ -1,4 +1,4 @@
-// Internal: a PTL of zeros, which stands beside a refusal.
+// Internal: a PTL of zeros, which stands where there is none.
 ghost use Rattle.std.specs.Prelude.{◌≡◌};
 ghost use Rattle.ptl.specs.Ptl.{zero_ptl};
 

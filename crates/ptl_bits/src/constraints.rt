@@ -1,15 +1,15 @@
 // Internal: passes over general_constraints_info( ) (H.266 7.3.3.2), and copies the bytes that hold it.
-ghost use Rattle.std.specs.Prelude.{◌≡◌, ◌-◌, ◌%◌, ◌≤◌, ◌^◌, length, take, drop, if◌then◌else◌};
-ghost use Rattle.parse.specs.Parse.{bind, give};
-ghost use Rattle.bit_reader.specs.Bits.{is_set};
-ghost use Rattle.bit_reader.specs.inner.Answers.{parsed, place_in, part_after};
+ghost use Rattle.std.specs.Prelude.{◌≡◌, ◌-◌, ◌%◌, ◌≤◌, ◌^◌, length, take, drop};
+ghost use Rattle.bit_reader.specs.inner.Reader.{Reads};
 ghost use Rattle.ptl.specs.Ptl.{padded, without_flags, constraint_bits, general_constraints_info};
 ghost use Rattle.ptl_bits.specs.inner.Sections.{constraints};
 
-use bit_reader::{BitsRead, ByteOffset, bits, then};
+use bit_reader::reader::BitReader;
+use bit_reader::{ByteOffset, bits};
+use error::Refusal;
 
 // The two flags before the constraint information, and the constraint bytes.
-#[derive(Clone, Copy)]
+#[derive(Clone, Copy, Debug, PartialEq, Eq)]
 pub struct Constraints {
     pub ptl_frame_only_constraint_flag: bool,
     pub ptl_multilayer_enabled_flag: bool,
@@ -17,42 +17,29 @@ pub struct Constraints {
     pub general_constraint_info: [u8; 63],
 }
 
-// The section's last read, which is refused where one of its reads is, and what was read.
-#[derive(Clone, Copy)]
-pub struct ConstraintsRead {
-    pub answer: BitsRead,
-    pub part: Constraints,
+// Passes over the bits that gci_present_flag announces. Refusal: 11.
+#[tactic(auto, unfolding(ptl::specs::Ptl::constraint_bits))]
+fn skip_constraint_bits(br: &mut BitReader) -> Result<(), Refusal>
+    requires { length br.old.src.now ≤ 2 ^ 20 }
+    ensures { Reads constraint_bits br.old br.new result }
+{
+    br.skip(71)?;
+    let num_additional_bits = br.u(8)?;
+    // `as`: usize has no From of a u32; nothing is lost.
+    br.skip(num_additional_bits as usize)
 }
 
-// Passes over the bits that gci_present_flag announces. Refusals: those of the read before, then 11.
-fn constraint_bits(rbsp: &[u8], prior: BitsRead) -> BitsRead
-    requires { length rbsp.now ≤ 2 ^ 20 }
-    ensures { part_after result tt ≡ bind (parsed prior) (λ _ q. constraint_bits rbsp.now q) }
+// Passes over general_constraints_info( ) up to the whole byte after it. Refusal: 11.
+#[tactic(auto, unfolding(ptl::specs::Ptl::general_constraints_info))]
+fn skip_constraints_info(br: &mut BitReader) -> Result<(), Refusal>
+    requires { length br.old.src.now ≤ 2 ^ 20 }
+    ensures { Reads general_constraints_info br.old br.new result }
 {
-    let fixed = then::skip_bits(rbsp, prior, 71);
-    let count = then::read_bits(rbsp, fixed, 8);
-    then::skip_bits(rbsp, count, then::number(count) as usize)
-}
-
-// Passes over those bits where gci_present_flag is 1, and over none where it is 0. Refusals: those of the read before, then 11.
-fn announced_bits(rbsp: &[u8], prior: BitsRead, present: u32) -> BitsRead
-    requires { length rbsp.now ≤ 2 ^ 20 }
-    ensures { part_after result tt ≡ bind (parsed prior) (λ _ q. (if is_set present then constraint_bits else give tt) rbsp.now q) }
-{
-    if present == 1 {
-        return constraint_bits(rbsp, prior);
+    if br.u(1)? == 1 {
+        skip_constraint_bits(br)?;
     }
-    prior
-}
-
-// Passes over general_constraints_info( ) up to the whole byte after it. Refusals: those of the read before, then 11.
-fn general_constraints_info(rbsp: &[u8], prior: BitsRead) -> BitsRead
-    requires { length rbsp.now ≤ 2 ^ 20 }
-    ensures { part_after result tt ≡ bind (parsed prior) (λ _ q. general_constraints_info rbsp.now q) }
-{
-    let flag = then::read_bits(rbsp, prior, 1);
-    let announced = announced_bits(rbsp, flag, then::number(flag));
-    then::align(announced)
+    br.align();
+    Ok(())
 }
 
 // The bytes between two offsets, at the front of an array; the top two bits of the first are set to 0.
@@ -61,49 +48,26 @@ pub fn constraint_bytes(rbsp: &[u8], from: ByteOffset, to: ByteOffset) -> [u8; 6
     ensures { result ≡ padded 63 0 (without_flags (take (to.0 - from.0) (drop from.0 rbsp.now))) }
 {
     let mut info = [0u8; 63];
-    let n = bits::bytes_between(from, to);
-    let mut k: usize = 0;
-    while k < n {
-        info[k] = bits::byte_after(rbsp, from, k);
-        k += 1;
-    }
-    info[0] = info[0] % 64;
+    info[..to.0 - from.0].copy_from_slice(&rbsp[from.0..to.0]);
+    info[0] %= 64;
     info
 }
 
-// A refusal, with zeros beside it.
-fn no_constraints(answer: BitsRead) -> ConstraintsRead
-    ensures { result.answer ≡ answer }
+// Reads the two flags and the constraint information from a whole byte on. Refusal: 11.
+#[tactic(auto, unfolding(ptl::specs::Ptl::constraint_bytes, crate::specs::inner::Sections::constraints))]
+pub fn read_constraints(br: &mut BitReader) -> Result<Constraints, Refusal>
+    requires { (length br.old.src.now ≤ 2 ^ 20) × (br.old.pos.0 % 8 ≡ 0) }
+    ensures { Reads constraints br.old br.new result }
 {
-    let part = Constraints {
-        ptl_frame_only_constraint_flag: false,
-        ptl_multilayer_enabled_flag: false,
-        num_bytes_constraint_info: 0,
-        general_constraint_info: [0u8; 63],
-    };
-    ConstraintsRead { answer, part }
-}
-
-// Reads the two flags and the constraint information after a read that ends at a whole byte. Refusals: that read's, then 11.
-pub fn read_constraints(rbsp: &[u8], prior: BitsRead) -> ConstraintsRead
-    requires { (length rbsp.now ≤ 2 ^ 20) × (place_in prior % 8 ≡ 0) }
-    ensures { part_after result.answer result.part ≡ bind (parsed prior) (λ _ q. constraints rbsp.now q) }
-{
-    let frame_only = then::read_bits(rbsp, prior, 1);
-    let multilayer = then::read_bits(rbsp, frame_only, 1);
-    let info = general_constraints_info(rbsp, multilayer);
-    let BitsRead::Value(_, end) = info else {
-        return no_constraints(info);
-    };
-    let from = bits::byte_offset(then::position(prior));
-    let to = bits::byte_offset(end);
-    let num_bytes = bits::bytes_between(from, to);
-    let bytes = constraint_bytes(rbsp, from, to);
-    let part = Constraints {
-        ptl_frame_only_constraint_flag: then::number(frame_only) == 1,
-        ptl_multilayer_enabled_flag: then::number(multilayer) == 1,
-        num_bytes_constraint_info: num_bytes,
-        general_constraint_info: bytes,
-    };
-    ConstraintsRead { answer: info, part }
+    let from = bits::byte_offset(br.bit_position());
+    let frame_only = br.u(1)?;
+    let multilayer = br.u(1)?;
+    skip_constraints_info(br)?;
+    let to = bits::byte_offset(br.bit_position());
+    Ok(Constraints {
+        ptl_frame_only_constraint_flag: frame_only == 1,
+        ptl_multilayer_enabled_flag: multilayer == 1,
+        num_bytes_constraint_info: to.0 - from.0,
+        general_constraint_info: constraint_bytes(br.src, from, to),
+    })
 }

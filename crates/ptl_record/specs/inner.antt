@@ -1,3 +1,2 @@
 -- Internal: what the contracts of internal functions say. No public definition needs it.
-pub mod Answers
 pub mod Places

@@ -6,9 +6,5 @@ pub fn level_count(sublayers: u8) -> usize
     requires { sublayers ≤ 7 }
     ensures { (result ≡ sublayers - 1) × (result ≤ 6) }
 {
-    if 1 < sublayers {
-        (sublayers - 1) as usize
-    } else {
-        0
-    }
+    usize::from(sublayers.saturating_sub(1))
 }

@@ -8,7 +8,7 @@ use lib.ListN.{length, get_or, set, replicate, length-replicate}
 use lib.Seq.{sets}
 use Rattle.parse.proofs.General.{sets_front}
 use Rattle.ptl.specs.Ptl.{padded, without_flags}
-use Rattle.ptl.proofs.Arrays.{drop_replicate}
+use Rattle.std.proofs.lemmas.List.{drop-replicate}
 
 module _ {A : Type 0} where
   pub padded_none : (N : ℕ) (z : A) → replicate N z ≡ padded N z []
@@ -17,7 +17,7 @@ module _ {A : Type 0} where
   -- a run stored from the front on
   pub padded_sets : (N : ℕ) (z : A) (xs : List A) → length xs ≤ N → sets (replicate N z) 0 xs ≡ padded N z xs
   padded_sets N z xs h =
-      sets_front (replicate N z) xs (let l = length-replicate N z in omega arith) ∙ ap (λ (l : List A). xs ++ l) (drop_replicate (length xs) N z)
+      sets_front (replicate N z) xs (let l = length-replicate N z in omega arith) ∙ ap (λ (l : List A). xs ++ l) (drop-replicate (length xs) N z)
 
 -- the two flags of the first constraint byte set to 0 in the array
 pub without_flags_lem : (xs : List ℕ) → set (padded 63 0 xs) 0 (get_or (padded 63 0 xs) 0 0 % 64) ≡ padded 63 0 (without_flags xs)

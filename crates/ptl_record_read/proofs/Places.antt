@@ -9,7 +9,8 @@ use lib.Dec.{eqb}
 use lib.ListN.{length, set, drop, replicate, length-append, length-set}
 use Rattle.boxes.specs.Bytes.{be}
 use Rattle.ptl.specs.Ptl.{padded, present_flags}
-use Rattle.ptl.proofs.Arrays.{padded_more, snoc_store, drop_replicate}
+use Rattle.std.proofs.lemmas.List.{drop-replicate}
+use Rattle.ptl.proofs.Arrays.{padded_more, snoc_store}
 use Rattle.ptl_record.specs.inner.Places.{words, levels_len, level_if, levels_at}
 
 pub length_flags : (m f : ℕ) → length (present_flags m f) ≡ m
@@ -57,8 +58,8 @@ module _ (s : List ℕ) (at flags m : ℕ) where
     place = refl;
     flags_long = refl;
     levels_long = refl;
-    flags_are = rw (length_flags m flags) (ap (λ (l : List Bool). present_flags m flags ++ l) (drop_replicate m 7 false));
-    levels_are = rw (length_levels m flags s at) (ap (λ (l : List ℕ). levels_at m flags s at ++ l) (drop_replicate m 7 0));
+    flags_are = rw (length_flags m flags) (ap (λ (l : List Bool). present_flags m flags ++ l) (drop-replicate m 7 false));
+    levels_are = rw (length_levels m flags s at) (ap (λ (l : List ℕ). levels_at m flags s at ++ l) (drop-replicate m 7 0));
   }
 
   module _ (present : List Bool) (idc : List ℕ) (next f j : ℕ) (v : Filled s at flags m present idc next f (suc j)) (few : m ≤ 7) where

@@ -1,24 +1,20 @@
 // Internal: reads the PTL record at a place of lent bytes.
 ghost use Rattle.std.specs.Prelude.{false, ◌≡◌, ◌+◌, ◌*◌, ◌%◌, ◌^◌, ◌≤◌, ◌<◌, length, get_or, take, drop};
-ghost use Rattle.error.specs.Refusals.{number_of};
-ghost use Rattle.parse.specs.Parse.{refused as refused_by};
-ghost use Rattle.parse.specs.inner.Answers.{or_zeros};
-ghost use Rattle.ptl.specs.Ptl.{padded, present_flags, without_flags, zero_ptl};
+ghost use Rattle.parse.specs.inner.Answers.{read_of};
+ghost use Rattle.ptl.specs.Ptl.{padded, present_flags, without_flags};
 ghost use Rattle.ptl_record.specs.Read.{vvc_ptl_record};
-ghost use Rattle.ptl_record.specs.inner.Answers.{ptl_record_of};
 ghost use Rattle.ptl_record.specs.inner.Places.{words, levels_len, level_if, levels_at, flags_at, levels_start, ptl_end, ptl_fields};
 
 use boxes::{Span, place};
 use error::Refusal;
-use ptl::{VvcPtlRecord, zeros};
-use ptl_record::{PtlRecordAnswer, PtlRecordRead};
+use ptl::VvcPtlRecord;
 
 // The levels of the sublayers with their flags, and the place after them.
 #[derive(Clone, Copy)]
-pub struct SublayerLevels {
-    pub next: usize,
-    pub present: [bool; 7],
-    pub idc: [u8; 7],
+struct SublayerLevels {
+    next: usize,
+    present: [bool; 7],
+    idc: [u8; 7],
 }
 
 // The n constraint bytes at a place; the two flags are set to 0.
@@ -52,20 +48,14 @@ fn read_levels(s: &[u8], at: usize, flags: u8, m: usize) -> SublayerLevels
     let mut idc = [0u8; 7];
     let mut next = at;
     let mut f = flags;
-    let mut i = m;
-    while 0 < i {
-        i -= 1;
+    for i in (0..m).rev() {
         let flag = f / 128;
         present[i] = flag == 1;
         idc[i] = level_if(flag, s, next);
-        next += place::wide(flag);
+        next += usize::from(flag);
         f = f % 128 * 2;
     }
-    SublayerLevels {
-        next: next,
-        present: present,
-        idc: idc,
-    }
+    SublayerLevels { next, present, idc }
 }
 
 // The n sub-profiles at a place.
@@ -74,11 +64,9 @@ fn read_sub_profiles(s: &[u8], at: usize, n: usize) -> [u32; 255]
     ensures { result ≡ padded 255 0 (words n s.now at) }
 {
     let mut a = [0u32; 255];
-    let mut k: usize = 0;
-    while k < n {
-        let v = place::number(s, at + k * 4, 4);
-        a[k] = v as u32;
-        k += 1;
+    for k in 0..n {
+        // `as`: a number of four bytes, so nothing is lost.
+        a[k] = place::number(s, at + k * 4, 4) as u32;
     }
     a
 }
@@ -108,10 +96,9 @@ fn ptl_fields(s: &[u8], at: usize, n: usize, m: usize, levels: SublayerLevels) -
     let third = place::byte(s, at + 2);
     let first = place::byte(s, at + 3);
     let info = read_constraint_info(s, at + 3, n);
-    let present = levels.present;
-    let idc = levels.idc;
-    let count = place::wide(place::byte(s, levels.next));
-    let sub_profiles = read_sub_profiles(s, levels.next + 1, count);
+    let SublayerLevels { next, present, idc } = levels;
+    let count = usize::from(place::byte(s, next));
+    let sub_profiles = read_sub_profiles(s, next + 1, count);
     VvcPtlRecord {
         general_profile_idc: second / 2,
         general_tier_flag: second % 2 == 1,
@@ -128,53 +115,42 @@ fn ptl_fields(s: &[u8], at: usize, n: usize, m: usize, levels: SublayerLevels) -
     }
 }
 
-// A refusal, with zeros.
-fn refused(e: Refusal) -> PtlRecordRead
-    ensures { ptl_record_of result ≡ or_zeros zero_ptl (refused_by (number_of e)) }
-{
-    let ptl = zeros::zero_ptl();
-    let answer = PtlRecordAnswer::Refused(e);
-    PtlRecordRead {
-        answer: answer,
-        ptl: ptl,
-    }
-}
-
 // Reads the record at a place, whose first byte has the constraint length n. Refusal: 1.
-fn read_after(s: &[u8], at: usize, n: usize, sublayers: u8) -> PtlRecordRead
+fn read_after(
+    s: &[u8],
+    at: usize,
+    n: usize,
+    sublayers: u8,
+) -> Result<(VvcPtlRecord, usize), Refusal>
     requires { (length s.now ≤ 2 ^ 30) × (at < length s.now) × (sublayers ≤ 7) × (n ≡ get_or s.now at 0 % 64) × (0 < n) }
-    ensures { ptl_record_of result ≡ or_zeros zero_ptl (vvc_ptl_record sublayers s.now at) }
+    ensures { read_of result ≡ vvc_ptl_record sublayers s.now at }
 {
     let after = at + 3 + n;
     let flags = flags_at(sublayers, s, after);
     let from = levels_start(sublayers, after);
     let m = ptl_record::levels::level_count(sublayers);
     let levels = read_levels(s, from, flags, m);
-    let next = levels.next;
-    let count = place::wide(place::byte(s, next));
-    let end = next + 1 + count * 4;
+    let count = usize::from(place::byte(s, levels.next));
+    let end = levels.next + 1 + count * 4;
     if s.len() < end {
-        return refused(Refusal::Truncated);
+        return Err(Refusal::Truncated);
     }
     let ptl = ptl_fields(s, at, n, m, levels);
-    let answer = PtlRecordAnswer::Read(end);
-    PtlRecordRead {
-        answer: answer,
-        ptl: ptl,
-    }
+    Ok((ptl, end))
 }
 
-// Reads the PTL record at a place, for a number of sublayers. Refusals in byte order: 1, 2 for a constraint length of 0.
-pub fn read_ptl(s: &[u8], at: usize, sublayers: u8) -> PtlRecordRead
+// Reads the PTL record at a place, for a number of sublayers: the record, and the place after it. Refusals in byte order: 1, 2 for a
+// constraint length of 0.
+pub fn read_ptl(s: &[u8], at: usize, sublayers: u8) -> Result<(VvcPtlRecord, usize), Refusal>
     requires { (length s.now ≤ 2 ^ 30) × (sublayers ≤ 7) }
-    ensures { ptl_record_of result ≡ or_zeros zero_ptl (vvc_ptl_record sublayers s.now at) }
+    ensures { read_of result ≡ vvc_ptl_record sublayers s.now at }
 {
     if s.len() <= at {
-        return refused(Refusal::Truncated);
+        return Err(Refusal::Truncated);
     }
-    let n = place::wide(s[at]) % 64;
+    let n = usize::from(s[at]) % 64;
     if n == 0 {
-        return refused(Refusal::ConstraintLengthZero);
+        return Err(Refusal::ConstraintLengthZero);
     }
     read_after(s, at, n, sublayers)
 }

@@ -13,16 +13,10 @@ use ptl::VvcPtlRecord;
 pub fn ptl_fits(p: VvcPtlRecord) -> bool
     ensures { result ≡ ptl_fits p }
 {
-    if 127 < p.general_profile_idc {
-        return false;
-    }
-    if 63 < p.num_bytes_constraint_info {
-        return false;
-    }
-    if 7 < p.num_sublayer_levels {
-        return false;
-    }
-    p.num_sub_profiles <= 255
+    p.general_profile_idc <= 127
+        && p.num_bytes_constraint_info <= 63
+        && p.num_sublayer_levels <= 7
+        && p.num_sub_profiles <= 255
 }
 
 // How many constraint bytes are written: 1 where there are none.
@@ -30,8 +24,7 @@ fn constraint_len(p: VvcPtlRecord) -> usize
     requires { p.num_bytes_constraint_info ≤ 63 }
     ensures { (result ≡ length (constraint_info p)) × (1 ≤ result) × (result ≤ 63) }
 {
-    let n = p.num_bytes_constraint_info;
-    if n == 0 { 1 } else { n }
+    p.num_bytes_constraint_info.max(1)
 }
 
 // Whether sublayer i has a level.
@@ -39,12 +32,7 @@ fn has_level(p: VvcPtlRecord, i: usize) -> bool
     requires { i < 7 }
     ensures { result ≡ has_level p i }
 {
-    let n = p.num_sublayer_levels;
-    if i < n {
-        p.sublayer_level_present_flag[i]
-    } else {
-        false
-    }
+    i < p.num_sublayer_levels && p.sublayer_level_present_flag[i]
 }
 
 // How many of the sublayers below m have a level.
@@ -53,10 +41,8 @@ fn levels_len(p: VvcPtlRecord, m: usize) -> usize
     ensures { (result ≡ length (level_bytes p m)) × (result ≤ m) }
 {
     let mut n: usize = 0;
-    let mut i: usize = 0;
-    while i < m {
-        n += place::wide(place::bit_of(has_level(p, i)));
-        i += 1;
+    for i in 0..m {
+        n += usize::from(has_level(p, i));
     }
     n
 }
@@ -87,11 +73,10 @@ pub fn ptl_len(p: VvcPtlRecord, sublayers: u8) -> usize
 fn first_byte(p: VvcPtlRecord) -> u8
     ensures { result ≡ first_constraint_byte p }
 {
-    let n = p.num_bytes_constraint_info;
-    let frame_only = place::bit_of(p.ptl_frame_only_constraint_flag);
-    let multilayer = place::bit_of(p.ptl_multilayer_enabled_flag);
+    let frame_only = u8::from(p.ptl_frame_only_constraint_flag);
+    let multilayer = u8::from(p.ptl_multilayer_enabled_flag);
     let flags = frame_only * 128 + multilayer * 64;
-    if n == 0 {
+    if p.num_bytes_constraint_info == 0 {
         flags
     } else {
         flags + p.general_constraint_info[0] % 64
@@ -114,7 +99,8 @@ fn put_front(out: &mut [u8], at: usize, p: VvcPtlRecord) -> usize
     ensures { (result ≡ at + length (front_bytes p)) × (out.new ≡ sets out.old at (front_bytes p)) × (result ≤ at + 66) }
 {
     let n = constraint_len(p);
-    let tier = place::bit_of(p.general_tier_flag);
+    let tier = u8::from(p.general_tier_flag);
+    // `as`: at most 63, so nothing is lost.
     place::put(out, at, n as u8);
     place::put(out, at + 1, p.general_profile_idc * 2 + tier);
     place::put(out, at + 2, p.general_level_idc);
@@ -128,10 +114,8 @@ fn flag_byte(p: VvcPtlRecord, m: usize) -> u8
     ensures { result ≡ flag_byte p m }
 {
     let mut f: u8 = 0;
-    let mut i: usize = 0;
-    while i < m {
-        f = place::bit_of(has_level(p, i)) * 128 + f / 2;
-        i += 1;
+    for i in 0..m {
+        f = u8::from(has_level(p, i)) * 128 + f / 2;
     }
     f
 }
@@ -153,12 +137,9 @@ fn put_levels(out: &mut [u8], at: usize, p: VvcPtlRecord, m: usize) -> usize
     requires { (m ≤ 7) × (at + length (level_bytes p m) ≤ length out.old) }
     ensures { (result ≡ at + length (level_bytes p m)) × (out.new ≡ sets out.old at (level_bytes p m)) }
 {
-    let mut i = m;
     let mut w = at;
-    while 0 < i {
-        let j = i - 1;
-        w = put_level(out, w, has_level(p, j), p.sublayer_level_idc[j]);
-        i = j;
+    for i in (0..m).rev() {
+        w = put_level(out, w, has_level(p, i), p.sublayer_level_idc[i]);
     }
     w
 }
@@ -182,10 +163,9 @@ fn put_sub_profiles(out: &mut [u8], at: usize, a: [u32; 255], n: usize)
     requires { (n ≤ 255) × (at + n * 4 ≤ length out.old) }
     ensures { out.new ≡ sets out.old at (sub_profile_bytes (take n a)) }
 {
-    let mut k: usize = 0;
-    while k < n {
+    for k in 0..n {
+        // `as`: usize has no From of a u32; nothing is lost.
         place::put_number(out, at + k * 4, 4, a[k] as usize);
-        k += 1;
     }
 }
 
@@ -199,6 +179,7 @@ pub fn put_ptl(out: &mut [u8], at: usize, p: VvcPtlRecord, sublayers: u8) -> usi
     let sub_profiles = p.general_sub_profile_idc;
     let a = put_front(out, at, p);
     let b = put_level_part(out, a, p, sublayers);
+    // `as`: at most 255, so nothing is lost.
     place::put(out, b, count as u8);
     put_sub_profiles(out, b + 1, sub_profiles, count);
     b + 1 + count * 4

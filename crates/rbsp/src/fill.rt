@@ -27,14 +27,11 @@ pub fn rbsp_len(payload: &[u8]) -> usize
 {
     let mut zeros: usize = 0;
     let mut n: usize = 0;
-    let mut i: usize = 0;
-    while i < payload.len() {
-        let b = payload[i];
+    for &b in payload {
         if !is_dropped(zeros, b) {
             n += 1;
         }
         zeros = next_zeros(zeros, b);
-        i += 1;
     }
     n
 }
@@ -45,9 +42,7 @@ pub fn fill_rbsp(payload: &[u8], out: &mut [u8]) -> usize
 {
     let mut zeros: usize = 0;
     let mut n: usize = 0;
-    let mut i: usize = 0;
-    while i < payload.len() {
-        let b = payload[i];
+    for &b in payload {
         if !is_dropped(zeros, b) {
             if n == out.len() {
                 return n;
@@ -56,7 +51,6 @@ pub fn fill_rbsp(payload: &[u8], out: &mut [u8]) -> usize
             n += 1;
         }
         zeros = next_zeros(zeros, b);
-        i += 1;
     }
     n
 }

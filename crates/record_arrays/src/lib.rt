@@ -4,8 +4,16 @@
 pub mod array;
 
 // Whose record it is. The two differ in the first byte of an array, and in whether every array has a count of units.
-#[derive(Clone, Copy)]
+#[derive(Clone, Copy, Debug, PartialEq, Eq)]
 pub enum Codec {
     Vvc,
     Hevc,
+}
+
+// A record that was read, with a head of type H: the head, how many bytes were consumed, and the length of the unit list in the output.
+#[derive(Clone, Copy, Debug, PartialEq, Eq)]
+pub struct ParsedRecord<H> {
+    pub head: H,
+    pub consumed: usize,
+    pub list_length: usize,
 }

@@ -7,35 +7,31 @@ use lib.Dec.{leb}
 use lib.ListN.{length}
 use Rattle.error.specs.Refusals.{number_of}
 use Rattle.error.specs.declared.Refusal.{Refusal}
-use Rattle.std.specs.Prelude.{if◌then◌else◌}
-use Rattle.parse.specs.Outcome.{Outcome, accept, refuse, hands_back, lent_output, overlay}
+use Rattle.std.specs.Prelude.{Result, Ok, Err, if◌then◌else◌}
+use Rattle.parse.specs.Answers.{answer_of}
+use Rattle.parse.specs.Outcome.{Outcome, accept, refuse, and_then, lent_output, overlay}
 use Rattle.parse.specs.Parse.{Parsed, value, refused, bind, Parser, times}
-use Rattle.parse.specs.inner.Answers.{or_zeros}
+use Rattle.parse.specs.inner.Answers.{read_of}
 use Rattle.parse.proofs.Lent.{lent_too_long, lent_within}
-use Rattle.parse.proofs.Zeros.{zeros_beside}
 use Rattle.boxes.specs.Bytes.{uint}
 use Rattle.boxes.specs.declared.Span.{Span}
 use Rattle.unit_list.specs.UnitList.{Array, encode, held_arrays}
 use Rattle.record_arrays.specs.Read.{record_array}
-use Rattle.record_arrays.specs.Record.{RecordParsed, record_parsed, record_given}
+use Rattle.record_arrays.specs.Record.{record_parsed}
 use Rattle.record_arrays.specs.declared.Codec.{Codec}
+use Rattle.record_arrays.specs.declared.ParsedRecord.{ParsedRecord}
 use Rattle.record_arrays_read.specs.inner.Arrays.{counted_arrays, list_given}
 use Rattle.record_arrays.specs.inner.Records.{record_with}
-use Rattle.record_arrays_read.specs.inner.Given.{record_read, head_answer_of, beside_head, refused_with}
-use Rattle.record_arrays_read.specs.declared.HeadAnswer.{HeadAnswer}
-use Rattle.record_arrays_read.specs.declared.HeadAnswer.TheVariants as A
+use Rattle.record_arrays_read.specs.inner.Given.{record_read}
 
 -- ---- the head: what the answer of reading it says of x, its definition
 
-module _ {H : Type 0} (zeros : H) {a : HeadAnswer} {h : H} {x : Parsed H} (f : (head_answer_of a h, h) ≡ or_zeros zeros x) where
-  head_said : {b : HeadAnswer} → a ≡ b → x ≡ head_answer_of b h
-  head_said e = sym (ap (λ (y : Parsed H × H). y.0) f ∙ zeros_beside zeros x) ∙ ap (λ (b : HeadAnswer). head_answer_of b h) e
+module _ {H : Type 0} {a : Result (H × ℕ) Refusal} {x : Parsed H} (said : read_of a ≡ x) where
+  pub head_found : {h : H} {q : ℕ} → a ≡ Ok (h, q) → x ≡ value h q
+  head_found e = sym said ∙ ap read_of e
 
-  pub head_read_lem : {q : ℕ} → a ≡ A.Read q → x ≡ value h q
-  head_read_lem e = head_said e
-
-  pub head_refused : {e : Refusal} → a ≡ A.Refused e → x ≡ refused (number_of e)
-  head_refused e = head_said e
+  pub head_refused : {e : Refusal} → a ≡ Err e → x ≡ refused (number_of e)
+  head_refused e = sym said ∙ ap read_of e
 
 -- ---- the list
 
@@ -43,36 +39,36 @@ module _ {H : Type 0} (zeros : H) {a : HeadAnswer} {h : H} {x : Parsed H} (f : (
 abbrev pub with_head : {H : Type 0} → H → Parsed (List (Array Span)) → Parsed (H × List (Array Span))
 with_head head x = bind x (λ xs q. value (head, xs) q)
 
+-- the answer of the arrays, with the head
+abbrev pub joined : {H : Type 0} → H → Outcome (ℕ × ℕ) → Outcome (ParsedRecord H)
+joined head l = and_then l (λ r. accept (record { head = head; consumed = r.0; list_length = r.1 }))
+
 -- bytes that are stored if they fit, and what is returned with them
 abbrev stored : {A : Type 0} → Bool → A → List ℕ → List ℕ → Outcome A × List ℕ
 stored b a bytes out = if b then (accept a, overlay bytes out) else (refuse 20, out)
 
 -- the list in the output together with the head is the record's answer
-list_handed : {H : Type 0} (zeros : H) (s : List ℕ) (head : H) (x : Parsed (List (Array Span))) (out : List ℕ)
-    → ◌≡◌ {A = (Outcome (RecordParsed H) × H) × List ℕ} (
-      beside_head zeros head (lent_output (list_given s x) out).0,
-      (lent_output (list_given s x) out).1,
-    ) (record_given zeros (record_parsed s (with_head head x)) out)
-list_handed zeros s head (refused e) out = refl
-list_handed {H} zeros s head (value xs q) out = go (encode (held_arrays s xs)) (leb (length (encode (held_arrays s xs))) (length out))
+list_handed : {H : Type 0} (s : List ℕ) (head : H) (x : Parsed (List (Array Span))) (out : List ℕ)
+    → ◌≡◌ {A = Outcome (ParsedRecord H) × List ℕ}
+    (joined head (lent_output (list_given s x) out).0, (lent_output (list_given s x) out).1)
+    (lent_output (record_parsed s (with_head head x)) out)
+list_handed s head (refused e) out = refl
+list_handed {H} s head (value xs q) out = go (encode (held_arrays s xs)) (leb (length (encode (held_arrays s xs))) (length out))
   where
     go : (list : List ℕ) (b : Bool)
-        → ◌≡◌ {A = (Outcome (RecordParsed H) × H) × List ℕ}
-        (beside_head zeros head (stored {A = ℕ × ℕ} b (q, length list) list out).0, (stored {A = ℕ × ℕ} b (q, length list) list out).1) (
-          hands_back (λ r. r.head) zeros
-              (stored {A = RecordParsed H} b (record { head = head; consumed = q; list_length = length list }) list out).0,
-          (stored {A = RecordParsed H} b (record { head = head; consumed = q; list_length = length list }) list out).1,
-        )
+        → ◌≡◌ {A = Outcome (ParsedRecord H) × List ℕ}
+        (joined head (stored {A = ℕ × ℕ} b (q, length list) list out).0, (stored {A = ℕ × ℕ} b (q, length list) list out).1)
+        (stored {A = ParsedRecord H} b (record { head = head; consumed = q; list_length = length list }) list out)
     go list true = refl
     go list false = refl
 
 -- ---- the record
 
 -- o is what reading s returns, with the list
-pub record ReadsRecord {H : Type 0} (k : Codec) (read_head : Parser H) (s : List ℕ) (o : Outcome (RecordParsed H × List ℕ)) : Type 0 where
+pub record ReadsRecord {H : Type 0} (k : Codec) (read_head : Parser H) (s : List ℕ) (o : Outcome (ParsedRecord H × List ℕ)) : Type 0 where
   pub same : o ≡ record_read k read_head s
 
-module _ {H : Type 0} {k : Codec} {read_head : Parser H} {s : List ℕ} {o : Outcome (RecordParsed H × List ℕ)}
+module _ {H : Type 0} {k : Codec} {read_head : Parser H} {s : List ℕ} {o : Outcome (ParsedRecord H × List ℕ)}
     (reads : ReadsRecord k read_head s o) where
   pub read_too_long : 2 ^ 30 < length s → o ≡ refuse 23
   read_too_long long = reads.same ∙ lent_too_long s (record_parsed s (record_with k read_head s 0)) long
@@ -92,31 +88,36 @@ module _ {H : Type 0} {k : Codec} {read_head : Parser H} {s : List ℕ} {o : Out
       go (value head q) = counted head (uint 1 s q)
       go (refused e) = refl
 
-  -- what is returned: the answer y, with the output that was lent
-  module _ (zeros : H) (out : List ℕ) {y : Outcome (RecordParsed H) × H} where
-    given_refused : (n : ℕ) → y ≡ refused_with zeros n → o ≡ refuse n → (y, out) ≡ record_given zeros o out
-    given_refused n f e =
-        ap (λ (z : Outcome (RecordParsed H) × H). (z, out)) f
-        ∙ ap (λ (x : Outcome (RecordParsed H × List ℕ)). record_given zeros x out) (sym e)
+  -- what is returned, with the output that was lent
+  module _ (out : List ℕ) where
+    given_refused : (n : ℕ) → o ≡ refuse n → (refuse n, out) ≡ lent_output o out
+    given_refused n e = ap (λ (x : Outcome (ParsedRecord H × List ℕ)). lent_output x out) (sym e)
 
-    pub given_too_long : 2 ^ 30 < length s → y ≡ refused_with zeros 23 → (y, out) ≡ record_given zeros o out
-    given_too_long long f = given_refused 23 f (read_too_long long)
+    pub given_too_long : 2 ^ 30 < length s → (refuse 23, out) ≡ lent_output o out
+    given_too_long long = given_refused 23 (read_too_long long)
 
-    -- a and head are the answer of reading the head
-    module _ (lent : length s ≤ 2 ^ 30) {a : HeadAnswer} {head : H} (said : (head_answer_of a head, head) ≡ or_zeros zeros (read_head s 0)) where
-      pub given_headless : {e : Refusal} → a ≡ A.Refused e → y ≡ refused_with zeros (number_of e) → (y, out) ≡ record_given zeros o out
-      given_headless {e} is-refused f =
-          let w : read_head s 0 ≡ refused (number_of e) = head_refused zeros said is-refused in
-          given_refused (number_of e) f (split lent ∙ rw w)
+    -- a is the answer of reading the head
+    module _ (lent : length s ≤ 2 ^ 30) {a : Result (H × ℕ) Refusal} (said : read_of a ≡ read_head s 0) where
+      pub given_headless : {e : Refusal} → a ≡ Err e → (refuse (number_of e), out) ≡ lent_output o out
+      given_headless {e} is-refused =
+          let w : read_head s 0 ≡ refused (number_of e) = head_refused said is-refused in
+          given_refused (number_of e) (split lent ∙ rw w)
 
       -- the answer l of the arrays is joined with the head
-      module _ {q : ℕ} {l : Outcome (ℕ × ℕ)} {exit : List ℕ} where
-        pub given_arrays : a ≡ A.Read q → (l, exit) ≡ lent_output (list_given s (counted_arrays k s q)) out → y ≡ beside_head zeros head l
-            → (y, exit) ≡ record_given zeros o out
-        given_arrays is_read listed f =
-            let w : read_head s 0 ≡ value head q = head_read_lem zeros said is_read in
+      module _ {head : H} {q : ℕ} (is_read : a ≡ Ok (head, q)) {exit : List ℕ} where
+        pub given_arrays : {l : Outcome (ℕ × ℕ)} → (l, exit) ≡ lent_output (list_given s (counted_arrays k s q)) out
+            → (joined head l, exit) ≡ lent_output o out
+        given_arrays listed =
+            let w : read_head s 0 ≡ value head q = head_found said is_read in
             let j : o ≡ record_parsed s (with_head head (counted_arrays k s q)) = split lent ∙ rw w in
-            ap (λ (z : Outcome (RecordParsed H) × H). (z, exit)) f
-            ∙ ap (λ (z : Outcome (ℕ × ℕ) × List ℕ). (beside_head zeros head z.0, z.1)) listed
-            ∙ list_handed zeros s head (counted_arrays k s q) out
-            ∙ ap (λ (x : Outcome (RecordParsed H × List ℕ)). record_given zeros x out) (sym j)
+            ap (λ (z : Outcome (ℕ × ℕ) × List ℕ). (joined head z.0, z.1)) listed
+            ∙ list_handed s head (counted_arrays k s q) out
+            ∙ ap (λ (x : Outcome (ParsedRecord H × List ℕ)). lent_output x out) (sym j)
+
+        module _ {r : Result (ℕ × ℕ) Refusal} (listed : (answer_of r, exit) ≡ lent_output (list_given s (counted_arrays k s q)) out) where
+          pub given_refused_list : {e : Refusal} → r ≡ Err e → (refuse (number_of e), exit) ≡ lent_output o out
+          given_refused_list e = ap (λ (y : Result (ℕ × ℕ) Refusal). (joined head (answer_of y), exit)) (sym e) ∙ given_arrays listed
+
+          pub given_list : {p n : ℕ} → r ≡ Ok (p, n)
+              → (accept (record { head = head; consumed = p; list_length = n }), exit) ≡ lent_output o out
+          given_list e = ap (λ (y : Result (ℕ × ℕ) Refusal). (joined head (answer_of y), exit)) (sym e) ∙ given_arrays listed

@@ -6,9 +6,10 @@ use mathlib.Core.List.{List, [], ◌∷◌, ◌++◌}
 use native.Mathlib.Omega.{arith}
 use lib.ListN.{length, get_or}
 use lib.Seq.{sets, length-sets}
-use Rattle.std.specs.Prelude.{if◌then◌else◌}
+use Rattle.std.specs.Prelude.{if◌then◌else◌, Option, Some, None}
 use Rattle.parse.specs.Parse.{Parsed, value, refused, bind, give, times, outcome}
 use Rattle.parse.specs.Outcome.{accept}
+use Rattle.parse.specs.inner.Answers.{there_of}
 use Rattle.parse.specs.inner.Stores.{Puts}
 use Rattle.boxes.specs.Bytes.{be, uint, chunk, to_be}
 use Rattle.boxes.specs.declared.Span.{Span}
@@ -22,10 +23,8 @@ use Rattle.record_arrays.specs.inner.Counts.{count_len}
 use Rattle.record_arrays.specs.declared.Codec.{Codec}
 use Rattle.counted_units.specs.inner.Counted.{units_in_list, room_taken, stored_bytes, StoredAt}
 use Rattle.counted_units.specs.declared.Stored.{Stored}
-use Rattle.record_arrays_read.specs.inner.Arrays.{array_head, array_head_of, ArrayHeadFits, array_in_list, arrays_in_list}
+use Rattle.record_arrays_read.specs.inner.Arrays.{array_head, ArrayHeadFits, array_in_list, arrays_in_list}
 use Rattle.record_arrays_read.specs.declared.ArrayHead.{ArrayHead}
-use Rattle.record_arrays_read.specs.declared.ArrayHeadRead.{ArrayHeadRead}
-use Rattle.record_arrays_read.specs.declared.ArrayHeadRead.TheVariants as A
 
 -- reading a byte that is there
 pub byte_read : (s : List ℕ) (p : ℕ) → p < length s → uint 1 s p ≡ value (get_or s p 0) (p + 1)
@@ -81,13 +80,13 @@ pub record HeadAt (k : Codec) (s : List ℕ) (p : ℕ) (h : ArrayHead) (q : ℕ)
   pub complete : h.complete ≤ 1
   pub bit : h.reserved_bit ≤ 1
 
-module _ (k : Codec) (s : List ℕ) (p : ℕ) (r : ArrayHeadRead) (f : (array_head_of r ≡ array_head k s p) × ArrayHeadFits s p r) where
-  pub head_short : r ≡ A.Short → array_head k s p ≡ refused 1
-  head_short e = sym f.0 ∙ ap array_head_of e
+module _ (k : Codec) (s : List ℕ) (p : ℕ) (r : Option (ArrayHead × ℕ)) (f : (there_of r ≡ array_head k s p) × ArrayHeadFits s p r) where
+  pub head_short : r ≡ None → array_head k s p ≡ refused 1
+  head_short e = sym f.0 ∙ ap there_of e
 
-  pub head_at : (h : ArrayHead) (q : ℕ) → r ≡ A.Head h q → HeadAt k s p h q
+  pub head_at : (h : ArrayHead) (q : ℕ) → r ≡ Some (h, q) → HeadAt k s p h q
   head_at h q e =
-      let g = subst (λ (r : ArrayHeadRead). (array_head_of r ≡ array_head k s p) × ArrayHeadFits s p r) e f in
+      let g = subst (λ (r : Option (ArrayHead × ℕ)). (there_of r ≡ array_head k s p) × ArrayHeadFits s p r) e f in
       record { read = sym g.0; after = g.1.0; inside = g.1.1; complete = g.1.2; bit = g.1.3 }
 
 -- ### one array

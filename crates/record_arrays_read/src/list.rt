@@ -7,7 +7,6 @@ ghost use Rattle.record_arrays.specs.Read.{record_array};
 ghost use Rattle.counted_units.specs.inner.Counted.{stored_bytes, StoredAt};
 ghost use Rattle.record_arrays_read.specs.inner.Arrays.{array_in_list, arrays_in_list};
 
-use super::ArrayHeadRead;
 use counted_units::{Stored, units};
 use record_arrays::Codec;
 use unit_list::{ARRAY_HEAD, LIST_WIDTH, write};
@@ -18,8 +17,8 @@ fn put_array(codec: Codec, record: &[u8], at: usize, out: &mut [u8], to: usize) 
     ensures { StoredAt array_in_list «record».now (record_array codec «record».now at) out.old to
         out.new result }
 {
-    let ArrayHeadRead::Head(head, units) = super::arrays::array_head(codec, record, at) else {
-        return Stored { from: at, to: to };
+    let Some((head, units)) = super::arrays::array_head(codec, record, at) else {
+        return Stored { from: at, to };
     };
     let stored = units::put_units(record, units, head.count, 2, out, to + ARRAY_HEAD);
     let rest = stored.to - to - LIST_WIDTH;
@@ -36,13 +35,11 @@ pub fn put_arrays(codec: Codec, record: &[u8], from: usize, count: usize, out: &
         ≡ sets out.old to
         (stored_bytes arrays_in_list «record».now (times count (record_array codec) «record».now from)) }
 {
-    let mut left = count;
     let mut at = from;
     let mut next = to;
-    while 0 < left {
+    for _ in 0..count {
         let stored = put_array(codec, record, at, out, next);
         at = stored.from;
         next = stored.to;
-        left -= 1;
     }
 }

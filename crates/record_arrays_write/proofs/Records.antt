@@ -11,9 +11,8 @@ use borrow.Author.Tests.{leb-true}
 use Rattle.error.specs.Refusals.{number_of}
 use Rattle.error.specs.declared.Refusal.{Refusal}
 use Rattle.error.specs.declared.Refusal.TheVariants.{FieldTooWide}
-use Rattle.error.specs.declared.Written.{Written}
-use Rattle.error.specs.declared.Written.TheVariants as W
-use Rattle.std.specs.Prelude.{if◌then◌else◌}
+use Rattle.std.specs.Prelude.{if◌then◌else◌, Result, Ok, Err}
+use Rattle.parse.specs.Answers.{answer_of}
 use Rattle.parse.specs.Outcome.{Outcome, accept, refuse, and_then, lent_output, counted}
 use Rattle.parse.specs.inner.Stores.{bytes_of}
 use Rattle.parse.proofs.General.{both_true, sets_then, sets_before}
@@ -21,22 +20,16 @@ use Rattle.parse.proofs.Output.{written_fits}
 use Rattle.boxes.specs.Walk.{count_found}
 use Rattle.boxes.specs.declared.Span.{Span}
 use Rattle.unit_list.specs.UnitList.{Array, decode, held_arrays}
-use Rattle.unit_list.specs.inner.Walk.{arrays_from, Fits}
-use Rattle.unit_list.specs.declared.ListCursor.{ListCursor}
+use Rattle.unit_list.specs.inner.Walk.{arrays_from}
+use Rattle.unit_list.specs.declared.ListWalk.{ListWalk}
 use Rattle.record_arrays.specs.Write.{arrays_bytes, arrays_fit}
 use Rattle.record_arrays.specs.declared.Codec.{Codec}
-use Rattle.list_arrays.specs.inner.Measures.{arrays_measure, measured_by, measure_of, ArraysWithin, arrays_laid}
+use Rattle.list_arrays.specs.inner.Measures.{arrays_measure, measured_by, ArraysWithin, arrays_laid}
 use Rattle.list_arrays.specs.declared.Layout.TheVariants.{Record}
 use Rattle.record_arrays_write.specs.inner.Record.{record_of, record_in, HeadLen, HeadIs, Laid, Writable, sized, SizeOf, Sizes}
 use Rattle.record_arrays_write.specs.inner.Record.{Stored, PutAfter, PutsRecord}
 use Rattle.list_arrays.specs.declared.measure.Measure.{Measure}
-use Rattle.list_arrays.specs.declared.measure.Measured.{Measured}
-use Rattle.list_arrays.specs.declared.measure.Measured.TheVariants as M
-use Rattle.record_arrays_write.specs.declared.record.HeadSize.{HeadSize}
-use Rattle.record_arrays_write.specs.declared.record.HeadSize.TheVariants as H
 use Rattle.record_arrays_write.specs.declared.record.RecordLayout.{RecordLayout}
-use Rattle.record_arrays_write.specs.declared.record.RecordSize.{RecordSize}
-use Rattle.record_arrays_write.specs.declared.record.RecordSize.TheVariants as R
 
 module _ (k : Codec) (s : List ℕ) where
   -- what is known of the arrays when they are measured
@@ -53,32 +46,40 @@ module _ (k : Codec) (s : List ℕ) where
       → leb m.count 255 && m.fits ≡ leb (length (held_arrays s a.arrays)) 255 && arrays_fit k (held_arrays s a.arrays)
   fits_by o m a = rw a.is
 
-  -- ### the tests when the arrays after a cursor's end are measured
+  -- ### the tests when the arrays that are left of a walk are measured
 
-  module _ (c : ListCursor) (fits : Fits s c) (r : Measured)
-      (f : (measure_of r ≡ measured_by (arrays_measure (Record k) s) (arrays_from s c)) × ArraysWithin s r) where
-    module _ (m : Measure) (e : r ≡ M.Is m) where
-      a : Known (arrays_from s c) m
-      a = known (arrays_from s c) m (sym (ap measure_of e) ∙ f.0)
+  module _ (walk : ListWalk) (same : walk.list.now ≡ s) (r : Result Measure Refusal)
+      (f : (answer_of r ≡ measured_by (arrays_measure (Record k) s) (arrays_from s walk.cursor)) × ArraysWithin s r) where
+    unmeasured : (o : Outcome (List (Array Span))) (n : ℕ) → refuse n ≡ measured_by (arrays_measure (Record k) s) o → o ≡ refuse n
+    unmeasured (accept xs) n e = absurd (let z : ◌≡◌ {A = ℕ} 0 1 = cc in omega arith)
+    unmeasured (refuse m) n e = let z : m ≡ n = cc in ap refuse z
+
+    -- arrays that are refused are so before the head
+    pub arrays_refused : (e : Refusal) → r ≡ Err e → (h : Outcome (List ℕ)) → record_in k h s (arrays_from s walk.cursor) ≡ refuse (number_of e)
+    arrays_refused e w h = ap (record_in k h s) (unmeasured (arrays_from s walk.cursor) (number_of e) (sym (ap answer_of w) ∙ f.0))
+
+    module _ (m : Measure) (e : r ≡ Ok m) where
+      a : Known (arrays_from s walk.cursor) m
+      a = known (arrays_from s walk.cursor) m (sym (ap answer_of e) ∙ f.0)
 
       abbrev xs : List (Array (List ℕ))
       xs = held_arrays s a.arrays
 
       record_given_lem : (h : Outcome (List ℕ)) (b : List ℕ) → h ≡ accept b → leb m.count 255 && m.fits ≡ true
-          → record_in k h s (arrays_from s c) ≡ accept (b ++ (length xs ∷ []) ++ arrays_bytes k xs)
-      record_given_lem h b e t = rw (a.found, e, sym (fits_by (arrays_from s c) m a) ∙ t)
+          → record_in k h s (arrays_from s walk.cursor) ≡ accept (b ++ (length xs ∷ []) ++ arrays_bytes k xs)
+      record_given_lem h b e t = rw (a.found, e, sym (fits_by (arrays_from s walk.cursor) m a) ∙ t)
 
       record_wide : (h : Outcome (List ℕ)) (b : List ℕ) → h ≡ accept b → leb m.count 255 && m.fits ≡ false
-          → record_in k h s (arrays_from s c) ≡ refuse 22
-      record_wide h b e t = rw (a.found, e, sym (fits_by (arrays_from s c) m a) ∙ t)
+          → record_in k h s (arrays_from s walk.cursor) ≡ refuse 22
+      record_wide h b e t = rw (a.found, e, sym (fits_by (arrays_from s walk.cursor) m a) ∙ t)
 
       module _ (h : Outcome (List ℕ)) (n : ℕ) (w : HeadLen h n) where
         abbrev layout : RecordLayout
-        layout = record { head_len = n; arrays = c; count = m.count; len = n + 1 + m.len }
+        layout = record { head_len = n; arrays = walk; count = m.count; len = n + 1 + m.len }
 
         laid : leb m.count 255 && m.fits ≡ true → Laid k s layout
         laid t = record {
-          fits = fits;
+          same = same;
           found = a.arrays;
           is = a.found;
           number = ap (λ (x : Measure). x.count) a.is;
@@ -87,12 +88,12 @@ module _ (k : Codec) (s : List ℕ) where
         }
 
         sized_by : (t : Bool) → leb m.count 255 && m.fits ≡ t
-            → SizeOf k s h (record_in k h s (arrays_from s c)) (if t then R.Is layout else R.Refused FieldTooWide)
+            → SizeOf k s h (record_in k h s (arrays_from s walk.cursor)) (if t then Ok layout else Err FieldTooWide)
         unfolding laid
         sized_by true t = record { laid = laid t; head = w; bytes = record_given_lem h w.bytes w.is t }
         sized_by false t = record_wide h w.bytes w.is t
 
-        pub record_sized : SizeOf k s h (record_in k h s (arrays_from s c)) (sized n c m)
+        pub record_sized : SizeOf k s h (record_in k h s (arrays_from s walk.cursor)) (sized n walk m)
         record_sized = sized_by (leb m.count 255 && m.fits) refl
 
 -- ### the parts in an output
@@ -110,7 +111,7 @@ module _ (k : Codec) (s : List ℕ) (l : RecordLayout) (out : List ℕ) where
       omega (arith, w.laid.long, w.head.long, length-append b (length ys ∷ []), length-append (b ++ (length ys ∷ [])) (arrays_bytes k ys))
 
   module _ (room : l.len ≤ length out) (d₁ : List ℕ) (e₁ : d₁ ≡ set out l.head_len l.count) where
-    module _ (d₂ : List ℕ) (e₂ : d₂ ≡ sets d₁ (l.head_len + 1) (bytes_of (arrays_laid (Record k) s) (arrays_from s l.arrays)))
+    module _ (d₂ : List ℕ) (e₂ : d₂ ≡ sets d₁ (l.head_len + 1) (bytes_of (arrays_laid (Record k) s) (arrays_from s l.arrays.cursor)))
         (h o : Outcome (List ℕ))
         (w : Writable k s h o l) where
       abbrev b : List ℕ
@@ -125,7 +126,7 @@ module _ (k : Codec) (s : List ℕ) (l : RecordLayout) (out : List ℕ) where
       -- the number of arrays and the arrays
       after_stored : d₂ ≡ sets out l.head_len after
       after_stored =
-          let g : bytes_of (arrays_laid (Record k) s) (arrays_from s l.arrays) ≡ arrays_bytes k ys =
+          let g : bytes_of (arrays_laid (Record k) s) (arrays_from s l.arrays.cursor) ≡ arrays_bytes k ys =
           ap (bytes_of (arrays_laid (Record k) s)) w.laid.is in
           e₂ ∙ rw (g, e₁, w.laid.number) (sets_then out l.head_len (l.head_len + 1) (length ys ∷ []) (arrays_bytes k ys) (omega arith))
 
@@ -149,38 +150,38 @@ module _ (k : Codec) (s : List ℕ) (l : RecordLayout) (out : List ℕ) where
 -- ### the answer when it is known
 
 -- there is a head of every size
-record SomeHead (n : HeadSize) : Type 0 where
+record SomeHead (n : Result ℕ Refusal) : Type 0 where
   head : Outcome (List ℕ)
   is : HeadIs head n
 
-some_head : (n : HeadSize) → SomeHead n
-some_head (H.Len n) = record { head = accept (replicate n 0); is = record { bytes = replicate n 0; is = refl; long = sym (length-replicate n 0) } }
-some_head (H.Refused e) = record { head = refuse (number_of e); is = refl }
+some_head : (n : Result ℕ Refusal) → SomeHead n
+some_head (Ok n) = record { head = accept (replicate n 0); is = record { bytes = replicate n 0; is = refl; long = sym (length-replicate n 0) } }
+some_head (Err e) = record { head = refuse (number_of e); is = refl }
 
 -- a layout that was returned is that of the arrays
-pub sizes_laid : (k : Codec) (s : List ℕ) (n : HeadSize) (o : Outcome (List (Array Span))) (l : RecordLayout) → Sizes k s n o (R.Is l) → Laid k s l
+pub sizes_laid : (k : Codec) (s : List ℕ) (n : Result ℕ Refusal) (o : Outcome (List (Array Span))) (l : RecordLayout) → Sizes k s n o (Ok l) → Laid k s l
 sizes_laid k s n o l f = (f (some_head n).head (some_head n).is).laid
 
-module _ (k : Codec) (s : List ℕ) (h o : Outcome (List ℕ)) (r : RecordSize) (f : SizeOf k s h o r) where
-  pub size_refused : (x : Refusal) → r ≡ R.Refused x → o ≡ refuse (number_of x)
+module _ (k : Codec) (s : List ℕ) (h o : Outcome (List ℕ)) (r : Result RecordLayout Refusal) (f : SizeOf k s h o r) where
+  pub size_refused : (x : Refusal) → r ≡ Err x → o ≡ refuse (number_of x)
   size_refused x w = subst (SizeOf k s h o) w f
 
-  pub size_counted : (l : RecordLayout) → r ≡ R.Is l → accept l.len ≡ count_found o
+  pub size_counted : (l : RecordLayout) → r ≡ Ok l → accept l.len ≡ count_found o
   size_counted l w = let b = subst (SizeOf k s h o) w f in ap accept (length_record k s l [] h o b) ∙ ap count_found (sym b.bytes)
 
-module _ (k : Codec) (s : List ℕ) (n : HeadSize) (d : List ℕ) (r : Written) (d' : List ℕ) (f : PutsRecord k s n d r d') (h o : Outcome (List ℕ))
+module _ (k : Codec) (s : List ℕ) (n : Result ℕ Refusal) (d : List ℕ) (r : Result ℕ Refusal) (d' : List ℕ) (f : PutsRecord k s n d r d') (h o : Outcome (List ℕ))
     (is : HeadIs h n) (e : record_in k h s (decode s) ≡ o) where
   put_after : PutAfter h o d r d'
   put_after = subst (λ (x : Outcome (List ℕ)). PutAfter h x d r d') e (f h is)
 
-  pub put_refused : (x : Refusal) → r ≡ W.Refused x → ◌≡◌ {A = Outcome ℕ × List ℕ} (refuse (number_of x), d') (lent_output (counted o) d)
-  put_refused x w = subst (λ (y : Written). PutAfter h o d y d') w put_after
+  pub put_refused : (x : Refusal) → r ≡ Err x → ◌≡◌ {A = Outcome ℕ × List ℕ} (refuse (number_of x), d') (lent_output (counted o) d)
+  put_refused x w = subst (λ (y : Result ℕ Refusal). PutAfter h o d y d') w put_after
 
   -- the head b of such a record fits, the output has room for it, and with it the output is whole
-  pub put_stored : (fits : Bool) (b : List ℕ) → ((x : List ℕ) → h ≡ accept x → (fits ≡ true) × (x ≡ b)) → (i : ℕ) → r ≡ W.Bytes i
+  pub put_stored : (fits : Bool) (b : List ℕ) → ((x : List ℕ) → h ≡ accept x → (fits ≡ true) × (x ≡ b)) → (i : ℕ) → r ≡ Ok i
       → (fits ≡ true) × (length b ≤ length d') × (◌≡◌ {A = Outcome ℕ × List ℕ} (accept i, sets d' 0 b) (lent_output (counted o) d))
   put_stored fits b given i w =
-      let t = subst (λ (y : Written). PutAfter h o d y d') w put_after in
+      let t = subst (λ (y : Result ℕ Refusal). PutAfter h o d y d') w put_after in
       let g = given t.bytes t.is in
       (g.0, omega (arith, t.room, ap length g.1), rw (sym g.1) t.whole)
 

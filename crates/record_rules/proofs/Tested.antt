@@ -1,5 +1,5 @@
 -- The tests of the bytes that arrays begin with, one after another.
-use Prim.Native.Nat.{ℕ, zero, suc, ◌-◌, ◌≤◌, ◌<◌}
+use Prim.Native.Nat.{ℕ, zero, suc, ◌≤◌}
 use mathlib.Core.Path.{◌≡◌, refl, sym, ap, ◌∙◌}
 use mathlib.Core.Bool.{Bool, true, false, ◌&&◌}
 use mathlib.Core.List.{List, ◌∷◌}
@@ -58,23 +58,22 @@ module _ (s : List ℕ) where
     tested_all zero p h = rw (times_nil array_byte s p, and_true a, and_true b)
     tested_all (suc n) p h = absurd (omega arith)
 
-    -- an array runs past the end
-    pub tested_short : (n p : ℕ) → 0 < n → (e : ℕ) → record_array Vvc s p ≡ refused e → tested a b (outcome (times n array_byte s p)) ≡ refuse e
-    tested_short zero p h e f = absurd (omega arith)
-    tested_short (suc n) p h e f = rw (times_bad array_byte s n p e (byte_refused p e f))
-
     one_more : (c : ℕ) (x : Parsed (List ℕ)) → tested (a && array_reserved c) (b && array_typed c) (outcome x)
         ≡ tested a b (outcome (bind x (λ rest r. value (c ∷ rest) r)))
     unfolding all
     one_more c (value bs r) = rw (and_and a (array_reserved c) (all array_reserved bs), and_and b (array_typed c) (all array_typed bs))
     one_more c (refused e) = refl
 
-    -- one array after another
-    pub tested_next : (n p : ℕ) → 0 < n → (x : Array Span) (q : ℕ) → record_array Vvc s p ≡ value x q
-        → tested (a && array_reserved (get_or s p 0)) (b && array_typed (get_or s p 0)) (outcome (times (n - 1) array_byte s q))
-        ≡ tested a b (outcome (times n array_byte s p))
-    tested_next zero p h x q e = absurd (omega arith)
-    tested_next (suc n) p h x q e =
-        ap (λ (k : ℕ). tested (a && array_reserved (get_or s p 0)) (b && array_typed (get_or s p 0)) (outcome (times k array_byte s q))) (omega arith)
-        ∙ one_more (get_or s p 0) (times n array_byte s q)
-        ∙ ap (λ (y : Parsed (List ℕ)). tested a b (outcome y)) (sym (times_step array_byte s n p (get_or s p 0) q (byte_read p x q e)))
+    -- m arrays are left after the next
+    module _ (n p m : ℕ) (some : n ≡ suc m) where
+      -- it runs past the end
+      pub tested_short : (e : ℕ) → record_array Vvc s p ≡ refused e → tested a b (outcome (times n array_byte s p)) ≡ refuse e
+      tested_short e f = rw (some, times_bad array_byte s m p e (byte_refused p e f))
+
+      -- it is read, up to place q
+      pub tested_next : (x : Array Span) (q : ℕ) → record_array Vvc s p ≡ value x q
+          → tested (a && array_reserved (get_or s p 0)) (b && array_typed (get_or s p 0)) (outcome (times m array_byte s q))
+          ≡ tested a b (outcome (times n array_byte s p))
+      tested_next x q e =
+          one_more (get_or s p 0) (times m array_byte s q)
+          ∙ rw some (ap (λ (y : Parsed (List ℕ)). tested a b (outcome y)) (sym (times_step array_byte s m p (get_or s p 0) q (byte_read p x q e))))

@@ -11,10 +11,7 @@ fn flags_reserved(sublayers: u8, flags: u8) -> bool
     requires { sublayers ≤ 7 }
     ensures { result ≡ flags_reserved sublayers flags }
 {
-    if sublayers < 2 {
-        return true;
-    }
-    flags % (1u8 << (9 - sublayers)) == 0
+    sublayers < 2 || flags % (1u8 << (9 - sublayers)) == 0
 }
 
 // Whether the reserved bits under the PTL flag are the standard's.
@@ -22,29 +19,17 @@ fn ptl_reserved(record: &[u8], head: VvcConfig) -> bool
     requires { SmallHead head }
     ensures { result ≡ ptl_reserved «record».now head }
 {
-    let depth = place::byte(record, 3);
-    if depth % 32 != 31 {
-        return false;
-    }
-    let info = place::byte(record, 4);
-    if info / 64 != 0 {
-        return false;
-    }
-    let flags = place::byte(record, 7 + head.native_ptl.num_bytes_constraint_info);
-    flags_reserved(head.num_sublayers, flags)
+    let flags = 7 + head.native_ptl.num_bytes_constraint_info;
+    place::byte(record, 3) % 32 == 31
+        && place::byte(record, 4) / 64 == 0
+        && flags_reserved(head.num_sublayers, place::byte(record, flags))
 }
 
 // Whether the reserved bits of a record's head are the standard's.
+#[tactic(auto, unfolding(full::specs::Rules::head_reserved))]
 pub fn head_reserved(record: &[u8], head: VvcConfig) -> bool
     requires { SmallHead head }
     ensures { result ≡ head_reserved «record».now head }
 {
-    let first = place::byte(record, 0);
-    if first / 8 != 31 {
-        return false;
-    }
-    if head.ptl_present_flag {
-        return ptl_reserved(record, head);
-    }
-    true
+    place::byte(record, 0) / 8 == 31 && (!head.ptl_present_flag || ptl_reserved(record, head))
 }

@@ -13,6 +13,7 @@ fn read_full(from: &mut impl Read, buf: &mut [u8]) -> usize
     ensures { result ≤ length buf.new }
 {
     let mut done: usize = 0;
+    // No `for`: a turn reads as much as the system gives.
     while done < buf.len() {
         let Ok(more) = from.read(&mut buf[done..]) else {
             break;
@@ -27,17 +28,18 @@ fn read_full(from: &mut impl Read, buf: &mut [u8]) -> usize
 
 // Reads some of `count` characters and returns how many are left.
 fn skip_some(from: &mut impl Read, count: usize, space: &mut [u8]) -> usize {
-    let n = text::least(count, space.len());
+    let n = count.min(space.len());
     if space.len() < n {
         return count;
     }
     let got = read_full(from, &mut space[0..n]);
-    text::less(count, got)
+    count.saturating_sub(got)
 }
 
 // Reads `count` characters and drops them; false if the input ends before.
 fn skip(from: &mut impl Read, count: usize, space: &mut [u8]) -> bool {
     let mut left = count;
+    // No `for`: a turn reads as much as the system gives.
     while 0 < left {
         let next = skip_some(from, left, space);
         if left <= next {
@@ -88,7 +90,7 @@ fn turn(
     }
     let mut length = [0u8; 4];
     text::decode(&head, &mut length);
-    answer(rt, from, fields::four(&length, 0), space, input, out)
+    answer(rt, from, fields::length(&length, 0), space, input, out)
 }
 
 // Answers all cases. A proved loop has to end, so it counts its turns down from a number that no run reaches.

@@ -54,8 +54,8 @@ fn answered(input: &[u8], n: usize, m: usize, k: usize, lent: &mut [u8], out: &m
     let numbers = part(input, 18, n);
     let first = part(input, second_at, m);
     let second = part(input, third_at, k);
-    text::fill(lent, fill);
-    let at = text::put_decimal(out, 0, op as u64);
+    lent.fill(fill);
+    let at = text::put_decimal(out, 0, u64::from(op));
     let after = answer(op, fill, numbers, first, second, lent, out, at);
     let shown = text::put_bytes(out, after, lent);
     text::put(out, shown, b'\n')
@@ -69,10 +69,10 @@ fn longest_line(input: usize, room: usize) -> usize {
 
 // Writes the answer line of a case and returns its length.
 pub fn replay_line(input: &[u8], lent: &mut [u8], out: &mut [u8]) -> usize {
-    let room = fields::four(input, 2);
-    let n = fields::four(input, 6);
-    let m = fields::four(input, 10);
-    let k = fields::four(input, 14);
+    let room = fields::length(input, 2);
+    let n = fields::length(input, 6);
+    let m = fields::length(input, 10);
+    let k = fields::length(input, 14);
     if input.len() != text::plus(18, text::plus(n, text::plus(m, k))) {
         return text::put_all(out, 0, b"malformed case\n");
     }

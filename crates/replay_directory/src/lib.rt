@@ -2,9 +2,9 @@
 // filling they are shown as text.
 #![tactic(auto)]
 
-use boxes::{UnitPlace, place};
+use boxes::{Span, place};
 use directory::{Asked, Entry, TYPES};
-use error::Counted;
+use error::Refusal;
 use replay_text::{fields, shown, text};
 
 // How many entries the directory of a case has.
@@ -13,15 +13,15 @@ const ENTRIES: usize = 8;
 // What filling returned, and the directory after it.
 #[derive(Clone, Copy)]
 struct Filled {
-    counted: Counted,
+    counted: Result<usize, Refusal>,
     after: [Entry; ENTRIES],
 }
 
 // Where the unit lies that is asked for, and how many units of a type there are.
 #[derive(Clone, Copy)]
 struct Answers {
-    place: UnitPlace,
-    count: Counted,
+    place: Result<Option<Span>, Refusal>,
+    count: Result<usize, Refusal>,
 }
 
 // Fills a directory.
@@ -58,8 +58,8 @@ fn unit<'a>(
 fn entry_at(s: &[u8], at: usize) -> Entry {
     Entry {
         unit_type: place::byte(s, at),
-        offset: fields::eight(s, text::plus(at, 1)),
-        len: fields::eight(s, text::plus(at, 9)),
+        offset: fields::place(s, text::plus(at, 1)),
+        len: fields::place(s, text::plus(at, 9)),
     }
 }
 
@@ -79,19 +79,17 @@ fn set_total(totals: &mut [usize; TYPES], t: usize, n: usize) {
     }
 }
 
-// Sets a total by the nine bytes at a place: type, total.
-fn set_by(s: &[u8], at: usize, totals: &mut [usize; TYPES]) {
-    let t = place::wide(place::byte(s, at));
-    set_total(totals, t, fields::eight(s, text::plus(at, 1)));
+// Sets a total by nine bytes: type, total.
+fn set_by(s: &[u8], totals: &mut [usize; TYPES]) {
+    let t = usize::from(place::byte(s, 0));
+    set_total(totals, t, fields::place(s, 1));
 }
 
 // The totals from the numbers of a case, which name some of them from byte 10 on; the others are 0.
 fn totals_of(numbers: &[u8]) -> [usize; TYPES] {
     let mut totals = [0usize; TYPES];
-    let mut left = text::less(numbers.len(), 10);
-    while 0 < left {
-        set_by(numbers, text::less(numbers.len(), left), &mut totals);
-        left = text::less(left, 9);
+    for total in numbers.get(10..).unwrap_or(b"").chunks(9) {
+        set_by(total, &mut totals);
     }
     totals
 }
@@ -99,23 +97,23 @@ fn totals_of(numbers: &[u8]) -> [usize; TYPES] {
 // What is asked for: the first of a type, or number k.
 fn question(numbers: &[u8]) -> Asked {
     if fields::flag(numbers, 0) {
-        return Asked::Number(fields::eight(numbers, 2));
+        return Asked::Number(fields::place(numbers, 2));
     }
     Asked::FirstOfType(place::byte(numbers, 1))
 }
 
 // Puts an entry: type, offset, length.
 fn put_entry(out: &mut [u8], at: usize, e: Entry) -> usize {
-    let first = text::put_small(out, at, e.unit_type);
-    let second = text::put_number(out, first, e.offset as u64);
-    text::put_number(out, second, e.len as u64)
+    // `as`: u64 has no From of a usize; nothing is lost.
+    let numbers = [u64::from(e.unit_type), e.offset as u64, e.len as u64];
+    text::put_numbers(out, at, &numbers)
 }
 
 // Puts all entries of a directory.
 fn put_entries(out: &mut [u8], at: usize, dir: [Entry; ENTRIES]) -> usize {
     let mut end = at;
-    for i in 0..ENTRIES {
-        end = put_entry(out, end, dir[i]);
+    for e in dir {
+        end = put_entry(out, end, e);
     }
     end
 }
@@ -125,8 +123,8 @@ fn put_total(out: &mut [u8], at: usize, t: usize, n: usize) -> usize {
     if n == 0 {
         return at;
     }
-    let next = text::put_number(out, at, t as u64);
-    text::put_number(out, next, n as u64)
+    // `as`: u64 has no From of a usize; nothing is lost.
+    text::put_numbers(out, at, &[t as u64, n as u64])
 }
 
 // Puts every total that is not 0, each after its type.
@@ -172,7 +170,7 @@ fn put_unit(numbers: &[u8], list: &[u8], dir: &[u8], out: &mut [u8], at: usize) 
     )
 }
 
-// The calls by their numbers.
+// The calls by their numbers, which are those of the format of a case (crates/replay/README.md).
 pub fn answer(op: u8, numbers: &[u8], list: &[u8], dir: &[u8], out: &mut [u8], at: usize) -> usize {
     match op {
         55 => put_filled(numbers, list, dir, out, at),

@@ -1,43 +1,46 @@
 // The calls on parameter sets that `replay` makes: those of `rbsp`, `sps`, `vps`, `opi` and `cropped_size`.
 #![tactic(auto)]
 
-use opi::OlsIdx;
-use params::ParamsAnswer;
+use error::Refusal;
+use ptl::zeros;
 use replay_text::{shown, text};
-use sps::{SpsHead, SpsRead};
+use sps::SpsHead;
 
-// Puts whether a parameter set was read.
-fn put_answer(out: &mut [u8], at: usize, r: ParamsAnswer) -> usize {
+// `SpsHead::parse_nal`, `SpsHead::parse_rbsp`: the answer and the head; on a refusal a head of zeros.
+fn put_sps(out: &mut [u8], at: usize, r: Result<SpsHead, Refusal>) -> usize {
     match r {
-        ParamsAnswer::Read => shown::accepted(out, at),
-        ParamsAnswer::Refused(e) => shown::refused(out, at, e),
+        Ok(head) => {
+            let next = shown::accepted(out, at);
+            replay_heads::put_sps_head(out, next, head)
+        }
+        Err(e) => {
+            let next = shown::refused(out, at, e);
+            replay_heads::put_no_sps(out, next)
+        }
     }
 }
 
-// `SpsHead::parse_nal`, `SpsHead::parse_rbsp`: the answer and the head, which is also shown on a refusal.
-fn put_sps(out: &mut [u8], at: usize, r: SpsRead) -> usize {
-    let answer = r.answer;
-    let head = r.head;
-    let next = put_answer(out, at, answer);
-    replay_heads::put_sps_head(out, next, head)
-}
-
-// `vps_first_ptl`: the answer and the PTL, which is also shown on a refusal.
+// `vps_first_ptl`: the answer and the PTL; on a refusal a PTL of zeros.
 fn vps(s: &[u8], out: &mut [u8], at: usize) -> usize {
-    let r = vps::vps_first_ptl(s);
-    let answer = r.answer;
-    let ptl = r.ptl;
-    let next = put_answer(out, at, answer);
-    replay_ptl::put_ptl(out, next, ptl)
+    match vps::vps_first_ptl(s) {
+        Ok(ptl) => {
+            let next = shown::accepted(out, at);
+            replay_ptl::put_ptl(out, next, ptl)
+        }
+        Err(e) => {
+            let next = shown::refused(out, at, e);
+            replay_ptl::put_ptl(out, next, zeros::zero_ptl())
+        }
+    }
 }
 
 // `opi_ols_idx`: 1 and the operating point, or 0 if it is absent.
 fn opi(s: &[u8], out: &mut [u8], at: usize) -> usize {
-    let r = opi::opi_ols_idx(s);
-    match r {
-        OlsIdx::Present(v) => shown::pair(out, at, 1, v as usize),
-        OlsIdx::Absent => shown::number(out, at, 0),
-        OlsIdx::Refused(e) => shown::refused(out, at, e),
+    match opi::opi_ols_idx(s) {
+        // `as`: usize has no From of a u32 or u64; nothing is lost.
+        Ok(Some(v)) => shown::pair(out, at, 1, v as usize),
+        Ok(None) => shown::number(out, at, 0),
+        Err(e) => shown::refused(out, at, e),
     }
 }
 
@@ -46,11 +49,11 @@ fn cropped(numbers: &[u8], fill: u8, out: &mut [u8], at: usize) -> usize {
     let head = replay_heads::window_head(numbers, fill);
     let size = cropped_size::cropped_size(head);
     let next = shown::accepted(out, at);
-    let last = text::put_number(out, next, size.width as u64);
-    text::put_number(out, last, size.height as u64)
+    let sides = [u64::from(size.width), u64::from(size.height)];
+    text::put_numbers(out, next, &sides)
 }
 
-// The calls by their numbers.
+// The calls by their numbers, which are those of the format of a case (crates/replay/README.md).
 pub fn answer(
     op: u8,
     fill: u8,
@@ -61,7 +64,7 @@ pub fn answer(
     at: usize,
 ) -> usize {
     match op {
-        18 => shown::written(out, at, rbsp::extract_rbsp(s, lent)),
+        18 => shown::counted(out, at, rbsp::extract_rbsp(s, lent)),
         19 => put_sps(out, at, SpsHead::parse_nal(s)),
         20 => vps(s, out, at),
         21 => opi(s, out, at),

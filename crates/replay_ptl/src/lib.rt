@@ -14,7 +14,7 @@ fn byte_if(out: &mut [u8], at: usize, wanted: bool, b: u8) -> usize {
 
 // Puts a level, as its flag and its byte, if it is wanted, present or not 0.
 fn level_if(out: &mut [u8], at: usize, wanted: bool, present: bool, b: u8) -> usize {
-    let first = byte_if(out, at, wanted || b != 0, if present { 1 } else { 0 });
+    let first = byte_if(out, at, wanted || b != 0, u8::from(present));
     byte_if(out, first, wanted || present, b)
 }
 
@@ -23,10 +23,7 @@ fn sub_profile_if(out: &mut [u8], at: usize, wanted: bool, v: u32) -> usize {
     if !wanted && v == 0 {
         return at;
     }
-    let first = text::put_byte(out, at, (v / 16777216) as u8);
-    let second = text::put_byte(out, first, (v / 65536 % 256) as u8);
-    let third = text::put_byte(out, second, (v / 256 % 256) as u8);
-    text::put_byte(out, third, (v % 256) as u8)
+    text::put_digits(out, at, &v.to_be_bytes())
 }
 
 // Puts the constraint bytes up to a count, and every later byte that is not 0.
@@ -47,7 +44,7 @@ fn levels(out: &mut [u8], at: usize, n: usize, present: &[bool; 7], bytes: &[u8;
     end
 }
 
-// Puts the sub-profiles up to a count, and every later one that is not 0.
+// Puts the sub-profiles up to a count, and every later one that is not 0. One function for these loops would take a closure with a contract that is longer.
 fn sub_profiles(out: &mut [u8], at: usize, n: usize, values: &[u32; 255]) -> usize {
     let mut end = text::put_all(out, at, b" =");
     for i in 0..255 {
@@ -58,11 +55,14 @@ fn sub_profiles(out: &mut [u8], at: usize, n: usize, values: &[u32; 255]) -> usi
 
 // Puts the numbers of a PTL that come before its arrays.
 fn ptl_numbers(out: &mut [u8], at: usize, p: VvcPtlRecord) -> usize {
-    let first = text::put_small(out, at, p.general_profile_idc);
-    let second = text::put_flag(out, first, p.general_tier_flag);
-    let third = text::put_small(out, second, p.general_level_idc);
-    let fourth = text::put_flag(out, third, p.ptl_frame_only_constraint_flag);
-    text::put_flag(out, fourth, p.ptl_multilayer_enabled_flag)
+    let numbers = [
+        u64::from(p.general_profile_idc),
+        u64::from(p.general_tier_flag),
+        u64::from(p.general_level_idc),
+        u64::from(p.ptl_frame_only_constraint_flag),
+        u64::from(p.ptl_multilayer_enabled_flag),
+    ];
+    text::put_numbers(out, at, &numbers)
 }
 
 // Puts a PTL: its numbers, then each array after its count.
@@ -75,10 +75,13 @@ pub fn put_ptl(out: &mut [u8], at: usize, p: VvcPtlRecord) -> usize {
     let m = p.num_sublayer_levels;
     let k = p.num_sub_profiles;
     let first = ptl_numbers(out, at, p);
+    // `as`: u64 has no From of a usize; nothing is lost.
     let second = text::put_number(out, first, n as u64);
     let third = constraints(out, second, n, &bytes);
+    // `as`: u64 has no From of a usize; nothing is lost.
     let fourth = text::put_number(out, third, m as u64);
     let fifth = levels(out, fourth, m, &present, &level);
+    // `as`: u64 has no From of a usize; nothing is lost.
     let sixth = text::put_number(out, fifth, k as u64);
     sub_profiles(out, sixth, k, &values)
 }

@@ -1,14 +1,14 @@
 // Internal: the calls of `access_unit_sizes`, `access_unit_annex_b` and `access_unit_nal`.
-use access_unit::{StartCodes, Target};
+use access_unit::{Source, StartCodes};
 use full::VvcConfig;
 use replay_text::{fields, shown};
 
 // The caller's target: whether there is one, and its two bytes.
-fn target_of(numbers: &[u8]) -> Target {
+fn target_of(numbers: &[u8]) -> Option<u16> {
     if fields::flag(numbers, 0) {
-        return Target::Ols(fields::two(numbers, 1) as u16);
+        return Some(fields::two(numbers, 1));
     }
-    Target::Unset
+    None
 }
 
 // `access_unit_annex_b`
@@ -16,13 +16,13 @@ fn stream(
     head: VvcConfig,
     list: &[u8],
     item: &[u8],
-    tols: Target,
+    tols: Option<u16>,
     codes: StartCodes,
     lent: &mut [u8],
     text: &mut [u8],
     at: usize,
 ) -> usize {
-    shown::written(
+    shown::counted(
         text,
         at,
         access_unit_annex_b::access_unit_annex_b(head, list, item, tols, codes, lent),
@@ -34,7 +34,7 @@ fn count(
     head: VvcConfig,
     list: &[u8],
     item: &[u8],
-    tols: Target,
+    tols: Option<u16>,
     text: &mut [u8],
     at: usize,
 ) -> usize {
@@ -50,7 +50,7 @@ fn unit<'a>(
     head: VvcConfig,
     list: &'a [u8],
     item: &'a [u8],
-    tols: Target,
+    tols: Option<u16>,
     k: usize,
     text: &mut [u8],
     at: usize,
@@ -62,24 +62,25 @@ fn unit<'a>(
     )
 }
 
-// `access_unit_nal_at`
+// `access_unit_nal_at`: 1 or 2 for the list or the item, start and length; 0 past the last unit.
 fn unit_at(
     head: VvcConfig,
     list: &[u8],
     item: &[u8],
-    tols: Target,
+    tols: Option<u16>,
     k: usize,
     text: &mut [u8],
     at: usize,
 ) -> usize {
-    shown::place(
-        text,
-        at,
-        access_unit_nal::access_unit_nal_at(head, list, item, tols, k),
-    )
+    match access_unit_nal::access_unit_nal_at(head, list, item, tols, k) {
+        Ok(Some(Source::OfList(a))) => shown::lying(text, at, 1, a),
+        Ok(Some(Source::OfItem(a))) => shown::lying(text, at, 2, a),
+        Ok(None) => shown::number(text, at, 0),
+        Err(e) => shown::refused(text, at, e),
+    }
 }
 
-// The calls by their numbers. Target, k and head are among the numbers of the case.
+// The calls by their numbers, which are those of the format of a case (crates/replay/README.md). Target, k and head are among the numbers of the case.
 pub fn answer<'a>(
     op: u8,
     fill: u8,
@@ -91,7 +92,7 @@ pub fn answer<'a>(
     at: usize,
 ) -> usize {
     let tols = target_of(numbers);
-    let k = fields::eight(numbers, 3);
+    let k = fields::place(numbers, 3);
     let head = replay_heads::full_head(numbers, 11, fill);
     match op {
         36 => stream(head, list, item, tols, StartCodes::Four, lent, text, at),

@@ -1,23 +1,9 @@
 // Internal: the answer line, which is written from its front on, and hexadecimal digits.
 ghost use Rattle.std.specs.Prelude.{◌≡◌, ◌-◌, ◌≤◌};
 
-// The smaller of two numbers.
-pub fn least(a: usize, b: usize) -> usize
-    ensures { (result ≤ a) × (result ≤ b) }
-{
-    if a < b { a } else { b }
-}
-
-// a - b, 0 if it is below 0.
-pub fn less(a: usize, b: usize) -> usize
-    ensures { result ≡ a - b }
-{
-    if b < a { a - b } else { 0 }
-}
-
 // a + b, 0 if it does not fit.
 pub fn plus(a: usize, b: usize) -> usize {
-    if a <= usize::MAX - b { a + b } else { 0 }
+    a.checked_add(b).unwrap_or(0)
 }
 
 // The first n bytes of a slice; empty if there are fewer.
@@ -68,21 +54,10 @@ fn byte_of(digits: &[u8], at: usize) -> u8 {
 
 // Fills `bytes` with the bytes of the digits.
 pub fn decode(digits: &[u8], bytes: &mut [u8]) {
-    let mut i: usize = 0;
     let mut at: usize = 0;
-    while i < bytes.len() {
-        bytes[i] = byte_of(digits, at);
+    for byte in bytes {
+        *byte = byte_of(digits, at);
         at = plus(at, 2);
-        i += 1;
-    }
-}
-
-// Sets every byte of lent memory to b.
-pub fn fill(bytes: &mut [u8], b: u8) {
-    let mut i: usize = 0;
-    while i < bytes.len() {
-        bytes[i] = b;
-        i += 1;
     }
 }
 
@@ -95,10 +70,8 @@ pub fn put_byte(text: &mut [u8], at: usize, b: u8) -> usize {
 // Puts bytes as digits.
 pub fn put_digits(text: &mut [u8], at: usize, bytes: &[u8]) -> usize {
     let mut end = at;
-    let mut i: usize = 0;
-    while i < bytes.len() {
-        end = put_byte(text, end, bytes[i]);
-        i += 1;
+    for &b in bytes {
+        end = put_byte(text, end, b);
     }
     end
 }
@@ -106,10 +79,8 @@ pub fn put_digits(text: &mut [u8], at: usize, bytes: &[u8]) -> usize {
 // Puts characters as they are.
 pub fn put_all(text: &mut [u8], at: usize, chars: &[u8]) -> usize {
     let mut end = at;
-    let mut i: usize = 0;
-    while i < chars.len() {
-        end = put(text, end, chars[i]);
-        i += 1;
+    for &c in chars {
+        end = put(text, end, c);
     }
     end
 }
@@ -121,6 +92,7 @@ pub fn put_decimal(text: &mut [u8], at: usize, n: u64) -> usize {
     } else {
         put_decimal(text, at, n / 10)
     };
+    // `as`: below 10, so nothing is lost.
     put(text, next, 48 + (n % 10) as u8)
 }
 
@@ -130,15 +102,13 @@ pub fn put_number(text: &mut [u8], at: usize, n: u64) -> usize {
     put_decimal(text, next, n)
 }
 
-// Puts a space and a number of one byte.
-pub fn put_small(text: &mut [u8], at: usize, n: u8) -> usize {
-    put_number(text, at, n as u64)
-}
-
-// Puts a space and a yes or no, as 1 or 0.
-pub fn put_flag(text: &mut [u8], at: usize, flag: bool) -> usize {
-    let n: u64 = if flag { 1 } else { 0 };
-    put_number(text, at, n)
+// Puts numbers, each after a space.
+pub fn put_numbers(text: &mut [u8], at: usize, numbers: &[u64]) -> usize {
+    let mut end = at;
+    for &n in numbers {
+        end = put_number(text, end, n);
+    }
+    end
 }
 
 // Puts a space, an equals sign and bytes as digits.

@@ -2,10 +2,10 @@
 use boxes::place;
 use replay_text::{fields, shown};
 
-// The calls by their numbers.
+// The calls by their numbers, which are those of the format of a case (crates/replay/README.md).
 pub fn answer(op: u8, numbers: &[u8], list: &[u8], text: &mut [u8], at: usize) -> usize {
     let t = place::byte(numbers, 0);
-    let k = fields::eight(numbers, 1);
+    let k = fields::place(numbers, 1);
     match op {
         14 => shown::counted(text, at, list_units::nal_count(list)),
         15 => shown::part(text, at, list_units::nal_unit(list, k)),

@@ -1,32 +1,31 @@
 // Internal: the calls of `nal` and of `unit_check`.
 use boxes::place;
-use nal::{HeaderField, UnitKind};
+use error::Refusal;
+use nal::UnitKind;
 use replay_text::{shown, text};
-use unit_check::UnitCheck;
 
 // Puts a field of a header: 1 and its number, or 0 if it is absent.
-fn put_field(out: &mut [u8], at: usize, r: HeaderField) -> usize {
+fn put_field(out: &mut [u8], at: usize, r: Result<Option<u8>, Refusal>) -> usize {
     match r {
-        HeaderField::Present(v) => shown::pair(out, at, 1, place::wide(v)),
-        HeaderField::Absent => shown::number(out, at, 0),
-        HeaderField::Refused(e) => shown::refused(out, at, e),
+        Ok(Some(v)) => shown::pair(out, at, 1, usize::from(v)),
+        Ok(None) => shown::number(out, at, 0),
+        Err(e) => shown::refused(out, at, e),
     }
 }
 
 // `check_unit`: 1 for yes, 0 for no.
-fn put_check(out: &mut [u8], at: usize, r: UnitCheck) -> usize {
+fn put_check(out: &mut [u8], at: usize, r: Result<bool, Refusal>) -> usize {
     match r {
-        UnitCheck::Yes => shown::number(out, at, 1),
-        UnitCheck::No => shown::number(out, at, 0),
-        UnitCheck::Refused(e) => shown::refused(out, at, e),
+        Ok(passes) => shown::flag(out, at, passes),
+        Err(e) => shown::refused(out, at, e),
     }
 }
 
 // `unit_kind`: the number of the kind, from 0 in their order in `nal`, and the type if the kind has one.
 fn put_kind(out: &mut [u8], at: usize, kind: UnitKind) -> usize {
     match kind {
-        UnitKind::PictureData(t) => shown::pair(out, at, 0, place::wide(t)),
-        UnitKind::Record(t) => shown::pair(out, at, 1, place::wide(t)),
+        UnitKind::PictureData(t) => shown::pair(out, at, 0, usize::from(t)),
+        UnitKind::Record(t) => shown::pair(out, at, 1, usize::from(t)),
         UnitKind::Aud => shown::number(out, at, 2),
         UnitKind::Other => shown::number(out, at, 3),
     }
@@ -42,7 +41,7 @@ fn put_header(numbers: &[u8], out: &mut [u8], at: usize) -> usize {
     text::put_bytes(out, next, &bytes)
 }
 
-// The calls by their numbers.
+// The calls by their numbers, which are those of the format of a case (crates/replay/README.md).
 pub fn answer(op: u8, numbers: &[u8], s: &[u8], out: &mut [u8], at: usize) -> usize {
     let t = place::byte(numbers, 0);
     match op {

@@ -3,20 +3,20 @@
 #![tactic(auto)]
 
 ghost use Rattle.std.specs.Prelude.{◌≡◌};
-ghost use Rattle.parse.specs.Answers.{count_of};
-ghost use Rattle.boxes.specs.Places.{in_first, place_of, place_found};
+ghost use Rattle.parse.specs.Answers.{answer_of};
+ghost use Rattle.boxes.specs.Places.{nth_found};
 ghost use Rattle.unit_list.specs.Answers.{list_units_of_type};
-ghost use Rattle.directory.specs.Directory.{fill_directory, unit_asked, place_asked};
+ghost use Rattle.directory.specs.Directory.{fill_directory, unit_asked};
 ghost use Rattle.directory.specs.declared.Asked.TheVariants.{FirstOfType};
 ghost use Rattle.speed_directory.specs.Numbers.{numbers_of, refusal_of, fill_numbers};
 
-use boxes::UnitPlace;
+use boxes::Span;
 use directory::{Asked, Entry, TYPES};
-use error::{Counted, number};
+use error::{Refusal, number};
 
-// 0, and 1 and where the unit lies if there is one; or a refusal's number and zeros.
+// 0, and 1 and where the unit lies if there is one; or a refusal's number and zeros. The layout and the numbers are C's.
 #[repr(C)]
-#[derive(Clone, Copy)]
+#[derive(Clone, Copy, Debug, PartialEq, Eq)]
 pub struct UnitNumbers {
     pub refusal: u32,
     pub is_there: u32,
@@ -25,44 +25,37 @@ pub struct UnitNumbers {
 }
 
 // The numbers of a unit's place.
-fn numbers(unit: UnitPlace) -> UnitNumbers
-    ensures { result ≡ numbers_of (place_of unit) }
+fn numbers(unit: Result<Option<Span>, Refusal>) -> UnitNumbers
+    ensures { result ≡ numbers_of (answer_of unit) }
 {
+    let nothing = UnitNumbers {
+        refusal: 0,
+        is_there: 0,
+        start: 0,
+        len: 0,
+    };
     match unit {
-        UnitPlace::First(a) => UnitNumbers {
+        Ok(Some(a)) => UnitNumbers {
             refusal: 0,
             is_there: 1,
             start: a.start,
             len: a.len,
         },
-        UnitPlace::Second(a) => UnitNumbers {
-            refusal: 0,
-            is_there: 1,
-            start: a.start,
-            len: a.len,
-        },
-        UnitPlace::Past => UnitNumbers {
-            refusal: 0,
-            is_there: 0,
-            start: 0,
-            len: 0,
-        },
-        UnitPlace::Refused(e) => UnitNumbers {
+        Ok(None) => nothing,
+        Err(e) => UnitNumbers {
             refusal: number(e),
-            is_there: 0,
-            start: 0,
-            len: 0,
+            ..nothing
         },
     }
 }
 
 // A refusal's number, 0 for a count.
-fn refusal_of(counted: Counted) -> u32
-    ensures { result ≡ refusal_of (count_of counted) }
+fn refusal_of(counted: Result<usize, Refusal>) -> u32
+    ensures { result ≡ refusal_of (answer_of counted) }
 {
     match counted {
-        Counted::Count(_) => 0,
-        Counted::Refused(e) => number(e),
+        Ok(_) => 0,
+        Err(e) => number(e),
     }
 }
 
@@ -71,23 +64,19 @@ pub fn speed_fill(list: &[u8], dir: &mut [Entry], totals: &mut [usize; TYPES]) -
     ensures { (result, (dir.new, totals.new))
         ≡ fill_numbers (fill_directory list.now dir.old totals.old) }
 {
-    let counted = directory_fill::fill(list, dir, totals);
-    refusal_of(counted)
+    refusal_of(directory_fill::fill(list, dir, totals))
 }
 
 // Asks a directory for the first unit of a type.
 pub fn speed_first(list: &[u8], dir: &[Entry], totals: &[usize; TYPES], t: u8) -> UnitNumbers
-    ensures { result
-        ≡ numbers_of (place_asked (unit_asked (FirstOfType t) list.now dir.now totals.now)) }
+    ensures { result ≡ numbers_of (unit_asked (FirstOfType t) list.now dir.now totals.now) }
 {
-    let unit = directory_ask::nal_unit_at(list, dir, totals, Asked::FirstOfType(t));
-    numbers(unit)
+    numbers(directory_ask::nal_unit_at(list, dir, totals, Asked::FirstOfType(t)))
 }
 
 // Walks over a list for the first unit of a type.
 pub fn speed_walk(list: &[u8], t: u8) -> UnitNumbers
-    ensures { result ≡ numbers_of (place_found in_first (list_units_of_type t list.now) 0) }
+    ensures { result ≡ numbers_of (nth_found (list_units_of_type t list.now) 0) }
 {
-    let unit = list_units::nal_unit_of_type_at(list, t, 0);
-    numbers(unit)
+    numbers(list_units::nal_unit_of_type_at(list, t, 0))
 }

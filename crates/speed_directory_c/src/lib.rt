@@ -3,9 +3,9 @@
 #![tactic(auto)]
 
 ghost use Rattle.std.specs.Prelude.{◌≡◌};
-ghost use Rattle.boxes.specs.Places.{in_first, place_found};
+ghost use Rattle.boxes.specs.Places.{nth_found};
 ghost use Rattle.unit_list.specs.Answers.{list_units_of_type};
-ghost use Rattle.directory.specs.Directory.{fill_directory, unit_asked, place_asked};
+ghost use Rattle.directory.specs.Directory.{fill_directory, unit_asked};
 ghost use Rattle.directory.specs.declared.Asked.TheVariants.{FirstOfType};
 ghost use Rattle.speed_directory.specs.Numbers.{numbers_of, fill_numbers};
 
@@ -29,8 +29,7 @@ pub extern "C" fn speed_first(
     totals: &[usize; TYPES],
     t: u8,
 ) -> UnitNumbers
-    ensures { result
-        ≡ numbers_of (place_asked (unit_asked (FirstOfType t) list.now dir.now totals.now)) }
+    ensures { result ≡ numbers_of (unit_asked (FirstOfType t) list.now dir.now totals.now) }
 {
     speed_directory::speed_first(list, dir, totals, t)
 }
@@ -38,7 +37,7 @@ pub extern "C" fn speed_first(
 // Walks over a list for the first unit of a type.
 #[unsafe(no_mangle)]
 pub extern "C" fn speed_walk(list: &[u8], t: u8) -> UnitNumbers
-    ensures { result ≡ numbers_of (place_found in_first (list_units_of_type t list.now) 0) }
+    ensures { result ≡ numbers_of (nth_found (list_units_of_type t list.now) 0) }
 {
     speed_directory::speed_walk(list, t)
 }

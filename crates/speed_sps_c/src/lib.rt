@@ -2,7 +2,7 @@
 #![tactic(auto)]
 
 ghost use Rattle.std.specs.Prelude.{◌≡◌};
-ghost use Rattle.sps.specs.Answers.{sps_rbsp_given};
+ghost use Rattle.sps.specs.Sps.{parse_sps_rbsp};
 ghost use Rattle.speed_sps.specs.Numbers.{numbers_of};
 
 use speed_sps::SpsNumbers;
@@ -10,7 +10,7 @@ use speed_sps::SpsNumbers;
 // Reads the head of an SPS from its RBSP. Refusals: those of `SpsHead::parse_rbsp`.
 #[unsafe(no_mangle)]
 pub extern "C" fn speed_sps(rbsp: &[u8]) -> SpsNumbers
-    ensures { result ≡ numbers_of (sps_rbsp_given rbsp.now) }
+    ensures { result ≡ numbers_of (parse_sps_rbsp rbsp.now) }
 {
     speed_sps::speed_sps(rbsp)
 }

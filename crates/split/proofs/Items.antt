@@ -3,12 +3,13 @@ use Prim.Native.Nat.{ℕ, ◌+◌, ◌^◌, ◌≤◌, ◌<◌}
 use mathlib.Core.Path.{◌≡◌, refl, sym, ap, ◌∙◌}
 use mathlib.Core.Logic.{◌⊎◌, ⊎_elim, inl, inr}
 use mathlib.Core.Bool.{true, false}
-use mathlib.Core.Option.{Option, none, some}
+use Rattle.std.specs.Prelude.{Option, None, Some, Result, Ok, Err}
 use mathlib.Core.List.{List, [], ◌∷◌}
 use native.Mathlib.Omega.{arith}
 use native.Mathlib.Decide.{dec_le}
 use lib.ListN.{length}
 use borrow.Author.Tests.{le-leb, lt-leb, eq-eqb, ne_eqb, lt-ltb}
+use Rattle.parse.specs.Answers.{answer_of}
 use Rattle.error.specs.Refusals.{number_of}
 use Rattle.error.specs.declared.Refusal.{Refusal}
 use Rattle.parse.specs.Outcome.{Outcome, accept, refuse}
@@ -23,10 +24,9 @@ use Rattle.boxes.proofs.Walk.{total}
 use Rattle.boxes.proofs.Fields.{uint_there, uint_short, bytes_there, bytes_short}
 use Rattle.boxes.proofs.PrefixSizes.{not_outside}
 use Rattle.split.specs.Item.{item_unit, item_units, split_item}
-use Rattle.split.specs.Answers.{Next, next_of, unit_read, item_step, next_item_unit}
+use Rattle.split.specs.Answers.{unit_read, item_step, next_item_unit}
 use Rattle.split.specs.inner.Walk.{item_units_from, UnitAhead, Onward}
 use Rattle.split.specs.declared.NextUnit.{NextUnit}
-use Rattle.split.specs.declared.NextUnit.TheVariants as N
 use Rattle.split.proofs.Spans.{Apart}
 
 -- ### the unit at a place
@@ -168,7 +168,7 @@ module _ (size : ℕ) (s : List ℕ) where
 -- ### a step over an item, in the order of its tests
 
 module _ (size : ℕ) (s : List ℕ) (p : ℕ) where
-  pub step_end : length s ≤ p → item_step size s p ≡ accept none
+  pub step_end : length s ≤ p → item_step size s p ≡ accept None
   unfolding item_step
   step_end h = rw (le-leb (length s) p h)
 
@@ -189,7 +189,7 @@ module _ (size : ℕ) (s : List ℕ) (p : ℕ) where
         step_no_bytes h = step_here ∙ ap unit_read (unit_no_bytes size s p there any h)
 
         pub step_there : p + size + be s p size ≤ length s
-            → item_step size s p ≡ accept (some (record { unit = record { start = p + size; len = be s p size }; next = p + size + be s p size }))
+            → item_step size s p ≡ accept (Some (record { unit = record { start = p + size; len = be s p size }; next = p + size + be s p size }))
         step_there h = step_here ∙ ap unit_read (unit_there size s p there any h)
 
   pub next_too_long : 2 ^ 30 < length s → next_item_unit size s p ≡ refuse 23
@@ -208,9 +208,9 @@ module _ (size : ℕ) (s : List ℕ) (p : ℕ) where
 -- ### what a step says
 
 -- of the units from the place that it started from
-abbrev pub walked : ℕ → List ℕ → Outcome (Option Next) → Outcome (List Span)
-walked size s (accept none) = accept []
-walked size s (accept (some n)) = more n.unit (item_units_from size s n.next)
+abbrev pub walked : ℕ → List ℕ → Outcome (Option NextUnit) → Outcome (List Span)
+walked size s (accept None) = accept []
+walked size s (accept (Some n)) = more n.unit (item_units_from size s n.next)
 walked size s (refuse e) = refuse e
 
 module _ (size : ℕ) (s : List ℕ) (p : ℕ) where
@@ -231,7 +231,7 @@ pub record Turn (size : ℕ) (s : List ℕ) (p : ℕ) (a : Span) (next : ℕ) : 
   pub rest : item_units_from size s p ≡ more a (item_units_from size s next)
 
 -- where the unit lies that a step found
-step_ahead : (size : ℕ) (s : List ℕ) (p : ℕ) (a : Span) (next : ℕ) → item_step size s p ≡ accept (some (record { unit = a; next = next }))
+step_ahead : (size : ℕ) (s : List ℕ) (p : ℕ) (a : Span) (next : ℕ) → item_step size s p ≡ accept (Some (record { unit = a; next = next }))
     → UnitAhead s p a next
 step_ahead size s p a next e =
     elim (dec_le (length s) p) [
@@ -239,41 +239,41 @@ step_ahead size s p a next e =
       | no k ↦ go (item_unit size s p) refl (sym (step_here size s p (omega arith)) ∙ e)
     ]
   where
-    go : (x : Parsed Span) → item_unit size s p ≡ x → unit_read x ≡ accept (some (record { unit = a; next = next })) → UnitAhead s p a next
+    go : (x : Parsed Span) → item_unit size s p ≡ x → unit_read x ≡ accept (Some (record { unit = a; next = next })) → UnitAhead s p a next
     go (refused n) h f = let z : ◌≡◌ {A = ℕ} 0 1 = cc in absurd (omega arith)
     go (value b q) h f =
-        let n : ◌≡◌ {A = Next} (record { unit = b; next = q }) (record { unit = a; next = next }) = cc in
-        let r = unit_read_lem size s p a next (h ∙ ap (λ (m : Next). value m.unit m.next) n) in
+        let n : ◌≡◌ {A = NextUnit} (record { unit = b; next = q }) (record { unit = a; next = next }) = cc in
+        let r = unit_read_lem size s p a next (h ∙ ap (λ (m : NextUnit). value m.unit m.next) n) in
         record { some = r.some; ahead = r.ahead; after = r.next; inside = r.fits }
 
-module _ (size : ℕ) (s : List ℕ) (p : ℕ) (r : NextUnit) (said : next_of r ≡ item_step size s p) where
-  found_left : walked size s (next_of r) ≡ item_units_from size s p
+module _ (size : ℕ) (s : List ℕ) (p : ℕ) (r : Result (Option NextUnit) Refusal) (said : answer_of r ≡ item_step size s p) where
+  found_left : walked size s (answer_of r) ≡ item_units_from size s p
   found_left = ap (walked size s) said ∙ walk_step size s p
 
-  found_as : (x : NextUnit) → r ≡ x → item_units_from size s p ≡ walked size s (next_of x)
-  found_as x e = sym found_left ∙ ap (λ (y : NextUnit). walked size s (next_of y)) e
+  found_as : (x : Result (Option NextUnit) Refusal) → r ≡ x → item_units_from size s p ≡ walked size s (answer_of x)
+  found_as x e = sym found_left ∙ ap (λ (y : Result (Option NextUnit) Refusal). walked size s (answer_of y)) e
 
-  pub found_unit_lem : (a : Span) (next : ℕ) → r ≡ N.Unit a next → Turn size s p a next
-  found_unit_lem a next e = record { here = step_ahead size s p a next (sym said ∙ ap next_of e); rest = found_as (N.Unit a next) e }
+  pub found_unit_lem : (m : NextUnit) → r ≡ Ok (Some m) → Turn size s p m.unit m.next
+  found_unit_lem m e = record { here = step_ahead size s p m.unit m.next (sym said ∙ ap answer_of e); rest = found_as (Ok (Some m)) e }
 
-  pub found_end : r ≡ N.End → item_units_from size s p ≡ accept []
-  found_end e = found_as N.End e
+  pub found_end : r ≡ Ok None → item_units_from size s p ≡ accept []
+  found_end e = found_as (Ok None) e
 
-  pub found_refusal : (e : Refusal) → r ≡ N.Refused e → item_units_from size s p ≡ refuse (number_of e)
-  found_refusal e w = found_as (N.Refused e) w
+  pub found_refusal : (e : Refusal) → r ≡ Err e → item_units_from size s p ≡ refuse (number_of e)
+  found_refusal e w = found_as (Err e) w
 
 -- it lies ahead, if there is one
-pub found_onward : (size : ℕ) (s : List ℕ) (p : ℕ) (r : NextUnit) → next_of r ≡ item_step size s p → Onward s p r
-found_onward size s p (N.Unit a next) e = step_ahead size s p a next (sym e)
-found_onward size s p N.End e = tt
-found_onward size s p (N.Refused x) e = tt
+pub found_onward : (size : ℕ) (s : List ℕ) (p : ℕ) (r : Result (Option NextUnit) Refusal) → answer_of r ≡ item_step size s p → Onward s p r
+found_onward size s p (Ok (Some m)) e = step_ahead size s p m.unit m.next (sym e)
+found_onward size s p (Ok None) e = tt
+found_onward size s p (Err x) e = tt
 
 -- a step that found no unit: there is none
-pub found_none : (size : ℕ) (s : List ℕ) (p : ℕ) (r : NextUnit) → next_of r ≡ item_step size s p
-    → ((a : Span) (next : ℕ) → r ≡ N.Unit a next → ⊥) → total (item_units_from size s p) ≡ 0
-found_none size s p (N.Unit a next) e k = absurd (k a next refl)
-found_none size s p N.End e k = ap total (sym (found_left size s p N.End e))
-found_none size s p (N.Refused x) e k = ap total (sym (found_left size s p (N.Refused x) e))
+pub found_none : (size : ℕ) (s : List ℕ) (p : ℕ) (r : Result (Option NextUnit) Refusal) → answer_of r ≡ item_step size s p
+    → ((m : NextUnit) → r ≡ Ok (Some m) → ⊥) → total (item_units_from size s p) ≡ 0
+found_none size s p (Ok (Some m)) e k = absurd (k m refl)
+found_none size s p (Ok None) e k = ap total (sym (found_left size s p (Ok None) e))
+found_none size s p (Err x) e k = ap total (sym (found_left size s p (Err x) e))
 
 -- what an accepted split says of its input, and of what is left from the first place on
 pub record Sound (size : ℕ) (s : List ℕ) (n : ℕ) : Type 0 where

@@ -1,22 +1,18 @@
 -- What an accepted SPS head says of its numbers.
-use mathlib.Core.Path.{◌≡◌, refl, ap, sym, ◌∙◌}
+use mathlib.Core.Path.{◌≡◌, refl, sym, ◌∙◌}
 use mathlib.Core.Bool.{Bool, true, false}
 use mathlib.Core.List.{List}
-use Prim.Native.Nat.{ℕ, ◌+◌, ◌%◌, ◌≤◌, ◌<◌}
+use Prim.Native.Nat.{ℕ, ◌+◌, ◌≤◌, ◌<◌}
 use native.Mathlib.Omega.{arith}
 use lib.Dec.{ltb}
 use lib.ListN.{drop}
 use borrow.Author.Tests.{ltb-false}
 use Rattle.parse.specs.Outcome.{accept}
-use Rattle.parse.specs.Parse.{value, bind, refuse_if}
+use Rattle.parse.specs.Parse.{value, refuse_if}
 use Rattle.parse.proofs.Binds.{first_read}
 use Rattle.rbsp.specs.Rbsp.{rbsp}
 use Rattle.rbsp.proofs.Below.{Below, rbsp_below}
 use Rattle.bit_reader.specs.Bits.{u, is_set, ue}
-use Rattle.bit_reader.specs.inner.Answers.{parsed, place_in, part_after}
-use Rattle.bit_reader.specs.declared.BitPosition.{BitPosition}
-use Rattle.bit_reader.specs.declared.BitsRead.{BitsRead}
-use Rattle.bit_reader.specs.declared.BitsRead.TheVariants.{Value, Refused}
 use Rattle.bit_reader.proofs.Numbers.{u_read}
 use Rattle.ptl.specs.Ptl.{zero_ptl}
 use Rattle.ptl.specs.declared.VvcPtlRecord.{VvcPtlRecord}
@@ -58,11 +54,6 @@ ids_bounds s p i q e =
     let r₆ = u_read 1 s p₅ has_ptl p₆ h₆ in
     record { next = omega arith; sublayers = omega arith; chroma = omega arith; ctu_low = omega arith; ctu_high = omega arith }))))))
 
--- so a PTL after them starts at a whole byte
-pub ids_place : (s : List ℕ) (r : BitsRead) (i : SpsIds) → part_after r i ≡ ids s 0 → place_in r % 8 ≡ 0
-ids_place s (Value v q) i h = omega (arith, (ids_bounds s 0 i q.0 (sym h)).next)
-ids_place s (Refused e) i h = refl
-
 -- the bit depth minus 8
 pub depth_bounds : (s : List ℕ) (p d q : ℕ) → depth s p ≡ value d q → d ≤ 8
 unfolding depth
@@ -71,10 +62,6 @@ depth_bounds s p d q e =
     first_read (ue s p₂) _ e₂ (λ v p₃ h₃ e₃. first_read (refuse_if (ltb 8 v) 14 s p₃) _ e₃ (λ _ p₄ h₄ e₄.
     let x : v ≡ d = cc in
     omega (arith, ltb-false 8 v (passed_test (ltb 8 v) 14 s p₃ h₄))))))
-
-pub depth_after : (s : List ℕ) (prior r : BitsRead) {d : ℕ} {q : BitPosition} → parsed r ≡ bind (parsed prior) (λ _ p. depth s p)
-    → r ≡ Value d q → d ≤ 8
-depth_after s prior r {d} {q} h e = first_read (parsed prior) _ (sym h ∙ ap parsed e) (λ _ p _ k. depth_bounds s p d q.0 k)
 
 -- ---- an SPS's head
 pub record SpsFits (h : SpsHead) : Type 0 where

@@ -1,4 +1,3 @@
-pub mod Depth
 pub mod SpsSections
 pub mod Look
 pub mod Bounds

@@ -5,6 +5,8 @@ use Prim.Native.Nat.{ℕ}
 use native.Mathlib.Omega.{arith}
 use lib.Dec.{ltb, lit≤}
 use lib.ListN.{take}
+use Rattle.std.specs.Prelude.{min, length}
+use Rattle.std.proofs.lemmas.List.{take_min}
 use Rattle.bit_reader.specs.Bits.{u, is_set}
 use Rattle.bit_reader.proofs.Numbers.{u_read}
 use Rattle.bit_reader.proofs.Looks.{LooksWithin, local_u, local_ue, local_give, local_more, local_if, local_refuse_if, local_bind, local_bind_of}
@@ -46,3 +48,6 @@ local_sps =
 -- ---- 1,132 bytes of the RBSP suffice (SCOPE 3.7)
 pub sps_looks : (s : List ℕ) → sps_head (take 1132 s) 0 ≡ sps_head s 0
 sps_looks s = local_sps.same 1132 s 0 (lit≤ tt)
+
+pub sps_front : (s : List ℕ) (n : ℕ) → n ≡ min 1132 (length s) → sps_head (take n s) 0 ≡ sps_head s 0
+sps_front s n e = rw (e, take_min) (sps_looks s)

@@ -1,3 +1,2 @@
 pub mod Sps
-pub mod Answers
 pub mod inner

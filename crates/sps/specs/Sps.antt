@@ -1,20 +1,15 @@
 -- The head of an SPS as bits (SCOPE 3.7; H.266 7.3.2.4), read from a unit or from an RBSP.
-use Rattle.std.specs.Prelude.{false, List, ℕ, ◌+◌, ltb, if◌then◌else◌}
+use Rattle.std.specs.Prelude.{List, ℕ, ◌+◌, ltb, if◌then◌else◌}
 use Rattle.parse.specs.Outcome.{Outcome, lent_input}
 use Rattle.parse.specs.Parse.{Parser, ◌>>=◌, ◌>>◌, give, refuse_if, outcome}
 use Rattle.bit_reader.specs.Bits.{u, is_set, ue}
 use Rattle.ptl.specs.Ptl.{profile_tier_level, zero_ptl}
 use Rattle.params.specs.OfUnit.{of_unit}
 use Rattle.sps.specs.declared.SpsHead.{SpsHead}
+use Rattle.sps.specs.declared.sections.ConfWindow.{ConfWindow}
 
 -- sps_conf_win_left_offset, sps_conf_win_right_offset, sps_conf_win_top_offset, sps_conf_win_bottom_offset
-pub record Window : Type 0 where
-  pub left : ℕ
-  pub right : ℕ
-  pub top : ℕ
-  pub bottom : ℕ
-
-unfoldable pub window : Parser Window
+unfoldable pub window : Parser ConfWindow
 window = do
   left ← ue
   right ← ue
@@ -23,7 +18,7 @@ window = do
   give (record { left = left; right = right; top = top; bottom = bottom })
 
 -- the offsets without the window flag
-abbrev pub no_window : Window
+abbrev pub no_window : ConfWindow
 no_window = record { left = 0; right = 0; top = 0; bottom = 0 }
 
 -- seq_parameter_set_rbsp( ) up to sps_bitdepth_minus8
@@ -64,26 +59,6 @@ sps_head = do
     conf_win_bottom_offset = win.bottom;
     bit_depth = depth + 8;
   })
-
--- all zeros
-abbrev pub zero_sps : SpsHead
-zero_sps = record {
-  sps_id = 0;
-  vps_id = 0;
-  max_sublayers_minus1 = 0;
-  chroma_format_idc = 0;
-  log2_ctu_size = 0;
-  ptl_present_flag = false;
-  ptl = zero_ptl;
-  pic_width = 0;
-  pic_height = 0;
-  conformance_window_flag = false;
-  conf_win_left_offset = 0;
-  conf_win_right_offset = 0;
-  conf_win_top_offset = 0;
-  conf_win_bottom_offset = 0;
-  bit_depth = 0;
-}
 
 -- `SpsHead::parse_nal`: 23, 10, then in bit order 11, 12, 13, 14
 unfoldable pub parse_sps : List ℕ → Outcome SpsHead

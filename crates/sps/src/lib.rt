@@ -4,15 +4,16 @@
 pub mod sections;
 
 ghost use Rattle.std.specs.Prelude.{◌≡◌};
-ghost use Rattle.sps.specs.Answers.{sps_of, sps_given, sps_rbsp_given};
+ghost use Rattle.parse.specs.Answers.{answer_of};
+ghost use Rattle.sps.specs.Sps.{parse_sps, parse_sps_rbsp};
 
 use error::{LARGEST_INPUT, Refusal};
 use nal::{NAL_SPS, header};
-use params::{ParamsAnswer, RBSP_FRONT};
+use params::RBSP_FRONT;
 use ptl::VvcPtlRecord;
 
 // An SPS up to its bit depth (H.266 7.3.2.4). Without the window flag the four offsets are 0, without a PTL the PTL is all zeros.
-#[derive(Clone, Copy)]
+#[derive(Clone, Copy, Debug, PartialEq, Eq)]
 pub struct SpsHead {
     pub sps_id: u8,
     pub vps_id: u8,
@@ -31,37 +32,30 @@ pub struct SpsHead {
     pub bit_depth: u8,
 }
 
-// Whether an SPS was read, and its head, all zeros on a refusal.
-#[derive(Clone, Copy)]
-pub struct SpsRead {
-    pub answer: ParamsAnswer,
-    pub head: SpsHead,
-}
-
 impl SpsHead {
     // Reads the head of an SPS from its unit, the two-byte header included. Refusals: 23, 10, then in bit order 11, 12, 13, 14.
-    pub fn parse_nal(nal: &[u8]) -> SpsRead
-        ensures { sps_of result ≡ sps_given nal.now }
+    #[tactic(auto, using(params::proofs::Units::after_header), unfolding(crate::specs::Sps::parse_sps))]
+    pub fn parse_nal(nal: &[u8]) -> Result<SpsHead, Refusal>
+        ensures { answer_of result ≡ parse_sps nal.now }
     {
         if LARGEST_INPUT < nal.len() {
-            return sections::no_sps(Refusal::InputTooLong);
+            return Err(Refusal::InputTooLong);
         }
         if header::type_or_31(nal) != NAL_SPS {
-            return sections::no_sps(Refusal::WrongUnitType);
+            return Err(Refusal::WrongUnitType);
         }
         sections::parse_payload(&nal[2..])
     }
 
     // Reads the head of an SPS from its RBSP, of which the first 1,132 bytes suffice. Refusals: 23, then in bit order 11, 12, 13, 14.
-    pub fn parse_rbsp(rbsp: &[u8]) -> SpsRead
-        ensures { sps_of result ≡ sps_rbsp_given rbsp.now }
+    #[tactic(auto, using(crate::proofs::Look::sps_front), unfolding(crate::specs::Sps::parse_sps_rbsp))]
+    pub fn parse_rbsp(rbsp: &[u8]) -> Result<SpsHead, Refusal>
+        ensures { answer_of result ≡ parse_sps_rbsp rbsp.now }
     {
         if LARGEST_INPUT < rbsp.len() {
-            return sections::no_sps(Refusal::InputTooLong);
+            return Err(Refusal::InputTooLong);
         }
-        if RBSP_FRONT < rbsp.len() {
-            return sections::parse_front(&rbsp[..RBSP_FRONT]);
-        }
-        sections::parse_front(rbsp)
+        let n = RBSP_FRONT.min(rbsp.len());
+        sections::parse_front(&rbsp[..n])
     }
 }

@@ -7,13 +7,9 @@ use native.Mathlib.Omega.{arith}
 use native.Mathlib.Decide.{dec_le}
 use lib.ListN.{length, get_or, drop, length-drop, drop_of_length-le}
 use lib.Seq.{drop-drop, drop-cons}
+use Rattle.std.proofs.lemmas.Bool.{false_from_ne_true}
 use Rattle.std.specs.Prelude.{if◌then◌else◌}
 use Rattle.start_code.specs.StartCode.{bytes_before}
-
--- a test that does not hold fails
-pub fails : (t : Bool) → (t ≡ true → ⊥) → t ≡ false
-fails true none = absurd (none refl)
-fails false none = refl
 
 module _ (test : List ℕ → Bool) where
   -- ### byte by byte
@@ -139,7 +135,7 @@ pub record ZerosAt (m : ℕ) (s : List ℕ) (i : ℕ) : Type 0 where
 -- a test that asks for them
 module _ (test : List ℕ → Bool) (m : ℕ) (asks : (s : List ℕ) (i : ℕ) → test (drop i s) ≡ true → ZerosAt m s i) (s : List ℕ) where
   fails_at : (j : ℕ) → (ZerosAt m s j → ⊥) → test (drop j s) ≡ false
-  fails_at j none = fails (test (drop j s)) (λ e. none (asks s j e))
+  fails_at j none = false_from_ne_true (test (drop j s)) (λ e. none (asks s j e))
 
   -- past a place where they are not: a third byte that is not 00 is no zero of the next two places
   module _ (i : ℕ) (room : i + 2 < length s) where

@@ -8,11 +8,11 @@ use native.Mathlib.Decide.{dec_le}
 use lib.Dec.{eqb}
 use lib.ListN.{length, get_or, drop, length-drop, length-append}
 use borrow.Author.Tests.{eqb-true, eq-eqb}
+use Rattle.std.proofs.lemmas.Bool.{false_from_ne_true}
 use Rattle.std.specs.Prelude.{if◌then◌else◌}
 use Rattle.parse.proofs.General.{both_true}
 use Rattle.start_code.specs.StartCode.{bytes_before, starts_with_code, scan}
 use Rattle.start_code.proofs.FirstPlaces.{
-  fails,
   ZerosAt,
   drop_three,
   before_le,
@@ -112,7 +112,7 @@ module _ (s : List ℕ) where
     scan_hit c = before_here starts_with_code (drop i s) (at_code s i c)
 
     no_code : (CodeAt s i → ⊥) → starts_with_code (drop i s) ≡ false
-    no_code none = fails (starts_with_code (drop i s)) (λ e. none (code_at s i e))
+    no_code none = false_from_ne_true (starts_with_code (drop i s)) (λ e. none (code_at s i e))
 
     pub scan_next : i < length s → (CodeAt s i → ⊥) → scan (drop i s) ≡ suc (scan (drop (i + 1) s))
     unfolding scan

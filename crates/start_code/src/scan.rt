@@ -9,6 +9,7 @@ pub fn start_code(s: &[u8], from: usize) -> usize
     ensures { (result ≡ start_code_from s.now from) × (result ≤ length s.now) }
 {
     let mut i = from;
+    // No `for`: the byte looked at says how far to step.
     let found = loop {
         if s.len() - i < 3 {
             break s.len();

@@ -3,12 +3,11 @@ use Prim.Native.Nat.{ℕ, ◌^◌, ◌≤◌}
 use native.Mathlib.Omega.{arith}
 use mathlib.Core.Path.{◌≡◌, refl, sym, ap, ◌∙◌, subst}
 use mathlib.Core.Bool.{Bool, true, false, ◌&&◌}
-use mathlib.Core.Option.{Option, none, some}
 use mathlib.Core.List.{List, [], ◌∷◌, ◌++◌}
 use lib.Dec.{eqb, leb}
 use lib.ListN.{length, get_or, length-append, length-map}
 use borrow.Author.Tests.{le-leb}
-use Rattle.std.specs.Prelude.{if◌then◌else◌}
+use Rattle.std.specs.Prelude.{if◌then◌else◌, Option, None, Some}
 use Rattle.parse.specs.Outcome.{Outcome, accept, refuse, and_then}
 use Rattle.boxes.specs.Parts.{held}
 use Rattle.boxes.specs.Bytes.{AllBytes}
@@ -28,7 +27,8 @@ use Rattle.full.specs.Read.{parse_full}
 use Rattle.full.specs.Write.{head_bytes, full_bytes, record_fits, write_full, serialize_full}
 use Rattle.full.specs.declared.VvcConfig.{VvcConfig}
 use Rattle.full.proofs.RecordRoundTrip.{read_after_write, Typed, head_read}
-use Rattle.expand.specs.Expand.{FullHead, expanded_head, with_list, expand_units, to_full}
+use Rattle.expand.specs.declared.Expanded.{Expanded}
+use Rattle.expand.specs.Expand.{expanded_head, with_list, expand_units, to_full}
 use Rattle.expand.specs.declared.Picture.{Picture}
 use Rattle.access_unit.specs.AccessUnit.{access_unit, assemble}
 use Rattle.access_unit.specs.declared.StartCodes.{StartCodes}
@@ -82,7 +82,7 @@ module _ (c : CompactVvcConfig) (list : List ℕ) (from : ReadFrom c list) where
   pub size_high : c.length_size ≤ 4
   size_high = rw (sym from.config) facts.size_four
 
-  module _ (pic : Picture) (full : FullHead) (expanded-list : List ℕ) (e : to_full c pic list ≡ accept (full, expanded-list)) where
+  module _ (pic : Picture) (full : Expanded) (expanded-list : List ℕ) (e : to_full c pic list ≡ accept (full, expanded-list)) where
     expands : expand_units c pic us ≡ accept (full, expanded-list)
     expands =
         subst (λ (vs : List (List ℕ)). expand_units c pic vs ≡ accept (full, expanded-list)) facts.read.bytes
@@ -96,7 +96,7 @@ module _ (c : CompactVvcConfig) (list : List ℕ) (from : ReadFrom c list) where
         let y : accept (full, expanded-list) ≡ accept (with_list (expanded_head c pic expanded.ptl) (encode (grouped us))) = sym expands
         ∙ expanded.of_any pic in
         let z : (full, expanded-list) ≡ with_list (expanded_head c pic expanded.ptl) (encode (grouped us)) = cc in
-        ap (λ (x : FullHead × List ℕ). x.0.list_length) z ∙ ap (λ (x : FullHead × List ℕ). length x.1) (sym z)
+        ap (λ (x : Expanded × List ℕ). x.0.list_length) z ∙ ap (λ (x : Expanded × List ℕ). length x.1) (sym z)
 
     pub expanded_short : length expanded-list ≤ 8746
     expanded_short = rw expanded.is_list (omega (arith, grouped_long us all_short, facts.most))
@@ -163,8 +163,8 @@ module _ (c : CompactVvcConfig) (list : List ℕ) (from : ReadFrom c list) where
     assembles_back : (codes : StartCodes) (item : List ℕ) (tols : Option ℕ)
         → assemble codes (head_read head) arrays item tols ≡ assemble codes head arrays item tols
     unfolding assemble access_unit
-    assembles_back codes item none = refl
-    assembles_back codes item (some t) = refl
+    assembles_back codes item None = refl
+    assembles_back codes item (Some t) = refl
 
     needs_no_read : (codes : StartCodes) (S : List ℕ) (tols : Option ℕ)
         → stream_expanded codes c head arrays S tols

@@ -3,35 +3,29 @@ use Prim.Native.Nat.{ℕ, ◌^◌, ◌≤◌, ◌<◌}
 use native.Mathlib.Omega.{arith}
 use mathlib.Core.Path.{◌≡◌, refl, sym, ap, ◌∙◌}
 use mathlib.Core.Bool.{Bool, true, false}
-use mathlib.Core.Option.{Option}
 use mathlib.Core.List.{List}
 use lib.Dec.{leb}
 use lib.ListN.{length, take, drop, length-append}
 use lib.Seq.{take_at}
 use Rattle.error.specs.Refusals.{number_of}
 use Rattle.error.specs.declared.Refusal.{Refusal}
-use Rattle.std.specs.Prelude.{if◌then◌else◌}
-use Rattle.parse.specs.Outcome.{Outcome, accept, refuse, and_then, lent_output, counted, hands_back}
+use Rattle.std.specs.Prelude.{if◌then◌else◌, Option, Result, Ok, Err}
+use Rattle.parse.specs.Answers.{answer_of}
+use Rattle.parse.specs.Outcome.{Outcome, accept, refuse, and_then, lent_output, counted}
 use Rattle.parse.specs.Parse.{outcome}
 use Rattle.parse.proofs.Lent.{lent_too_long, lent_within}
 use Rattle.parse.proofs.Output.{output_accepted, output_not_accepted}
 use Rattle.boxes.specs.Walk.{count_found}
 use Rattle.boxes.specs.Bytes.{AllBytes}
 use Rattle.boxes.specs.declared.Span.{Span}
-use Rattle.compact.specs.Compact.{CompactParsed, compact_record, parsed_with, parse_compact}
-use Rattle.compact.specs.Answers.{compact_of}
-use Rattle.compact.specs.declared.CompactVvcConfig.{CompactVvcConfig}
 use Rattle.compact.specs.declared.CompactRead.{CompactRead}
-use Rattle.compact.specs.declared.CompactRead.TheVariants as R
-use Rattle.full.specs.Read.{zero_head}
+use Rattle.compact.specs.Compact.{compact_record, parsed_with, parse_compact}
+use Rattle.compact.specs.declared.CompactVvcConfig.{CompactVvcConfig}
 use Rattle.full.specs.Write.{serialize_full}
 use Rattle.full.specs.declared.VvcConfig.{VvcConfig}
-use Rattle.expand.specs.Expand.{FullHead, to_full}
-use Rattle.expand.specs.Answers.{expanded_given, expand_answer_of, expanded_of}
+use Rattle.expand.specs.declared.Expanded.{Expanded}
+use Rattle.expand.specs.Expand.{to_full}
 use Rattle.expand.specs.declared.Picture.{Picture}
-use Rattle.expand.specs.declared.ExpandAnswer.{ExpandAnswer}
-use Rattle.expand.specs.declared.Expanded as E
-use Rattle.expand.specs.declared.ExpandAnswer.TheVariants as A
 use Rattle.access_unit.specs.declared.StartCodes.{StartCodes}
 use Rattle.still.specs.Stills.{still_record, stream_with, any_picture, still_stream}
 use Rattle.still.specs.inner.Steps.{ReadFrom, ExpandedFrom, record_from, stream_expanded, stream_from}
@@ -59,10 +53,15 @@ module _ {A : Type 0} (o : Outcome (A × List ℕ)) (out : List ℕ) (fits : (a 
   pub not_stored : (n : ℕ) (after : List ℕ) → ◌≡◌ {A = Outcome A × List ℕ} (refuse n, after) (lent_output o out) → o ≡ refuse n
   not_stored n after e = output_not_accepted o out n fits (ap (λ (y : Outcome A × List ℕ). y.0) e)
 
+-- what was said of an answer that is known
+answered : {A : Type 0} (r : Result A Refusal) (after : List ℕ) (y : Outcome A × List ℕ) → ◌≡◌ {A = Outcome A × List ℕ} (answer_of r, after) y
+    → (x : Result A Refusal) → r ≡ x → ◌≡◌ {A = Outcome A × List ℕ} (answer_of x, after) y
+answered {A} r after y said x e = ap (λ (z : Result A Refusal). (answer_of z, after)) (sym e) ∙ said
+
 -- ### compact read
 
 -- the length that is returned is that of the list
-list_counted : (C : List ℕ) (r : CompactParsed) (list : List ℕ) → parse_compact C ≡ accept (r, list) → r.list_length ≡ length list
+list_counted : (C : List ℕ) (r : CompactRead) (list : List ℕ) → parse_compact C ≡ accept (r, list) → r.list_length ≡ length list
 unfolding parse_compact
 list_counted C r list e = go (leb (length C) (2 ^ 30)) (outcome (compact_record C 0)) e
   where
@@ -70,34 +69,30 @@ list_counted C r list e = go (leb (length C) (2 ^ 30)) (outcome (compact_record 
         → (if b then and_then o (λ x. accept (parsed_with C x)) else refuse 23) ≡ accept (r, list) → r.list_length ≡ length list
     go true (accept x) f =
         let z : parsed_with C x ≡ (r, list) = cc in
-        ap (λ (y : CompactParsed × List ℕ). y.0.list_length) (sym z) ∙ ap (λ (y : CompactParsed × List ℕ). length y.1) z
+        ap (λ (y : CompactRead × List ℕ). y.0.list_length) (sym z) ∙ ap (λ (y : CompactRead × List ℕ). length y.1) z
     go true (refuse n) f = let z : ◌≡◌ {A = ℕ} 0 1 = cc in absurd (omega arith)
     go false o f = let z : ◌≡◌ {A = ℕ} 0 1 = cc in absurd (omega arith)
 
--- a configuration, and a list at the front of the array after the call
-pub record Read (C : List ℕ) (c : CompactVvcConfig) (n len : ℕ) (after : List ℕ) : Type 0 where
-  pub given : parse_compact C ≡ accept (record { config = c; unit_count = n; list_length = len }, take len after)
-  pub within : len ≤ length after
-  pub long : length (take len after) ≡ len
-  pub from : ReadFrom c (take len after)
+-- a record that was read, and its list at the front of the array after the call
+pub record Read (C : List ℕ) (r : CompactRead) (after : List ℕ) : Type 0 where
+  pub given : parse_compact C ≡ accept (r, take r.list_length after)
+  pub within : r.list_length ≤ length after
+  pub long : length (take r.list_length after) ≡ r.list_length
+  pub from : ReadFrom r.config (take r.list_length after)
 
 module _ (C : List ℕ) (bytes : AllBytes C) (out : List ℕ) where
-  read_fits : 8554 ≤ length out → (r : CompactParsed) (list : List ℕ) → parse_compact C ≡ accept (r, list) → length list ≤ length out
+  read_fits : 8554 ≤ length out → (r : CompactRead) (list : List ℕ) → parse_compact C ≡ accept (r, list) → length list ≤ length out
   read_fits room r list e =
       let h = list_short r.config list (record { compact = C; bytes = bytes; read = r; reads = e; config = refl }) in
       omega arith
 
-  read_as : (c : CompactVvcConfig) (n len : ℕ) (after : List ℕ)
-      → ◌≡◌ {A = Outcome CompactParsed × List ℕ} (
-        accept (record { config = c; unit_count = n; list_length = len }),
-        after,
-      ) (lent_output (parse_compact C) out) → 8554 ≤ length out → Read C c n len after
-  read_as c n len after e room =
-      let r : CompactParsed = record { config = c; unit_count = n; list_length = len } in
+  read_as : (r : CompactRead) (after : List ℕ) → ◌≡◌ {A = Outcome CompactRead × List ℕ} (accept r, after) (lent_output (parse_compact C) out)
+      → 8554 ≤ length out → Read C r after
+  read_as r after e room =
       let s = stored (parse_compact C) out (read_fits room) r after e in
-      let l : len ≡ length s.bytes = list_counted C r s.bytes s.given in
-      let f : s.bytes ≡ take len after = sym s.front ∙ ap (λ (k : ℕ). take k after) (sym l) in
-      let g : parse_compact C ≡ accept (r, take len after) = s.given ∙ ap (λ (b : List ℕ). accept (r, b)) f in
+      let l : r.list_length ≡ length s.bytes = list_counted C r s.bytes s.given in
+      let f : s.bytes ≡ take r.list_length after = sym s.front ∙ ap (λ (k : ℕ). take k after) (sym l) in
+      let g : parse_compact C ≡ accept (r, take r.list_length after) = s.given ∙ ap (λ (b : List ℕ). accept (r, b)) f in
       record {
         given = g;
         within = omega (arith, s.within);
@@ -106,48 +101,34 @@ module _ (C : List ℕ) (bytes : AllBytes C) (out : List ℕ) where
       }
 
   -- by the answer of the call
-  module _ (r : CompactRead) (after : List ℕ) (said : ◌≡◌ {A = Outcome CompactParsed × List ℕ} (compact_of r, after) (lent_output (parse_compact C) out))
-      (room : 8554 ≤ length out) where
-    read_answered : (x : CompactRead) → r ≡ x → ◌≡◌ {A = Outcome CompactParsed × List ℕ} (compact_of x, after) (lent_output (parse_compact C) out)
-    read_answered x e = ap (λ (y : CompactRead). (compact_of y, after)) (sym e) ∙ said
+  module _ (r : Result CompactRead Refusal) (after : List ℕ)
+      (said : ◌≡◌ {A = Outcome CompactRead × List ℕ} (answer_of r, after) (lent_output (parse_compact C) out)) (room : 8554 ≤ length out) where
+    pub was_read : (x : CompactRead) → r ≡ Ok x → Read C x after
+    was_read x e = read_as x after (answered r after _ said (Ok x) e) room
 
-    pub was_read : (c : CompactVvcConfig) (n len : ℕ) → r ≡ R.Read c n len → Read C c n len after
-    was_read c n len e = read_as c n len after (read_answered (R.Read c n len) e) room
-
-    pub not_read : (n : Refusal) → r ≡ R.Refused n → parse_compact C ≡ refuse (number_of n)
-    not_read n e = not_stored (parse_compact C) out (read_fits room) (number_of n) after (read_answered (R.Refused n) e)
+    pub not_read : (n : Refusal) → r ≡ Err n → parse_compact C ≡ refuse (number_of n)
+    not_read n e = not_stored (parse_compact C) out (read_fits room) (number_of n) after (answered r after _ said (Err n) e)
 
 -- ### expansion
 
--- a head, and a list at the front of the array after the call
-pub record Expanded (c : CompactVvcConfig) (pic : Picture) (list : List ℕ) (h : VvcConfig) (len : ℕ) (after : List ℕ) : Type 0 where
-  pub given : to_full c pic list ≡ accept (record { head = h; list_length = len }, take len after)
-  pub within : len ≤ length after
-  pub long : length (take len after) ≡ len
-  pub expanded_from : pic.chroma_format_idc ≤ 3 → pic.bit_depth ≤ 15 → ExpandedFrom c h (take len after)
+-- an expansion, and its list at the front of the array after the call
+pub record WasExpanded (c : CompactVvcConfig) (pic : Picture) (list : List ℕ) (x : Expanded) (after : List ℕ) : Type 0 where
+  pub given : to_full c pic list ≡ accept (x, take x.list_length after)
+  pub within : x.list_length ≤ length after
+  pub long : length (take x.list_length after) ≡ x.list_length
+  pub expanded_from : pic.chroma_format_idc ≤ 3 → pic.bit_depth ≤ 15 → ExpandedFrom c x.head (take x.list_length after)
 
 module _ (c : CompactVvcConfig) (pic : Picture) (list : List ℕ) (from : ReadFrom c list) (out : List ℕ) where
-  expansion_fits : 8746 ≤ length out → (full : FullHead) (l : List ℕ) → to_full c pic list ≡ accept (full, l) → length l ≤ length out
+  expansion_fits : 8746 ≤ length out → (full : Expanded) (l : List ℕ) → to_full c pic list ≡ accept (full, l) → length l ≤ length out
   expansion_fits room full l e = let h = expanded_short c list from pic full l e in omega arith
 
-  answer_is : (o : Outcome FullHead) (x : Outcome FullHead) (h : VvcConfig) (after d : List ℕ)
-      → ◌≡◌ {A = (Outcome FullHead × VvcConfig) × List ℕ} ((o, h), after) (hands_back (λ r. r.head) zero_head x, d)
-      → ◌≡◌ {A = Outcome FullHead × List ℕ} (o, after) (x, d)
-  answer_is o (accept r) h after d e = ap (λ (y : (Outcome FullHead × VvcConfig) × List ℕ). (y.0.0, y.1)) e
-  answer_is o (refuse n) h after d e = ap (λ (y : (Outcome FullHead × VvcConfig) × List ℕ). (y.0.0, y.1)) e
-
-  expanded_as : (h : VvcConfig) (len : ℕ) (after : List ℕ)
-      → ◌≡◌ {A = (Outcome FullHead × VvcConfig) × List ℕ} (
-        (accept (record { head = h; list_length = len }), h),
-        after,
-      ) (expanded_given (to_full c pic list) out) → 8746 ≤ length out
-      → Expanded c pic list h len after
-  expanded_as h len after e room =
-      let r : FullHead = record { head = h; list_length = len } in
-      let s = stored (to_full c pic list) out (expansion_fits room) r after (answer_is _ _ h after _ e) in
-      let l : len ≡ length s.bytes = expanded_count c list from pic r s.bytes s.given in
-      let f : s.bytes ≡ take len after = sym s.front ∙ ap (λ (k : ℕ). take k after) (sym l) in
-      let g : to_full c pic list ≡ accept (r, take len after) = s.given ∙ ap (λ (b : List ℕ). accept (r, b)) f in
+  expanded_as : (x : Expanded) (after : List ℕ) → ◌≡◌ {A = Outcome Expanded × List ℕ} (accept x, after) (lent_output (to_full c pic list) out)
+      → 8746 ≤ length out → WasExpanded c pic list x after
+  expanded_as x after e room =
+      let s = stored (to_full c pic list) out (expansion_fits room) x after e in
+      let l : x.list_length ≡ length s.bytes = expanded_count c list from pic x s.bytes s.given in
+      let f : s.bytes ≡ take x.list_length after = sym s.front ∙ ap (λ (k : ℕ). take k after) (sym l) in
+      let g : to_full c pic list ≡ accept (x, take x.list_length after) = s.given ∙ ap (λ (b : List ℕ). accept (x, b)) f in
       record {
         given = g;
         within = omega (arith, s.within);
@@ -158,26 +139,20 @@ module _ (c : CompactVvcConfig) (pic : Picture) (list : List ℕ) (from : ReadFr
           picture = pic;
           chroma = chroma;
           depth = depth;
-          full = r;
+          full = x;
           expands = g;
           head = refl;
         };
       }
 
   -- by the answer of the call
-  module _ (r : E.Expanded) (after : List ℕ)
-      (said : ◌≡◌ {A = (Outcome FullHead × VvcConfig) × List ℕ} (expanded_of r, after) (expanded_given (to_full c pic list) out))
-      (room : 8746 ≤ length out) where
-    expansion_answered : (x : ExpandAnswer) → r.answer ≡ x
-        → ◌≡◌ {A = (Outcome FullHead × VvcConfig) × List ℕ} ((expand_answer_of x r.head, r.head), after) (expanded_given (to_full c pic list) out)
-    expansion_answered x e = ap (λ (y : ExpandAnswer). ((expand_answer_of y r.head, r.head), after)) (sym e) ∙ said
+  module _ (r : Result Expanded Refusal) (after : List ℕ)
+      (said : ◌≡◌ {A = Outcome Expanded × List ℕ} (answer_of r, after) (lent_output (to_full c pic list) out)) (room : 8746 ≤ length out) where
+    pub was_expanded : (x : Expanded) → r ≡ Ok x → WasExpanded c pic list x after
+    was_expanded x e = expanded_as x after (answered r after _ said (Ok x) e) room
 
-    pub was_expanded : (len : ℕ) → r.answer ≡ A.List len → Expanded c pic list r.head len after
-    was_expanded len e = expanded_as r.head len after (expansion_answered (A.List len) e) room
-
-    pub not_expanded : (n : Refusal) → r.answer ≡ A.Refused n → to_full c pic list ≡ refuse (number_of n)
-    not_expanded n e = not_stored (to_full c pic list) out (expansion_fits room) (number_of n) after
-        (answer_is _ _ r.head after _ (expansion_answered (A.Refused n) e))
+    pub not_expanded : (n : Refusal) → r ≡ Err n → to_full c pic list ≡ refuse (number_of n)
+    not_expanded n e = not_stored (to_full c pic list) out (expansion_fits room) (number_of n) after (answered r after _ said (Err n) e)
 
 -- ### the path, step by step
 
@@ -194,14 +169,14 @@ pub counted_refused : (whole : Outcome (List ℕ)) (n : ℕ) → whole ≡ refus
 counted_refused whole n e = ap count_found (sym e)
 
 module _ (c : CompactVvcConfig) (pic : Picture) (list : List ℕ) where
-  pub record_expanded : (full : FullHead) (l : List ℕ) → to_full c pic list ≡ accept (full, l) → record_from c pic list ≡ serialize_full full.head l
+  pub record_expanded : (full : Expanded) (l : List ℕ) → to_full c pic list ≡ accept (full, l) → record_from c pic list ≡ serialize_full full.head l
   record_expanded full l e = rw e
 
   pub record_unexpanded : (n : ℕ) → to_full c pic list ≡ refuse n → record_from c pic list ≡ refuse n
   record_unexpanded n e = rw e
 
 module _ (codes : StartCodes) (c : CompactVvcConfig) (list S : List ℕ) (tols : Option ℕ) where
-  pub stream_expanded_lem : (full : FullHead) (l : List ℕ) → to_full c any_picture list ≡ accept (full, l)
+  pub stream_expanded_lem : (full : Expanded) (l : List ℕ) → to_full c any_picture list ≡ accept (full, l)
       → stream_from codes c list S tols ≡ stream_expanded codes c full.head l S tols
   stream_expanded_lem full l e = rw e
 
@@ -209,7 +184,7 @@ module _ (codes : StartCodes) (c : CompactVvcConfig) (list S : List ℕ) (tols :
   stream_unexpanded n e = rw e
 
 module _ (C : List ℕ) (pic : Picture) where
-  pub record_read_lem : (r : CompactParsed) (list : List ℕ) → parse_compact C ≡ accept (r, list) → still_record C pic ≡ record_from r.config pic list
+  pub record_read_lem : (r : CompactRead) (list : List ℕ) → parse_compact C ≡ accept (r, list) → still_record C pic ≡ record_from r.config pic list
   unfolding still_record
   record_read_lem r list e = rw e
 
@@ -223,7 +198,7 @@ module _ (codes : StartCodes) (C S : List ℕ) (tols : Option ℕ) where
   stream_too_long h = lent_too_long S _ h
 
   module _ (lent : length S ≤ 2 ^ 30) where
-    pub stream_read : (r : CompactParsed) (list : List ℕ) → parse_compact C ≡ accept (r, list)
+    pub stream_read : (r : CompactRead) (list : List ℕ) → parse_compact C ≡ accept (r, list)
         → still_stream codes C S tols ≡ stream_from codes r.config list S tols
     unfolding still_stream stream_with
     stream_read r list e = lent_within S _ lent ∙ rw e

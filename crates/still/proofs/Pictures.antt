@@ -3,11 +3,10 @@ use Prim.Native.Nat.{ℕ, ◌-◌, ◌≤◌}
 use native.Mathlib.Omega.{arith}
 use mathlib.Core.Path.{◌≡◌, refl, sym, ap, ◌∙◌}
 use mathlib.Core.Bool.{Bool, true, false}
-use mathlib.Core.Option.{Option, none, some}
 use mathlib.Core.List.{List}
 use lib.Dec.{eqb}
 use borrow.Author.Tests.{le-leb}
-use Rattle.std.specs.Prelude.{if◌then◌else◌}
+use Rattle.std.specs.Prelude.{if◌then◌else◌, Option, None, Some}
 use Rattle.parse.specs.Outcome.{Outcome, accept, refuse, and_then, lent_input}
 use Rattle.parse.specs.Steps.{or_refuse}
 use Rattle.boxes.specs.Bytes.{AllBytes}
@@ -17,11 +16,13 @@ use Rattle.ptl.specs.declared.VvcPtlRecord.{VvcPtlRecord}
 use Rattle.sps.specs.Sps.{parse_sps}
 use Rattle.sps.specs.declared.SpsHead.{SpsHead}
 use Rattle.grouping.specs.Grouping.{having_type, first_element, grouped}
-use Rattle.compact.specs.Compact.{CompactParsed, parse_compact}
+use Rattle.compact.specs.declared.CompactRead.{CompactRead}
+use Rattle.compact.specs.Compact.{parse_compact}
 use Rattle.compact.specs.ItemData.{restore}
 use Rattle.compact.specs.declared.CompactVvcConfig.{CompactVvcConfig}
 use Rattle.full.specs.Write.{ptl_part_fits, head_fits, full_bytes, record_fits, write_full, serialize_full}
-use Rattle.expand.specs.Expand.{FullHead, multi_layer_vps, ptl_of_sets, expanded_head, with_list, expand_units, to_full}
+use Rattle.expand.specs.declared.Expanded.{Expanded}
+use Rattle.expand.specs.Expand.{multi_layer_vps, ptl_of_sets, expanded_head, with_list, expand_units, to_full}
 use Rattle.expand.specs.declared.Picture.{Picture}
 use Rattle.expand.proofs.Expansion.{list_expanded}
 use Rattle.access_unit.specs.AccessUnit.{access_unit, assemble}
@@ -37,16 +38,16 @@ done o = and_then o (λ _. accept tt)
 module _ (pic any : Picture) where
   -- expansion is refused with both pictures or with neither
   module _ (c : CompactVvcConfig) (us : List (List ℕ)) where
-    abbrev made : Picture → VvcPtlRecord → FullHead × List ℕ
+    abbrev made : Picture → VvcPtlRecord → Expanded × List ℕ
     made p ptl = with_list (expanded_head c p ptl) (encode (grouped us))
 
-    abbrev of_ptl : Picture → Outcome VvcPtlRecord → Outcome (FullHead × List ℕ)
+    abbrev of_ptl : Picture → Outcome VvcPtlRecord → Outcome (Expanded × List ℕ)
     of_ptl p o = and_then o (λ ptl. accept (made p ptl))
 
-    abbrev of_head : Picture → Outcome SpsHead → Outcome (FullHead × List ℕ)
+    abbrev of_head : Picture → Outcome SpsHead → Outcome (Expanded × List ℕ)
     of_head p o = and_then o (λ h. of_ptl p (ptl_of_sets h us))
 
-    abbrev of_unit : Picture → Outcome (List ℕ) → Outcome (FullHead × List ℕ)
+    abbrev of_unit : Picture → Outcome (List ℕ) → Outcome (Expanded × List ℕ)
     of_unit p o = and_then o (λ u. of_head p (parse_sps u))
 
     refused_alike : (n : ℕ) → expand_units c pic us ≡ refuse n → expand_units c any us ≡ refuse n
@@ -104,8 +105,8 @@ module _ (pic any : Picture) where
     assemble_alike : (codes : StartCodes) (list item : List ℕ) (tols : Option ℕ)
         → assemble codes (expanded_head c pic ptl) list item tols ≡ assemble codes (expanded_head c any ptl) list item tols
     unfolding assemble access_unit
-    assemble_alike codes list item none = refl
-    assemble_alike codes list item (some t) = refl
+    assemble_alike codes list item None = refl
+    assemble_alike codes list item (Some t) = refl
 
     -- the rest of the path uses nothing of the picture
     stream_alike : (codes : StartCodes) (list S : List ℕ) (tols : Option ℕ)
@@ -140,7 +141,7 @@ module _ (codes : StartCodes) (S : List ℕ) (tols : Option ℕ) (pic : Picture)
       of_units_lem : (p : Picture) → to_full c p list ≡ expand_units c p (us c list from)
       of_units_lem p = let r = (facts c list from).read in list_expanded c p list (us c list from) (sym (rw (r.read, r.bytes)))
 
-      go : (o : Outcome (FullHead × List ℕ)) → to_full c pic list ≡ o → stream_of pic c list ≡ stream_of any_picture c list
+      go : (o : Outcome (Expanded × List ℕ)) → to_full c pic list ≡ o → stream_of pic c list ≡ stream_of any_picture c list
       go (refuse n) e = let f = of_units_lem any_picture ∙ refused_alike pic any_picture c (us c list from) n (sym (of_units_lem pic) ∙ e) in rw (e, f)
       go (accept x) e =
           let k = expanded c list from pic x.0 x.1 e in
@@ -164,7 +165,7 @@ module _ (codes : StartCodes) (S : List ℕ) (tols : Option ℕ) (pic : Picture)
   unfolding stream_with still_stream
   any_picture_lem C bytes = ap (lent_input S) (go (parse_compact C) refl)
     where
-      go : (o : Outcome (CompactParsed × List ℕ)) → parse_compact C ≡ o
+      go : (o : Outcome (CompactRead × List ℕ)) → parse_compact C ≡ o
           → and_then o (λ r. stream_of pic r.0.config r.1) ≡ and_then o (λ r. stream_of any_picture r.0.config r.1)
       go (refuse n) e = refl
       go (accept r) e = list_alike r.0.config r.1 (record { compact = C; bytes = bytes; read = r.0; reads = e; config = refl })

@@ -1,7 +1,6 @@
 -- One still in one call (SCOPE 4.7): the steps one after the other; the first refusal is that of the call. No step has an output of its own, so 20 is
 -- about the result alone.
-use Rattle.std.specs.Prelude.{ℕ, List}
-use Rattle.std.proofs.Math.Option.{Option}
+use Rattle.std.specs.Prelude.{ℕ, List, Option}
 use Rattle.parse.specs.Outcome.{Outcome, lent_input}
 use Rattle.parse.specs.Steps.{◌>>=◌}
 use Rattle.compact.specs.Compact.{parse_compact}

@@ -3,7 +3,7 @@ use Prim.Native.Nat.{ℕ, ◌+◌, ◌-◌, ◌≤◌, ◌<◌}
 use native.Mathlib.Omega.{arith}
 use mathlib.Core.Path.{◌≡◌, sym, ap, ◌∙◌}
 use mathlib.Core.List.{List}
-use mathlib.Core.Option.{none}
+use Rattle.std.specs.Prelude.{None}
 use lib.ListN.{length, take, drop, length-drop}
 use lib.Seq.{take_all, take-length}
 use borrow.Author.Tests.{lt-ltb, le-ltb}
@@ -35,7 +35,7 @@ module _ (s : List ℕ) where
     input_cut e = rw (le-ltb 65536 (length s) short, whole (refused 1) e)
 
     pub input_given : (a : Span) (C : List ℕ) → C ≡ held s a → value a (a.start + a.len) ≡ chunk 2 (take (length s) s) 0
-        → input_stream s ≡ still_stream Four C (take (length s - (a.start + a.len)) (drop (a.start + a.len) s)) none
+        → input_stream s ≡ still_stream Four C (take (length s - (a.start + a.len)) (drop (a.start + a.len) s)) None
     unfolding input_stream
     input_given a C h e =
         let n = a.start + a.len in

@@ -1,6 +1,5 @@
 -- What the program answers to its standard input: the length of a compact record in two bytes, the record, and the stored bytes.
-use Rattle.std.specs.Prelude.{ℕ, ◌+◌, List, ltb, length, drop, if◌then◌else◌}
-use Rattle.std.proofs.Math.Option.{none}
+use Rattle.std.specs.Prelude.{ℕ, ◌+◌, List, ltb, length, drop, if◌then◌else◌, None}
 use Rattle.parse.specs.Outcome.{Outcome, refuse}
 use Rattle.parse.specs.Parse.{outcome}
 use Rattle.parse.specs.Steps.{◌>>=◌}
@@ -15,4 +14,4 @@ input_stream s =
     if ltb 65536 (length s) then refuse 23
     else do
       a ← outcome (chunk 2 s 0)
-      still_stream Four (held s a) (drop (a.start + a.len) s) none
+      still_stream Four (held s a) (drop (a.start + a.len) s) None

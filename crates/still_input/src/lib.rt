@@ -4,30 +4,32 @@
 
 ghost use Rattle.std.specs.Prelude.{◌≡◌};
 ghost use Rattle.parse.specs.Outcome.{lent_output, counted};
-ghost use Rattle.parse.specs.Answers.{written_of};
+ghost use Rattle.parse.specs.Answers.{answer_of};
 ghost use Rattle.still_input.specs.Input.{input_stream};
 
-use access_unit::{StartCodes, Target};
-use boxes::chunks::ChunkRead;
+use access_unit::StartCodes;
 use boxes::{chunks, place};
-use error::{Refusal, Written};
+use error::Refusal;
 
 // The longest standard input that is accepted: 64 KiB.
 const LONGEST: usize = 65536;
 
 // The stream of the still that an input holds. Refusals: 23 above 64 KiB, 1 where the compact record runs past the end; those of `still_stream`.
-pub fn input_stream(input: &[u8], out: &mut [u8]) -> Written
-    ensures { (written_of result, out.new) ≡ lent_output (counted (input_stream input.now)) out.old }
+pub fn input_stream(input: &[u8], out: &mut [u8]) -> Result<usize, Refusal>
+    ensures { (answer_of result, out.new) ≡ lent_output (counted (input_stream input.now)) out.old }
 {
     if LONGEST < input.len() {
-        return Written::Refused(Refusal::InputTooLong);
+        return Err(Refusal::InputTooLong);
     }
-    let read = chunks::chunk(input, 0, input.len(), 2);
-    let ChunkRead::Bytes(a) = read else {
-        return Written::Refused(Refusal::Truncated);
+    let Some(a) = chunks::chunk(input, 0, input.len(), 2) else {
+        return Err(Refusal::Truncated);
     };
     let after = a.start + a.len;
-    let target = Target::Unset;
-    let codes = StartCodes::Four;
-    still_stream::still_stream(place::part(input, a), &input[after..], target, codes, out)
+    still_stream::still_stream(
+        place::part(input, a),
+        &input[after..],
+        None,
+        StartCodes::Four,
+        out,
+    )
 }

@@ -1,5 +1,5 @@
 // Internal: reads and writes whole files. What fails is reported on standard error.
-ghost use Rattle.std.specs.Prelude.{◌≤◌, length, IfOk};
+ghost use Rattle.std.specs.Prelude.{◌≤◌, length, IfOk, IfSome};
 
 use crate::say;
 use std::env::FillError;
@@ -7,24 +7,12 @@ use std::io::{Read, Write};
 use std::rt::{Env, Files};
 use std::{fs, io, str};
 
-// Whether a file was read to its end, and how many bytes of it now are at the front of the buffer.
-#[derive(Clone, Copy)]
-pub struct FileRead {
-    pub whole: bool,
-    pub len: usize,
-}
-
-// A file that was not read.
-const UNREAD: FileRead = FileRead {
-    whole: false,
-    len: 0,
-};
-
 // Reads to the end of an open file, or until the buffer is full.
 fn read_to_end(from: &mut impl Read, buf: &mut [u8]) -> io::Result<usize>
     ensures { IfOk result (λ n. n ≤ length buf.new) }
 {
     let mut done: usize = 0;
+    // No `for`: a turn reads as much as the system gives.
     while done < buf.len() {
         let more = from.read(&mut buf[done..])?;
         if more == 0 {
@@ -35,45 +23,46 @@ fn read_to_end(from: &mut impl Read, buf: &mut [u8]) -> io::Result<usize>
     Ok(done)
 }
 
-// Reads an open file of at most `most` bytes. The buffer is longer than `most`, so that a longer file is noticed.
+// Reads an open file of at most `most` bytes, and returns how many are now at the front of the buffer; none where it was not read whole. The buffer is
+// longer than `most`, so that a longer file is noticed.
 pub fn read_open(
     rt: &(impl Eprint + Alloc),
     from: &mut impl Read,
     name: &str,
     most: usize,
     buf: &mut [u8],
-) -> FileRead
-    ensures { result.len ≤ length buf.new }
+) -> Option<usize>
+    ensures { IfSome result (λ n. n ≤ length buf.new) }
 {
     match read_to_end(from, buf) {
         Ok(len) => {
             if most < len {
                 say::too_long(rt, name, most);
-                return UNREAD;
+                return None;
             }
-            FileRead { whole: true, len }
+            Some(len)
         }
         Err(e) => {
             say::failed(rt, "cannot read ", name, e);
-            UNREAD
+            None
         }
     }
 }
 
-// Opens, reads and closes the file of a name.
+// Opens, reads and closes the file of a name, as `read_open` does.
 fn read_named(
     rt: &(impl Files + Eprint + Alloc),
     name: &str,
     most: usize,
     buf: &mut [u8],
-) -> FileRead
-    ensures { result.len ≤ length buf.new }
+) -> Option<usize>
+    ensures { IfSome result (λ n. n ≤ length buf.new) }
 {
     match fs::open(rt, name) {
         Ok(mut file) => read_open(rt, &mut file, name, most, buf),
         Err(e) => {
             say::failed(rt, "cannot open ", name, e);
-            UNREAD
+            None
         }
     }
 }
@@ -105,19 +94,19 @@ fn name_of<'a>(rt: &(impl Env + Eprint), i: usize, path: &'a mut [u8]) -> Option
     }
 }
 
-// Reads the file that argument i names, of at most `most` bytes.
+// Reads the file that argument i names, of at most `most` bytes, as `read_open` does.
 pub fn read(
     rt: &(impl Env + Files + Eprint + Alloc),
     i: usize,
     most: usize,
     buf: &mut [u8],
-) -> FileRead
-    ensures { result.len ≤ length buf.new }
+) -> Option<usize>
+    ensures { IfSome result (λ n. n ≤ length buf.new) }
 {
     let mut path = [0u8; 4096];
     match name_of(rt, i, &mut path) {
         Some(name) => read_named(rt, name, most, buf),
-        None => UNREAD,
+        None => None,
     }
 }
 

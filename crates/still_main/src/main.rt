@@ -10,8 +10,7 @@
 // the buffers.
 #![tactic(auto)]
 
-use access_unit::{StartCodes, Target};
-use error::Written;
+use access_unit::StartCodes;
 use std::alloc::{AllocError, Global};
 use std::io;
 use std::io::Input;
@@ -26,23 +25,20 @@ const LONGEST_STORED: usize = 1048576;
 
 // Writes the answer to an input to standard output: the stream, or the refusal.
 fn answer(rt: &(impl Print + Eprint + Alloc), input: &[u8], out: &mut [u8]) {
-    let written = still_input::input_stream(input, out);
-    match written {
-        Written::Bytes(len) => {
+    match still_input::input_stream(input, out) {
+        Ok(len) => {
             files::write_open(rt, &mut io::writer(rt), "standard output", &out[..len]);
         }
-        Written::Refused(e) => ground::refused(rt, e),
+        Err(e) => ground::refused(rt, e),
     }
 }
 
 // Reads standard input, which is never too long for its buffer here: `input_stream` refuses it then.
 fn answer_input(rt: &(impl Input + Print + Eprint + Alloc), input: &mut [u8], out: &mut [u8]) {
-    let read = files::read_open(rt, &mut rt.reader(), "standard input", input.len(), input);
-    if !read.whole {
-        return;
+    let most = input.len();
+    if let Some(n) = files::read_open(rt, &mut rt.reader(), "standard input", most, input) {
+        answer(rt, &input[..n], out);
     }
-    let n = read.len;
-    answer(rt, &input[..n], out);
 }
 
 // Writes the stream of a record and stored bytes to the file OUT. On a refusal that file is not opened.
@@ -52,12 +48,9 @@ fn convert(
     stored: &[u8],
     out: &mut [u8],
 ) {
-    let target = Target::Unset;
-    let codes = StartCodes::Four;
-    let written = still_stream::still_stream(record, stored, target, codes, out);
-    match written {
-        Written::Bytes(len) => files::write(rt, 3, &out[..len]),
-        Written::Refused(e) => ground::refused(rt, e),
+    match still_stream::still_stream(record, stored, None, StartCodes::Four, out) {
+        Ok(len) => files::write(rt, 3, &out[..len]),
+        Err(e) => ground::refused(rt, e),
     }
 }
 
@@ -68,16 +61,12 @@ fn convert_files(
     stored: &mut [u8],
     out: &mut [u8],
 ) {
-    let first = files::read(rt, 1, LONGEST_RECORD, record);
-    if !first.whole {
+    let Some(m) = files::read(rt, 1, LONGEST_RECORD, record) else {
         return;
-    }
-    let second = files::read(rt, 2, LONGEST_STORED, stored);
-    if !second.whole {
+    };
+    let Some(n) = files::read(rt, 2, LONGEST_STORED, stored) else {
         return;
-    }
-    let m = first.len;
-    let n = second.len;
+    };
     convert(rt, &record[..m], &stored[..n], out);
 }
 

@@ -1,17 +1,14 @@
 // Internal: the length of the stream of a still, or the refusal.
 ghost use Rattle.std.specs.Prelude.{◌≡◌, ◌≤◌, ◌^◌, length};
-ghost use Rattle.parse.specs.Answers.{count_of};
+ghost use Rattle.parse.specs.Answers.{answer_of};
 ghost use Rattle.boxes.specs.Walk.{count_found};
-ghost use Rattle.access_unit.specs.Answers.{tols_of};
 ghost use Rattle.still.specs.Stills.{still_stream};
 ghost use Rattle.still.specs.inner.Steps.{ReadFrom, ExpandedFrom, Plain, item_after, plain_stream, stream_expanded, stream_from};
 ghost use Rattle.still_plain.specs.inner.Plain.{ItemLong};
 
-use access_unit::{StartCodes, Target, lengths};
-use access_unit_sizes::sizes::SizesAnswer;
-use compact::{CompactRead, CompactVvcConfig};
-use error::{Counted, LARGEST_INPUT, Refusal};
-use expand::ExpandAnswer;
+use access_unit::{StartCodes, lengths};
+use compact::CompactVvcConfig;
+use error::{LARGEST_INPUT, Refusal};
 use full::VvcConfig;
 use still::{ANY_PICTURE, COMPACT_LIST, EXPANDED_LIST, item};
 use still_plain::measure;
@@ -24,13 +21,11 @@ pub fn restored_len(
     head: VvcConfig,
     list: &[u8],
     stored: &[u8],
-) -> Counted
-    ensures { count_of result ≡ count_found (item_after config head list.now stored.now) }
+) -> Result<usize, Refusal>
+    ensures { answer_of result ≡ count_found (item_after config head list.now stored.now) }
 {
-    match full_write::record_len(head, list) {
-        Counted::Count(_) => item_len::lengths::item_len(config, stored),
-        Counted::Refused(e) => Counted::Refused(e),
-    }
+    full_write::record_len(head, list)?;
+    item_len::lengths::item_len(config, stored)
 }
 
 // The length of the stream of a list and of stored bytes with one unit. Refusal: 23.
@@ -40,18 +35,12 @@ fn plain_len(
     stored: &[u8],
     item_len: usize,
     codes: StartCodes,
-) -> Counted
+) -> Result<usize, Refusal>
     requires { Plain length_size list.now × (length stored.now ≤ 2 ^ 30) × ItemLong length_size stored.now item_len }
-    ensures { count_of result ≡ count_found (plain_stream codes length_size list.now stored.now) }
+    ensures { answer_of result ≡ count_found (plain_stream codes length_size list.now stored.now) }
 {
-    match measure::plain_sizes(length_size, list, stored, item_len, codes) {
-        SizesAnswer::Sized(sizes) => Counted::Count(measure::picture_end(
-            sizes.len,
-            codes,
-            stored.len(),
-        )),
-        SizesAnswer::Refused(e) => Counted::Refused(e),
-    }
+    let sizes = measure::plain_sizes(length_size, list, stored, item_len, codes)?;
+    Ok(measure::picture_end(sizes.len, codes, stored.len()))
 }
 
 // The length of the stream of an expanded head and list. Refusals: 3, 22; with the flag clear 6, 23, else in byte order 1 and 5.
@@ -60,21 +49,17 @@ fn expanded_len(
     head: VvcConfig,
     list: &[u8],
     stored: &[u8],
-    tols: Target,
+    tols: Option<u16>,
     codes: StartCodes,
-) -> Counted
+) -> Result<usize, Refusal>
     requires { ExpandedFrom config head list.now × (length stored.now ≤ 2 ^ 30) }
-    ensures { count_of result ≡ count_found (stream_expanded codes config head list.now stored.now (tols_of tols)) }
+    ensures { answer_of result ≡ count_found (stream_expanded codes config head list.now stored.now tols) }
 {
-    match item::restored_len(config, list, stored) {
-        Counted::Count(item_len) => {
-            if config.multi_layer_flag {
-                return access_unit_sizes::lengths::access_unit_len(head, list, stored, tols, codes);
-            }
-            plain_len(config.length_size, list, stored, item_len, codes)
-        }
-        Counted::Refused(e) => Counted::Refused(e),
+    let item_len = item::restored_len(config, list, stored)?;
+    if config.multi_layer_flag {
+        return access_unit_sizes::lengths::access_unit_len(head, list, stored, tols, codes);
     }
+    plain_len(config.length_size, list, stored, item_len, codes)
 }
 
 // The length of the stream of a configuration and a list. Refusals: those of expansion; 3, 22; with the flag clear 6, 23, else in byte order 1 and 5.
@@ -82,33 +67,31 @@ fn stream_len(
     config: CompactVvcConfig,
     list: &[u8],
     stored: &[u8],
-    tols: Target,
+    tols: Option<u16>,
     codes: StartCodes,
-) -> Counted
+) -> Result<usize, Refusal>
     requires { ReadFrom config list.now × (length stored.now ≤ 2 ^ 30) }
-    ensures { count_of result ≡ count_found (stream_from codes config list.now stored.now (tols_of tols)) }
+    ensures { answer_of result ≡ count_found (stream_from codes config list.now stored.now tols) }
 {
     let mut grouped = [0u8; EXPANDED_LIST];
-    let expanded = expand::to_full(config, list, ANY_PICTURE, &mut grouped);
-    let answer = expanded.answer;
-    let head = expanded.head;
-    match answer {
-        ExpandAnswer::List(len) => expanded_len(config, head, &grouped[..len], stored, tols, codes),
-        ExpandAnswer::Refused(e) => Counted::Refused(e),
-    }
+    let expanded = expand::to_full(config, list, ANY_PICTURE, &mut grouped)?;
+    let listed = &grouped[..expanded.list_length];
+    expanded_len(config, expanded.head, listed, stored, tols, codes)
 }
 
 // The length of the stream of a still. Refusals: those of `still_stream` but for 20.
-pub fn still_stream_len(record: &[u8], stored: &[u8], tols: Target, codes: StartCodes) -> Counted
-    ensures { count_of result ≡ count_found (still_stream codes «record».now stored.now (tols_of tols)) }
+pub fn still_stream_len(
+    record: &[u8],
+    stored: &[u8],
+    tols: Option<u16>,
+    codes: StartCodes,
+) -> Result<usize, Refusal>
+    ensures { answer_of result ≡ count_found (still_stream codes «record».now stored.now tols) }
 {
     if LARGEST_INPUT < stored.len() {
-        return Counted::Refused(Refusal::InputTooLong);
+        return Err(Refusal::InputTooLong);
     }
     let mut list = [0u8; COMPACT_LIST];
-    let read = compact_read::parse(record, &mut list);
-    match read {
-        CompactRead::Read(config, _, len) => stream_len(config, &list[..len], stored, tols, codes),
-        CompactRead::Refused(e) => Counted::Refused(e),
-    }
+    let read = compact_read::parse(record, &mut list)?;
+    stream_len(read.config, &list[..read.list_length], stored, tols, codes)
 }

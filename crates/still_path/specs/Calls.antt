@@ -1,6 +1,5 @@
 -- What the two calls of SCOPE 4.7 return for stills that meet the premises of the whole path (SCOPE 5.1). The claim is `WholeCalls`, at the end.
-use Rattle.std.specs.Prelude.{ℕ, ◌≤◌, ◌≡◌, ◌↔◌, List, length}
-use Rattle.std.proofs.Math.Option.{Option}
+use Rattle.std.specs.Prelude.{ℕ, ◌≤◌, ◌≡◌, ◌↔◌, List, length, Option}
 use Rattle.parse.specs.Outcome.{counted, Writes}
 use Rattle.expand.specs.declared.Picture.{Picture}
 use Rattle.access_unit.specs.declared.StartCodes.{StartCodes}

@@ -2,7 +2,7 @@
 use Prim.Native.Nat.{ℕ, suc, ◌+◌}
 use native.Mathlib.Omega.{arith}
 use mathlib.Core.Path.{◌≡◌, ◌∙◌}
-use mathlib.Core.Option.{none}
+use Rattle.std.specs.Prelude.{None}
 use mathlib.Core.List.{List, []}
 use lib.ListN.{length, get_or, set}
 use lib.Seq.{sets}
@@ -30,7 +30,7 @@ picture_stored codes S out d e f g at n header l h x y z w =
     w ∙ rw (b, z, a, y, x, h, l, code_number c) (sets_append out at (code_bytes c) (still_unit S))
 
 module _ (codes : StartCodes) (size : ℕ) (list : List ℕ) (v : Sizes) (k : Listed codes size list v) where
-  pub stream_stored : (S out d e : List ℕ) → d ≡ sets out 0 (gathered_bytes codes list [] (gather size none list []))
+  pub stream_stored : (S out d e : List ℕ) → d ≡ sets out 0 (gathered_bytes codes list [] (gather size None list []))
       → e ≡ sets d v.len (coded codes (still_unit S)) → e ≡ sets out 0 (stream_bytes codes size list v k S)
   stream_stored S out d e x y =
       let f = front codes size list v k in

@@ -5,9 +5,9 @@ ghost use Rattle.access_unit.specs.AccessUnit.{code_of_type};
 ghost use Rattle.still.specs.inner.Steps.{Plain};
 ghost use Rattle.still_plain.specs.inner.Plain.{PlainSizes, ItemLong};
 
-use access_unit::{StartCodes, Target, lengths};
+use access_unit::{StartCodes, lengths};
 use access_unit_sizes::sizes;
-use access_unit_sizes::sizes::SizesAnswer;
+use access_unit_sizes::sizes::Sizes;
 use error::{LARGEST_INPUT, Refusal};
 use nal::NAL_IDR_N_LP;
 
@@ -27,14 +27,14 @@ pub fn plain_sizes(
     stored: &[u8],
     item_len: usize,
     codes: StartCodes,
-) -> SizesAnswer
+) -> Result<Sizes, Refusal>
     requires { Plain length_size list.now × ItemLong length_size stored.now item_len }
     ensures { PlainSizes codes length_size list.now stored.now result }
 {
     if LARGEST_INPUT < item_len {
-        return SizesAnswer::Refused(Refusal::InputTooLong);
+        return Err(Refusal::InputTooLong);
     }
-    let target = Target::Unset;
+    let target = None;
     // An item without units: the picture's unit is not in an item here, and its bytes are added by `picture_end`.
     sizes::measure(list, &stored[..0], length_size, target, codes)
 }

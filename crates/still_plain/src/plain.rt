@@ -2,7 +2,7 @@
 ghost use Rattle.std.specs.Prelude.{◌≡◌, ◌+◌, ◌≤◌, ◌^◌, length};
 ghost use Rattle.std.proofs.lemmas.List.Edits.{sets};
 ghost use Rattle.parse.specs.Outcome.{lent_output, counted};
-ghost use Rattle.parse.specs.Answers.{written_of};
+ghost use Rattle.parse.specs.Answers.{answer_of};
 ghost use Rattle.annex_b.specs.Stream.{code_bytes};
 ghost use Rattle.compact.specs.ItemData.{still_unit};
 ghost use Rattle.access_unit.specs.AccessUnit.{code_of_type};
@@ -11,10 +11,10 @@ ghost use Rattle.still.specs.inner.Steps.{Plain, units_stream, plain_stream};
 ghost use Rattle.still_plain.specs.inner.Plain.{Listed, ItemLong};
 
 use crate::measure;
-use access_unit::{StartCodes, Target, lengths};
-use access_unit_sizes::sizes::{Sizes, SizesAnswer};
+use access_unit::{StartCodes, lengths};
+use access_unit_sizes::sizes::Sizes;
 use boxes::place;
-use error::{Refusal, Written};
+use error::Refusal;
 
 // Stores the start code of a picture that is not the first unit, the header 00 41 and the stored bytes from place `at` on.
 fn put_picture(stored: &[u8], codes: StartCodes, out: &mut [u8], at: usize)
@@ -38,16 +38,16 @@ fn put_sized(
     codes: StartCodes,
     sizes: Sizes,
     out: &mut [u8],
-) -> Written
+) -> Result<usize, Refusal>
     requires { Listed codes length_size list.now sizes × (length stored.now ≤ 2 ^ 30) }
-    ensures { (written_of result, out.new)
+    ensures { (answer_of result, out.new)
         ≡ lent_output (counted (units_stream codes list.now stored.now)) out.old }
 {
     let len = measure::picture_end(sizes.len, codes, stored.len());
     if out.len() < len {
-        return Written::Refused(Refusal::BufferTooShort);
+        return Err(Refusal::BufferTooShort);
     }
-    let target = Target::Unset;
+    let target = None;
     // An item without units: the unit of the stored bytes is stored after those of the list.
     access_unit_annex_b::stream::put_stream(
         list,
@@ -59,7 +59,7 @@ fn put_sized(
         out,
     );
     put_picture(stored, codes, out, sizes.len);
-    Written::Bytes(len)
+    Ok(len)
 }
 
 // Writes the stream of a list and of stored bytes whose item has one unit and `item_len` bytes. The item is not made. Refusals: 23, 20.
@@ -70,13 +70,11 @@ pub fn put_plain(
     item_len: usize,
     codes: StartCodes,
     out: &mut [u8],
-) -> Written
+) -> Result<usize, Refusal>
     requires { Plain length_size list.now × (length stored.now ≤ 2 ^ 30) × ItemLong length_size stored.now item_len }
-    ensures { (written_of result, out.new)
+    ensures { (answer_of result, out.new)
         ≡ lent_output (counted (plain_stream codes length_size list.now stored.now)) out.old }
 {
-    match measure::plain_sizes(length_size, list, stored, item_len, codes) {
-        SizesAnswer::Sized(sizes) => put_sized(length_size, list, stored, codes, sizes, out),
-        SizesAnswer::Refused(e) => Written::Refused(e),
-    }
+    let sizes = measure::plain_sizes(length_size, list, stored, item_len, codes)?;
+    put_sized(length_size, list, stored, codes, sizes, out)
 }

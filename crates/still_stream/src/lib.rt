@@ -3,15 +3,13 @@
 
 ghost use Rattle.std.specs.Prelude.{◌≡◌, ◌≤◌, ◌^◌, length};
 ghost use Rattle.parse.specs.Outcome.{lent_output, counted};
-ghost use Rattle.parse.specs.Answers.{written_of};
-ghost use Rattle.access_unit.specs.Answers.{tols_of};
+ghost use Rattle.parse.specs.Answers.{answer_of};
 ghost use Rattle.still.specs.Stills.{still_stream};
 ghost use Rattle.still.specs.inner.Steps.{ReadFrom, ExpandedFrom, stream_expanded, stream_from};
 
-use access_unit::{StartCodes, Target};
-use compact::{CompactRead, CompactVvcConfig};
-use error::{Counted, LARGEST_INPUT, Refusal, Written};
-use expand::ExpandAnswer;
+use access_unit::StartCodes;
+use compact::CompactVvcConfig;
+use error::{LARGEST_INPUT, Refusal};
 use full::VvcConfig;
 use still::{ANY_PICTURE, COMPACT_LIST, EXPANDED_LIST, item};
 use still_plain::plain;
@@ -22,25 +20,19 @@ fn put_expanded(
     head: VvcConfig,
     list: &[u8],
     stored: &[u8],
-    tols: Target,
+    tols: Option<u16>,
     codes: StartCodes,
     out: &mut [u8],
-) -> Written
+) -> Result<usize, Refusal>
     requires { ExpandedFrom config head list.now × (length stored.now ≤ 2 ^ 30) }
-    ensures { (written_of result, out.new)
-        ≡ lent_output (counted (stream_expanded codes config head list.now stored.now (tols_of tols))) out.old }
+    ensures { (answer_of result, out.new)
+        ≡ lent_output (counted (stream_expanded codes config head list.now stored.now tols)) out.old }
 {
-    match item::restored_len(config, list, stored) {
-        Counted::Count(item_len) => {
-            if config.multi_layer_flag {
-                return access_unit_annex_b::access_unit_annex_b(
-                    head, list, stored, tols, codes, out,
-                );
-            }
-            plain::put_plain(config.length_size, list, stored, item_len, codes, out)
-        }
-        Counted::Refused(e) => Written::Refused(e),
+    let item_len = item::restored_len(config, list, stored)?;
+    if config.multi_layer_flag {
+        return access_unit_annex_b::access_unit_annex_b(head, list, stored, tols, codes, out);
     }
+    plain::put_plain(config.length_size, list, stored, item_len, codes, out)
 }
 
 // Writes the stream of a configuration and a list.
@@ -49,24 +41,18 @@ fn put_stream(
     config: CompactVvcConfig,
     list: &[u8],
     stored: &[u8],
-    tols: Target,
+    tols: Option<u16>,
     codes: StartCodes,
     out: &mut [u8],
-) -> Written
+) -> Result<usize, Refusal>
     requires { ReadFrom config list.now × (length stored.now ≤ 2 ^ 30) }
-    ensures { (written_of result, out.new)
-        ≡ lent_output (counted (stream_from codes config list.now stored.now (tols_of tols))) out.old }
+    ensures { (answer_of result, out.new)
+        ≡ lent_output (counted (stream_from codes config list.now stored.now tols)) out.old }
 {
     let mut grouped = [0u8; EXPANDED_LIST];
-    let expanded = expand::to_full(config, list, ANY_PICTURE, &mut grouped);
-    let answer = expanded.answer;
-    let head = expanded.head;
-    match answer {
-        ExpandAnswer::List(len) => {
-            put_expanded(config, head, &grouped[..len], stored, tols, codes, out)
-        }
-        ExpandAnswer::Refused(e) => Written::Refused(e),
-    }
+    let expanded = expand::to_full(config, list, ANY_PICTURE, &mut grouped)?;
+    let listed = &grouped[..expanded.list_length];
+    put_expanded(config, expanded.head, listed, stored, tols, codes, out)
 }
 
 // Writes the stream of a compact record and stored bytes, with the caller's target or none and choice of start codes.
@@ -75,27 +61,18 @@ fn put_stream(
 pub fn still_stream(
     record: &[u8],
     stored: &[u8],
-    tols: Target,
+    tols: Option<u16>,
     codes: StartCodes,
     out: &mut [u8],
-) -> Written
-    ensures { (written_of result, out.new)
-        ≡ lent_output (counted (still_stream codes «record».now stored.now (tols_of tols))) out.old }
+) -> Result<usize, Refusal>
+    ensures { (answer_of result, out.new)
+        ≡ lent_output (counted (still_stream codes «record».now stored.now tols)) out.old }
 {
     if LARGEST_INPUT < stored.len() {
-        return Written::Refused(Refusal::InputTooLong);
+        return Err(Refusal::InputTooLong);
     }
     let mut list = [0u8; COMPACT_LIST];
-    let read = compact_read::parse(record, &mut list);
-    match read {
-        CompactRead::Read(config, _, len) => put_stream(
-            config,
-            &list[..len],
-            stored,
-            tols,
-            codes,
-            out,
-        ),
-        CompactRead::Refused(e) => Written::Refused(e),
-    }
+    let read = compact_read::parse(record, &mut list)?;
+    let listed = &list[..read.list_length];
+    put_stream(read.config, listed, stored, tols, codes, out)
 }

@@ -8,12 +8,13 @@ use native.Mathlib.Omega.{arith}
 use lib.Dec.{eqb}
 use lib.ListN.{length, get_or}
 use borrow.Author.Tests.{ltb-true, lt-ltb, le-ltb, eqb-true, eqb-false, eq-eqb, ne_eqb, not-true}
+use Rattle.std.proofs.lemmas.Bool.{false_from_ne_true}
 use Rattle.parse.specs.Outcome.{accept}
 use Rattle.parse.proofs.General.{both_true}
 use Rattle.parse.proofs.Lent.{lent_within}
 use Rattle.start_code.specs.StartCode.{bytes_before}
 use Rattle.start_code.specs.Splittable.{Lacks, Splittable}
-use Rattle.start_code.proofs.FirstPlaces.{fails, before_le, before_first, before_none}
+use Rattle.start_code.proofs.FirstPlaces.{before_le, before_first, before_none}
 use Rattle.start_code.proofs.Splittable.{last_byte}
 use Rattle.unit_check.specs.UnitCheck.{ends_in_zero, starts_forbidden, unit_checked}
 use Rattle.unit_check.specs.PlainCheck.{Passes, CheckSays}
@@ -116,14 +117,14 @@ module _ (u : List ℕ) (p : Passes u) where
   pub passes_checked : unit_checked u ≡ true
   passes_checked =
       let s = p.splittable in
-      let whole = before_none starts_forbidden u (λ i h. fails _ (λ e. none i (forbidden_at u i e))) in
+      let whole = before_none starts_forbidden u (λ i h. false_from_ne_true _ (λ e. none i (forbidden_at u i e))) in
       checked_whole u s.some (ends_last u s.some ∙ ne_eqb (get_or u (length u - 1) 0) 0 (last_byte u s)) (omega arith)
 
 pub check_says : CheckSays
 check_says u h = record {
   yes = λ e. checked_passes u (let a = lent_within u (accept (unit_checked u)) h in cc);
   passes = λ p. lent_within u _ h ∙ ap accept (passes_checked u p);
-  no = λ n. lent_within u _ h ∙ ap accept (fails (unit_checked u) (λ e. n (checked_passes u e)));
+  no = λ n. lent_within u _ h ∙ ap accept (false_from_ne_true (unit_checked u) (λ e. n (checked_passes u e)));
 }
 
 -- a unit that passes can be split off a stream

@@ -9,6 +9,7 @@ pub fn first_place(u: &[u8]) -> usize
     ensures { result ≡ bytes_before starts_forbidden u.now }
 {
     let mut i: usize = 0;
+    // No `for`: the byte looked at says how far to step.
     let found = loop {
         if u.len() - i < 3 {
             break u.len();

@@ -7,6 +7,9 @@ use native.Mathlib.Omega.{arith}
 use native.Mathlib.Decide.{ℕ_discrete}
 use lib.ListN.{length, get_or, take, length-take}
 use borrow.Author.Tests.{le-leb, lt-leb, ne_eqb}
+use Rattle.std.specs.Prelude.{Option, Some, None, Result, Ok, Err}
+use Rattle.error.specs.Refusals.{number_of}
+use Rattle.error.specs.declared.Refusal.{Refusal}
 use Rattle.parse.specs.Outcome.{Outcome, accept, refuse, and_then}
 use Rattle.parse.specs.inner.Walk.{more}
 use Rattle.boxes.specs.Bytes.{chunk}
@@ -17,10 +20,6 @@ use Rattle.unit_list.specs.UnitList.{Array, length_width, unit_list, array_with,
 use Rattle.unit_list.specs.inner.Walk.{typed, typed_units, typed_list, typed_units_from, array_units_from, arrays_from, front}
 use Rattle.unit_list.specs.inner.Walk.{arrays_stepped, units_stepped, stepped, TwoOrFour, Fits, Entered, ArrayStepFits, UnitStepFits, StepFits}
 use Rattle.unit_list.specs.declared.ListCursor.{ListCursor}
-use Rattle.unit_list.specs.declared.ListStep.{ListStep}
-use Rattle.unit_list.specs.declared.ListStep.TheVariants as L
-use Rattle.unit_list.specs.declared.ArrayStep.{ArrayStep}
-use Rattle.unit_list.specs.declared.ArrayStep.TheVariants as A
 use Rattle.unit_list.proofs.Arrays.{two_to_four, run_nil}
 
 -- a version with lengths is 01 or 02, and they have two or four bytes
@@ -77,7 +76,7 @@ left_start s l w e h = left_arrays s (front w) refl ∙ rw (decode_arrays s l w 
 
 -- one array passed
 module _ (s : List ℕ) (c : ListCursor) (e : c.at ≡ c.end) where
-  pub left_entered : (b : ℕ) (d : ListCursor) → arrays_stepped s (A.Array b d) ≡ arrays_from s c → typed_units_from s d ≡ typed_units_from s c
+  pub left_entered : (b : ℕ) (d : ListCursor) → arrays_stepped s (Ok (Some (b, d))) ≡ arrays_from s c → typed_units_from s d ≡ typed_units_from s c
   unfolding typed_units_from typed_units
   left_entered b d f = go (array_units_from s d) (arrays_from s d) ∙ ap (λ (o : Outcome (List (Array Span))). and_then o (λ xs. accept (typed_units xs))) f
       ∙ sym (left_arrays s c e)
@@ -93,13 +92,13 @@ module _ (s : List ℕ) (c : ListCursor) (e : c.at ≡ c.end) where
   unfolding typed_units
   left_end f = sym (left_arrays s c e ∙ rw (← f))
 
-  pub left_malformed : refuse 21 ≡ arrays_from s c → refuse 21 ≡ typed_units_from s c
-  left_malformed f = sym (left_arrays s c e ∙ rw (← f))
+  pub left_malformed : (n : ℕ) → refuse n ≡ arrays_from s c → refuse n ≡ typed_units_from s c
+  left_malformed n f = sym (left_arrays s c e ∙ rw (← f))
 
 -- one unit passed, in an array that has units left
 module _ (s : List ℕ) (c : ListCursor) where
   left_unit : (a : Span) (d : ListCursor) → (d.end ≡ c.end) × (d.unit_type ≡ c.unit_type) × (d.width ≡ c.width)
-      → units_stepped s (L.Unit a d) ≡ array_units_from s c → stepped s (L.Unit a d) ≡ typed_units_from s c
+      → units_stepped s (Ok (Some (a, d))) ≡ array_units_from s c → stepped s (Ok (Some (a, d))) ≡ typed_units_from s c
   unfolding typed_units_from typed
   left_unit a d same f = rw (← f, ← same.0, ← same.1, ← same.2) (go (array_units_from s d) (arrays_from s d))
     where
@@ -111,17 +110,17 @@ module _ (s : List ℕ) (c : ListCursor) where
       go (accept us) (refuse m) = refl
       go (accept us) (accept xs) = refl
 
-  left_unread : refuse 21 ≡ array_units_from s c → refuse 21 ≡ typed_units_from s c
+  left_unread : (n : ℕ) → refuse n ≡ array_units_from s c → refuse n ≡ typed_units_from s c
   unfolding typed_units_from
-  left_unread f = rw (← f)
+  left_unread n f = rw (← f)
 
 -- the turns of a step from c, which has come to `here`: what is left is the same
 module _ (s : List ℕ) (c here : ListCursor)
     (inv : Fits s here × (typed_units_from s here ≡ typed_units_from s c) × (c.at ≤ here.at) × (here.width ≡ c.width)) where
-  module _ (e : here.at ≡ here.end) (r : ArrayStep) (f : (arrays_stepped s r ≡ arrays_from s here) × ArrayStepFits s here r) where
-    module _ (b : ℕ) (d : ListCursor) (g : r ≡ A.Array b d) where
-      entered : (arrays_stepped s (A.Array b d) ≡ arrays_from s here) × Entered TwoOrFour s here b d
-      entered = subst (λ (r : ArrayStep). (arrays_stepped s r ≡ arrays_from s here) × ArrayStepFits s here r) g f
+  module _ (e : here.at ≡ here.end) (r : Result (Option (ℕ × ListCursor)) Refusal) (f : (arrays_stepped s r ≡ arrays_from s here) × ArrayStepFits s here r) where
+    module _ (b : ℕ) (d : ListCursor) (g : r ≡ Ok (Some (b, d))) where
+      entered : (arrays_stepped s (Ok (Some (b, d))) ≡ arrays_from s here) × Entered TwoOrFour s here b d
+      entered = subst (λ (r : Result (Option (ℕ × ListCursor)) Refusal). (arrays_stepped s r ≡ arrays_from s here) × ArrayStepFits s here r) g f
 
       pub turn_entered : (length s - d.end < length s - here.end)
           × (Fits s d × (typed_units_from s d ≡ typed_units_from s c) × (c.at ≤ d.at) × (d.width ≡ c.width))
@@ -131,15 +130,15 @@ module _ (s : List ℕ) (c here : ListCursor)
             (h.fits, left_entered s here e b d entered.0 ∙ inv.1, omega (arith, inv.2, inv.0.before, h.first), h.same ∙ inv.3),
           )
 
-    pub turn_end : r ≡ A.End → accept [] ≡ typed_units_from s c
+    pub turn_end : r ≡ Ok None → accept [] ≡ typed_units_from s c
     turn_end g = left_end s here e (sym (ap (arrays_stepped s) g) ∙ f.0) ∙ inv.1
 
-    pub turn_malformed : r ≡ A.Malformed → refuse 21 ≡ typed_units_from s c
-    turn_malformed g = left_malformed s here e (sym (ap (arrays_stepped s) g) ∙ f.0) ∙ inv.1
+    pub turn_malformed : (n : Refusal) → r ≡ Err n → refuse (number_of n) ≡ typed_units_from s c
+    turn_malformed n g = left_malformed s here e (number_of n) (sym (ap (arrays_stepped s) g) ∙ f.0) ∙ inv.1
 
-  pub turn_unit : ((here.at ≡ here.end) → ⊥) → (r : ListStep) → (units_stepped s r ≡ array_units_from s here) × UnitStepFits s here r
+  pub turn_unit : ((here.at ≡ here.end) → ⊥) → (r : Result (Option (Span × ListCursor)) Refusal) → (units_stepped s r ≡ array_units_from s here) × UnitStepFits s here r
       → (stepped s r ≡ typed_units_from s c) × StepFits s c r
-  turn_unit h (L.Unit a d) f = (
+  turn_unit h (Ok (Some (a, d))) f = (
     left_unit s here a d (f.1.1, f.1.2, f.1.0.same) f.0 ∙ inv.1,
     record {
       start = omega (arith, f.1.0.start, inv.2, inv.3);
@@ -148,5 +147,5 @@ module _ (s : List ℕ) (c here : ListCursor)
       fits = f.1.0.fits;
     },
   )
-  turn_unit h L.End f = absurd (h f.1)
-  turn_unit h L.Malformed f = (left_unread s here f.0 ∙ inv.1, tt)
+  turn_unit h (Ok None) f = absurd (h f.1)
+  turn_unit h (Err n) f = (left_unread s here (number_of n) f.0 ∙ inv.1, tt)

@@ -7,6 +7,7 @@ use native.Mathlib.Omega.{arith}
 use native.Mathlib.Decide.{dec_le}
 use lib.ListN.{length, get_or, take}
 use lib.Seq.{take-length, length-take-le}
+use Rattle.std.specs.Prelude.{Some, Ok}
 use Rattle.parse.specs.Outcome.{accept, refuse}
 use Rattle.parse.specs.Parse.{value, refused}
 use Rattle.parse.specs.inner.Walk.{more}
@@ -17,7 +18,6 @@ use Rattle.boxes.proofs.ChunkBytes.{chunk_no_length, chunk_cut, chunk_whole}
 use Rattle.unit_list.specs.UnitList.{array, largest_type}
 use Rattle.unit_list.specs.inner.Walk.{array_units_from, arrays_from, arrays_stepped, FitsFor, Passed, Entered}
 use Rattle.unit_list.specs.declared.ListCursor.{ListCursor}
-use Rattle.unit_list.specs.declared.ArrayStep.TheVariants as A
 use Rattle.unit_list.proofs.Arrays.{IsRefused, run_nil, run_step, run_refused, array_no_chunk}
 use Rattle.unit_list.proofs.Arrays.{array_short, array_complete, array_type, arrays_step}
 
@@ -93,7 +93,7 @@ module _ (s : List ℕ) (c : ListCursor) where
         arrays_type h = arrays_refused (array_type c.width s c.end a read two one h)
 
         pub arrays_entered : {W : ℕ → Type 0} → FitsFor W s c → 1 ≤ c.width → get_or s (a.start + 1) 0 ≤ largest_type
-            → (arrays_stepped s (A.Array (get_or s a.start 0) first_unit) ≡ arrays_from s c) × Entered W s c (get_or s a.start 0) first_unit
+            → (arrays_stepped s (Ok (Some (get_or s a.start 0, first_unit))) ≡ arrays_from s c) × Entered W s c (get_or s a.start 0) first_unit
         arrays_entered fits some small =
             let b = chunk_read c.width s c.end a (a.start + a.len) read in (
               sym (arrays_step c.width s some c.end 21 left a read two one small),

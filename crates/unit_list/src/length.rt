@@ -10,7 +10,7 @@ fn two(s: &[u8], at: usize) -> usize
     requires { at + 2 ≤ length s.now }
     ensures { (result ≡ be s.now at 2) × (result < 2 ^ 16) }
 {
-    place::wide(s[at]) * 256 + place::wide(s[at + 1])
+    usize::from(s[at]) * 256 + usize::from(s[at + 1])
 }
 
 // The length of an array, from place `at` up to place `from`. It is computed without a test of the width: there are few arrays, and the test in

@@ -1,12 +1,12 @@
 // Internal to the calls that take or write a unit list (SCOPE 2): the walk over the units of a list, and the writing of one.
 #![tactic(auto)]
 
+ghost use Rattle.std.proofs.Props.{props};
+ghost use Rattle.unit_list.specs.inner.Walk.{Fits, two_or_four-prop};
+
 pub mod length;
 pub mod walk;
 pub mod write;
-
-use boxes::Span;
-use error::Refusal;
 
 // The largest type that an array may have.
 pub const LARGEST_TYPE: u8 = 63;
@@ -19,7 +19,7 @@ pub const ARRAY_HEAD: usize = 6;
 
 // Where a walk over a list is: from place `at` on come the units that are left of the array that ends at `end` and has type `unit_type`; from
 // `end` on come the next arrays. Lengths have `width` bytes.
-#[derive(Clone, Copy)]
+#[derive(Clone, Copy, Debug, PartialEq, Eq)]
 pub struct ListCursor {
     pub at: usize,
     pub end: usize,
@@ -27,25 +27,10 @@ pub struct ListCursor {
     pub width: usize,
 }
 
-// Where a walk over a list starts, or the refusal.
-#[derive(Clone, Copy)]
-pub enum ListStart {
-    At(ListCursor),
-    Refused(Refusal),
-}
-
-// One step of the walk: a unit and the cursor after it, which has the type of the unit's array; the end; or that the list is malformed.
-#[derive(Clone, Copy)]
-pub enum ListStep {
-    Unit(Span, ListCursor),
-    End,
-    Malformed,
-}
-
-// One step over whole arrays: the complete byte of an array and the cursor before its units; the end; or that the list is malformed.
-#[derive(Clone, Copy)]
-pub enum ArrayStep {
-    Array(u8, ListCursor),
-    End,
-    Malformed,
+// A walk over a list: the list, and where the walk is in it, which is inside it.
+#[derive(Clone, Copy, Debug, PartialEq, Eq)]
+pub struct ListWalk<'a> {
+    pub list: &'a [u8],
+    pub cursor: ListCursor,
+    pub ghost fits: { Fits list.now cursor } by { Prim.hlevel (two_or_four-prop, props) },
 }

@@ -1,4 +1,3 @@
 pub mod FirstPtl
-pub mod VpsFront
 pub mod Look
 pub mod Bounds

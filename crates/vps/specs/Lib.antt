@@ -1,3 +1,2 @@
 pub mod Vps
-pub mod Answers
 pub mod inner

@@ -4,29 +4,23 @@
 pub mod first_ptl;
 
 ghost use Rattle.std.specs.Prelude.{◌≡◌};
-ghost use Rattle.vps.specs.Answers.{vps_ptl_of, ptl_given};
+ghost use Rattle.parse.specs.Answers.{answer_of};
+ghost use Rattle.vps.specs.Vps.{vps_first_ptl};
 
 use error::{LARGEST_INPUT, Refusal};
 use nal::{NAL_VPS, header};
-use params::ParamsAnswer;
 use ptl::VvcPtlRecord;
 
-// Whether a PTL was read, and the PTL, all zeros on a refusal.
-#[derive(Clone, Copy)]
-pub struct PtlRead {
-    pub answer: ParamsAnswer,
-    pub ptl: VvcPtlRecord,
-}
-
 // Reads the first PTL of a VPS from its unit. Refusals: 23, 10, then in bit order 11, 15.
-pub fn vps_first_ptl(nal: &[u8]) -> PtlRead
-    ensures { vps_ptl_of result ≡ ptl_given nal.now }
+#[tactic(auto, using(params::proofs::Units::after_header), unfolding(crate::specs::Vps::vps_first_ptl))]
+pub fn vps_first_ptl(nal: &[u8]) -> Result<VvcPtlRecord, Refusal>
+    ensures { answer_of result ≡ vps_first_ptl nal.now }
 {
     if LARGEST_INPUT < nal.len() {
-        return first_ptl::no_ptl(Refusal::InputTooLong);
+        return Err(Refusal::InputTooLong);
     }
     if header::type_or_31(nal) != NAL_VPS {
-        return first_ptl::no_ptl(Refusal::WrongUnitType);
+        return Err(Refusal::WrongUnitType);
     }
     first_ptl::parse_payload(&nal[2..])
 }

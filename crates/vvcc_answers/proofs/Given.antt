@@ -2,7 +2,7 @@
 use Prim.Native.Nat.{ℕ}
 use mathlib.Core.Path.{◌≡◌, ap, ◌∙◌}
 use mathlib.Core.List.{List}
-use mathlib.Core.Option.{Option}
+use Rattle.std.specs.Prelude.{Option}
 use borrow.Author.Tests.{ne_eqb}
 use Rattle.parse.specs.Outcome.{Outcome, refuse, lent_output, counted}
 use Rattle.access_unit.specs.declared.StartCodes.{StartCodes}

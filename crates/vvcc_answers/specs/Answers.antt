@@ -1,9 +1,8 @@
 -- What the exported functions return to C: structs of numbers, made from the outcomes of the called functions. A refusal is its number and zeros;
 -- 0 is no refusal. Last, the operating point and the start codes that a caller's numbers ask for.
-use Rattle.std.specs.Prelude.{ℕ, Bool, true, false, List, eqb, if◌then◌else◌}
-use Rattle.std.proofs.Math.Option.{Option, none, some}
+use Rattle.std.specs.Prelude.{ℕ, Bool, true, false, List, eqb, if◌then◌else◌, Option, None, Some}
 use Rattle.parse.specs.Outcome.{Outcome, accept, refuse, lent_output, counted}
-use Rattle.split.specs.Answers.{Next}
+use Rattle.split.specs.declared.NextUnit.{NextUnit}
 use Rattle.full.specs.Read.{FullParsed}
 use Rattle.access_unit.specs.declared.StartCodes.{StartCodes}
 use Rattle.access_unit.specs.declared.StartCodes.TheVariants.{Four, Short}
@@ -27,9 +26,9 @@ read_answer (accept r) = record { refusal = 0; consumed = r.consumed }
 read_answer (refuse e) = record { refusal = e; consumed = 0 }
 
 -- where a unit lies, and the place to continue from
-abbrev pub unit_answer : Outcome (Option Next) → VvccUnit
-unit_answer (accept (some n)) = record { refusal = 0; found = 1; start = n.unit.start; len = n.unit.len; next = n.next }
-unit_answer (accept none) = record { refusal = 0; found = 0; start = 0; len = 0; next = 0 }
+abbrev pub unit_answer : Outcome (Option NextUnit) → VvccUnit
+unit_answer (accept (Some n)) = record { refusal = 0; found = 1; start = n.unit.start; len = n.unit.len; next = n.next }
+unit_answer (accept None) = record { refusal = 0; found = 0; start = 0; len = 0; next = 0 }
 unit_answer (refuse e) = record { refusal = e; found = 0; start = 0; len = 0; next = 0 }
 
 -- whether a unit passes the unit check
@@ -40,7 +39,7 @@ check_answer (refuse e) = record { refusal = e; passes = 0 }
 
 -- the operating point that a caller asks for: none if the first number is 0
 abbrev pub target_from : ℕ → ℕ → Option ℕ
-target_from has t = if eqb has 0 then none else some t
+target_from has t = if eqb has 0 then None else Some t
 
 -- the start codes that a caller asks for: four bytes throughout if the number is 0
 abbrev pub codes_from : ℕ → StartCodes

@@ -3,24 +3,22 @@
 use Prim.Native.Nat.{ℕ, ◌+◌, ◌-◌, ◌^◌, ◌≤◌, ◌<◌}
 use mathlib.Core.Path.{◌≡◌, refl, sym, ap, ◌∙◌}
 use mathlib.Core.List.{List}
-use mathlib.Core.Option.{Option}
 use native.Mathlib.Omega.{arith}
 use native.Mathlib.Decide.{dec_le}
 use lib.Dec.{leb}
 use lib.ListN.{length, take, drop, length-append}
 use lib.Seq.{take_at}
 use borrow.Author.Tests.{le-leb, lt-leb}
-use Rattle.std.specs.Prelude.{if◌then◌else◌}
-use Rattle.parse.specs.Outcome.{Outcome, accept, refuse, and_then, lent_output, counted, hands_back}
+use Rattle.std.specs.Prelude.{if◌then◌else◌, Option, Result, Ok, Err}
+use Rattle.error.specs.Refusals.{number_of}
+use Rattle.error.specs.declared.Refusal.{Refusal}
+use Rattle.parse.specs.Answers.{answer_of}
+use Rattle.parse.specs.Outcome.{Outcome, accept, refuse, and_then, lent_output, counted}
 use Rattle.parse.proofs.Lent.{lent_too_long, lent_within}
 use Rattle.parse.proofs.Output.{OutputAccepted, output_accepted}
-use Rattle.full.specs.Read.{FullParsed, parse_full, zero_head}
+use Rattle.full.specs.Read.{FullParsed, parse_full}
 use Rattle.full.specs.declared.VvcConfig.{VvcConfig}
 use Rattle.full.proofs.Parsed.{read_as}
-use Rattle.full_read.specs.Answers.{full_answer_of, full_of, full_given}
-use Rattle.full_read.specs.declared.FullAnswer.{FullAnswer}
-use Rattle.full_read.specs.declared.FullAnswer.TheVariants as A
-use Rattle.full_read.specs.declared.FullRead.{FullRead}
 use Rattle.access_unit.specs.AccessUnit.{assemble}
 use Rattle.access_unit.specs.declared.StartCodes.{StartCodes}
 use Rattle.vvcc_answers.specs.Answers.{written_answer, written_given}
@@ -55,10 +53,6 @@ onward_refused (refuse m) scratch f n e = let s : n ≡ m = cc in rw s
 
 -- ### the record read
 
-hands_first : {A B : Type 0} (f : A → B) (z : B) (o : Outcome A) → (hands_back f z o).0 ≡ o
-hands_first f z (accept a) = refl
-hands_first f z (refuse e) = refl
-
 module _ (codes : StartCodes) (rec item scratch : List ℕ) (tols : Option ℕ) where
   -- the item is too long
   stream_too_long : 2 ^ 30 < length item → stream_beside codes rec item tols scratch ≡ refuse 23
@@ -74,23 +68,23 @@ module _ (codes : StartCodes) (rec item scratch : List ℕ) (tols : Option ℕ) 
   too_long out r h f = (given_refused (stream_beside codes rec item tols scratch) out 23 r f (stream_too_long h), scratch_too_long h)
 
   -- what is known once the record was read into the scratch
-  pub record ReadInto (exit : List ℕ) (r : FullRead) : Type 0 where
+  pub record ReadInto (exit : List ℕ) (r : Result FullParsed Refusal) : Type 0 where
     pub filled : exit ≡ scratch_filled rec item scratch
-    pub refused : (n : ℕ) → full_answer_of r.answer r.head ≡ refuse n → stream_beside codes rec item tols scratch ≡ refuse n
-    pub fits : (q n : ℕ) → r.answer ≡ A.Read q n → n ≤ length exit
-    pub made : (q n : ℕ) → r.answer ≡ A.Read q n → stream_beside codes rec item tols scratch ≡ assemble codes r.head (take (n - 0) exit) item tols
+    pub refused : (n : Refusal) → r ≡ Err n → stream_beside codes rec item tols scratch ≡ refuse (number_of n)
+    pub fits : (x : FullParsed) → r ≡ Ok x → x.list_length ≤ length exit
+    pub made : (x : FullParsed) → r ≡ Ok x → stream_beside codes rec item tols scratch ≡ assemble codes x.head (take x.list_length exit) item tols
 
-  module _ (lent : length item ≤ 2 ^ 30) (exit : List ℕ) (r : FullRead) (gave : (full_of r, exit) ≡ full_given rec scratch) where
+  module _ (lent : length item ≤ 2 ^ 30) (exit : List ℕ) (r : Result FullParsed Refusal)
+      (gave : ◌≡◌ {A = Outcome FullParsed × List ℕ} (answer_of r, exit) (lent_output (parse_full rec) scratch)) where
     read_here : read_beside rec item ≡ parse_full rec
     unfolding read_beside
     read_here = lent_within item (parse_full rec) lent
 
-    answered : full_answer_of r.answer r.head ≡ (lent_output (parse_full rec) scratch).0
-    answered = ap (λ (y : (Outcome FullParsed × VvcConfig) × List ℕ). y.0.0) gave
-        ∙ hands_first (λ f. f.head) zero_head (lent_output (parse_full rec) scratch).0
+    said : answer_of r ≡ (lent_output (parse_full rec) scratch).0
+    said = ap (λ (y : Outcome FullParsed × List ℕ). y.0) gave
 
     left : exit ≡ (lent_output (parse_full rec) scratch).1
-    left = ap (λ (y : (Outcome FullParsed × VvcConfig) × List ℕ). y.1) gave
+    left = ap (λ (y : Outcome FullParsed × List ℕ). y.1) gave
 
     scratch_filled_lem : exit ≡ scratch_filled rec item scratch
     scratch_filled_lem = left ∙ ap (λ (o : Outcome (FullParsed × List ℕ)). (lent_output o scratch).1) (sym read_here)
@@ -99,31 +93,28 @@ module _ (codes : StartCodes) (rec item scratch : List ℕ) (tols : Option ℕ) 
     unfolding stream_beside
     stream_here = rw read_here
 
-    stream_refused : (n : ℕ) → full_answer_of r.answer r.head ≡ refuse n → stream_beside codes rec item tols scratch ≡ refuse n
-    stream_refused n e = stream_here ∙ onward_refused (parse_full rec) scratch _ n (sym e ∙ answered)
+    stream_refused : (n : Refusal) → r ≡ Err n → stream_beside codes rec item tols scratch ≡ refuse (number_of n)
+    stream_refused n e = stream_here ∙ onward_refused (parse_full rec) scratch _ (number_of n) (sym (ap answer_of e) ∙ said)
 
     -- the list is at the front of the scratch
-    module _ (q n : ℕ) (is : r.answer ≡ A.Read q n) where
-      abbrev parsed : FullParsed
-      parsed = record { head = r.head; consumed = q; list_length = n }
+    module _ (x : FullParsed) (is : r ≡ Ok x) where
+      into : OutputAccepted (parse_full rec) scratch exit x
+      into = output_accepted (parse_full rec) scratch exit x (sym (ap answer_of is) ∙ said) left
 
-      into : OutputAccepted (parse_full rec) scratch exit parsed
-      into = output_accepted (parse_full rec) scratch exit parsed (sym (ap (λ (x : FullAnswer). full_answer_of x r.head) is) ∙ answered) left
+      long : x.list_length ≡ length into.bytes
+      long = (read_as rec x into.bytes into.given).long
 
-      long : n ≡ length into.bytes
-      long = (read_as rec parsed into.bytes into.given).long
-
-      list_fits : n ≤ length exit
+      list_fits : x.list_length ≤ length exit
       list_fits =
           let l : length exit ≡ length into.bytes + length (drop (length into.bytes) scratch) =
           ap length into.holds ∙ length-append into.bytes (drop (length into.bytes) scratch) in
           omega (arith, long)
 
-      -- the part of the scratch from 0 to n
-      list_front : take (n - 0) exit ≡ into.bytes
-      list_front = ap (take (n - 0)) into.holds ∙ take_at into.bytes (drop (length into.bytes) scratch) (n - 0) (omega (arith, long))
+      -- the part of the scratch up to its length
+      list_front : take x.list_length exit ≡ into.bytes
+      list_front = ap (take x.list_length) into.holds ∙ take_at into.bytes (drop (length into.bytes) scratch) x.list_length (sym long)
 
-      stream_made : stream_beside codes rec item tols scratch ≡ assemble codes r.head (take (n - 0) exit) item tols
+      stream_made : stream_beside codes rec item tols scratch ≡ assemble codes x.head (take x.list_length exit) item tols
       stream_made = stream_here ∙ rw (into.given, le-leb _ _ into.fits, list_front)
 
     pub read_into : ReadInto exit r

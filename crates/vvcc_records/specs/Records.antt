@@ -1,6 +1,5 @@
 -- A full record that is read for a call for C: into the scratch, and for assembly with an item.
-use Rattle.std.specs.Prelude.{ℕ, List, leb, length, if◌then◌else◌}
-use Rattle.std.proofs.Math.Option.{Option}
+use Rattle.std.specs.Prelude.{ℕ, List, leb, length, if◌then◌else◌, Option}
 use Rattle.parse.specs.Outcome.{Outcome, refuse, lent_input, lent_output}
 use Rattle.parse.specs.Steps.{◌>>=◌}
 use Rattle.full.specs.Read.{FullParsed, parse_full}

@@ -10,7 +10,6 @@ ghost use Rattle.vvcc_records.specs.Records.{read_given, scratch_filled, stream_
 
 use access_unit_annex_b::access_unit_annex_b;
 use error::{LARGEST_INPUT, Refusal};
-use full_read::FullAnswer;
 use vvcc_answers::{VvccRead, VvccWritten, answers};
 
 // The stream of a full record and an item. The record's unit list is written to `scratch`. Refusals: 23, those of `full_read::parse`, 20 where
@@ -32,17 +31,14 @@ pub fn vvcc_access_unit(
     if LARGEST_INPUT < item.len() {
         return answers::refused(Refusal::InputTooLong);
     }
-    let read = full_read::parse(record, scratch);
-    let answer = read.answer;
-    let head = read.head;
-    match answer {
-        FullAnswer::Read(_, len) => {
+    match full_read::parse(record, scratch) {
+        Ok(read) => {
             let tols = answers::target_from(has_target, target);
             let codes = answers::codes_from(short_codes);
-            let written = access_unit_annex_b(head, &scratch[0..len], item, tols, codes, out);
-            answers::written(written)
+            let list = &scratch[..read.list_length];
+            answers::written(access_unit_annex_b(read.head, list, item, tols, codes, out))
         }
-        FullAnswer::Refused(e) => answers::refused(e),
+        Err(e) => answers::refused(e),
     }
 }
 
@@ -51,6 +47,5 @@ pub fn vvcc_access_unit(
 pub fn vvcc_strict_record(record: &[u8], scratch: &mut [u8]) -> VvccRead
     ensures { (result, scratch.new) ≡ read_given (parse_strict «record».now) scratch.old }
 {
-    let read = full_read::parse_strict(record, scratch);
-    numbers::consumed(read)
+    numbers::consumed(full_read::parse_strict(record, scratch))
 }

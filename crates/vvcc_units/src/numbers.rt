@@ -1,15 +1,12 @@
 // Internal: turns the answers of a walk and of the unit check into structs of numbers.
-ghost use Rattle.std.specs.Prelude.{◌≡◌};
-ghost use Rattle.std.proofs.Math.Option.{none, some};
+ghost use Rattle.std.specs.Prelude.{◌≡◌, None, Some};
 ghost use Rattle.error.specs.Refusals.{number_of};
+ghost use Rattle.parse.specs.Answers.{answer_of};
 ghost use Rattle.parse.specs.Outcome.{accept, refuse};
-ghost use Rattle.unit_check.specs.Answers.{check_of};
-ghost use Rattle.split.specs.Answers.{next_of};
 ghost use Rattle.vvcc_answers.specs.Answers.{unit_answer, check_answer};
 
 use error::{Refusal, number};
 use split::NextUnit;
-use unit_check::UnitCheck;
 use vvcc_answers::{VvccCheck, VvccUnit};
 
 // A refusal of a walk.
@@ -27,7 +24,7 @@ pub fn no_unit(e: Refusal) -> VvccUnit
 
 // The end of a walk.
 pub fn end() -> VvccUnit
-    ensures { result ≡ unit_answer (accept none) }
+    ensures { result ≡ unit_answer (accept None) }
 {
     VvccUnit {
         refusal: 0,
@@ -40,7 +37,7 @@ pub fn end() -> VvccUnit
 
 // A unit, and the place after it.
 pub fn unit(start: usize, len: usize, next: usize) -> VvccUnit
-    ensures { result ≡ unit_answer (accept (some (record { unit = record { start = start; len = len }; next = next }))) }
+    ensures { result ≡ unit_answer (accept (Some (record { unit = record { start = start; len = len }; next = next }))) }
 {
     VvccUnit {
         refusal: 0,
@@ -52,30 +49,26 @@ pub fn unit(start: usize, len: usize, next: usize) -> VvccUnit
 }
 
 // The next unit of a stream.
-pub fn next(n: NextUnit) -> VvccUnit
-    ensures { result ≡ unit_answer (next_of n) }
+pub fn next(n: Result<Option<NextUnit>, Refusal>) -> VvccUnit
+    ensures { result ≡ unit_answer (answer_of n) }
 {
     match n {
-        NextUnit::Unit(a, next) => unit(a.start, a.len, next),
-        NextUnit::End => end(),
-        NextUnit::Refused(e) => no_unit(e),
+        Ok(Some(step)) => unit(step.unit.start, step.unit.len, step.next),
+        Ok(None) => end(),
+        Err(e) => no_unit(e),
     }
 }
 
 // The answer of the unit check.
-pub fn check(c: UnitCheck) -> VvccCheck
-    ensures { result ≡ check_answer (check_of c) }
+pub fn check(c: Result<bool, Refusal>) -> VvccCheck
+    ensures { result ≡ check_answer (answer_of c) }
 {
     match c {
-        UnitCheck::Yes => VvccCheck {
+        Ok(passes) => VvccCheck {
             refusal: 0,
-            passes: 1,
+            passes: u32::from(passes),
         },
-        UnitCheck::No => VvccCheck {
-            refusal: 0,
-            passes: 0,
-        },
-        UnitCheck::Refused(e) => VvccCheck {
+        Err(e) => VvccCheck {
             refusal: number(e),
             passes: 0,
         },

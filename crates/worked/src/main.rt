@@ -1,9 +1,9 @@
 // The worked bytes of SCOPE 7 that are run: each line says which call is made and what it returns. The others are proved in `path`.
 #![tactic(auto)]
 
-use bit_reader::{BitsRead, FIRST_BIT};
+use bit_reader::{BitPosition, FIRST_BIT};
 use compact::CompactVvcConfig;
-use error::Written;
+use error::Refusal;
 use replay_text::text;
 
 // Writes a line to standard output.
@@ -15,18 +15,19 @@ fn show(rt: &impl Print, line: &mut [u8], end: usize) {
 // Puts a refusal's number.
 fn put_refused(line: &mut [u8], at: usize, n: u32) -> usize {
     let next = text::put_all(line, at, b" refused with");
-    text::put_number(line, next, n as u64)
+    text::put_number(line, next, u64::from(n))
 }
 
 // Puts the number of bytes that a call wrote and the bytes, or its refusal.
-fn put_written(line: &mut [u8], at: usize, r: Written, out: &[u8]) -> usize {
+fn put_written(line: &mut [u8], at: usize, r: Result<usize, Refusal>, out: &[u8]) -> usize {
     match r {
-        Written::Bytes(n) => {
+        Ok(n) => {
+            // `as`: u64 has no From of a usize; nothing is lost.
             let next = text::put_number(line, at, n as u64);
             let said = text::put_all(line, next, b" bytes ");
             text::put_digits(line, said, text::front(out, n))
         }
-        Written::Refused(e) => put_refused(line, at, error::number(e)),
+        Err(e) => put_refused(line, at, error::number(e)),
     }
 }
 
@@ -39,6 +40,7 @@ fn restore(rt: &impl Print, stored: &[u8]) {
     let mut out = [0u8; 300];
     let r = item_data::item_data(config, stored, &mut out);
     let mut line = [0u8; 700];
+    // `as`: u64 has no From of a usize; nothing is lost.
     let first = text::put_decimal(&mut line, 0, stored.len() as u64);
     let next = text::put_all(
         &mut line,
@@ -65,13 +67,14 @@ fn strip(rt: &impl Print, item: &[u8]) {
 }
 
 // Puts the value of an Exp-Golomb code and the number of its bits, or the refusal.
-fn put_code(line: &mut [u8], at: usize, r: BitsRead) -> usize {
+fn put_code(line: &mut [u8], at: usize, r: Result<(u32, BitPosition), Refusal>) -> usize {
     match r {
-        BitsRead::Value(v, p) => {
-            let next = text::put_number(line, at, v as u64);
+        Ok((v, p)) => {
+            let next = text::put_number(line, at, u64::from(v));
+            // `as`: u64 has no From of a usize; nothing is lost.
             text::put_number(line, next, p.0 as u64)
         }
-        BitsRead::Refused(e) => put_refused(line, at, error::number(e)),
+        Err(e) => put_refused(line, at, error::number(e)),
     }
 }
 

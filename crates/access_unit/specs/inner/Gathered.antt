@@ -1,6 +1,5 @@
 -- Internal: the kept units of an item; an access unit in order, and as a stream.
-use Rattle.std.specs.Prelude.{ℕ, ◌+◌, ◌-◌, ◌^◌, ◌≤◌, List, [], ◌∷◌, ◌++◌, map, eqb, length, if◌then◌else◌}
-use Rattle.std.proofs.Math.Option.{Option}
+use Rattle.std.specs.Prelude.{ℕ, ◌+◌, ◌-◌, ◌^◌, ◌≤◌, List, [], ◌∷◌, ◌++◌, map, eqb, length, if◌then◌else◌, Option}
 use Rattle.parse.specs.Outcome.{Outcome, accept, refuse, and_then, lent_input}
 use Rattle.parse.specs.Steps.{◌>>=◌}
 use Rattle.boxes.specs.Parts.{held}
@@ -12,7 +11,9 @@ use Rattle.annex_b.specs.Stream.{StartCode, code_bytes, annex_b}
 use Rattle.annex_b.specs.RoundTrip.{one_if_three, threes}
 unfoldable pub use Rattle.annex_b.specs.RoundTrip.{lengths}
 use Rattle.split.specs.inner.Walk.{item_units_from}
-use Rattle.access_unit.specs.AccessUnit.{leading, following, kept, Source, of_list, of_item, held_in, code_of_type, code_of}
+use Rattle.access_unit.specs.declared.Source.{Source}
+use Rattle.access_unit.specs.declared.Source.TheVariants.{OfList, OfItem}
+use Rattle.access_unit.specs.AccessUnit.{leading, following, kept, held_in, code_of_type, code_of}
 use Rattle.access_unit.specs.declared.StartCodes.{StartCodes}
 use Rattle.access_unit.specs.declared.StartCodes.TheVariants.{Short}
 
@@ -49,7 +50,7 @@ gather size target list item = lent_input item do
 
 -- the leading kept units, the units of the list, the other kept units
 unfoldable pub in_order : List ℕ → Gathered → List Source
-in_order item g = map of_item (leading item g.kept) ++ (map of_list g.units ++ map of_item (following item g.kept))
+in_order item g = map OfItem (leading item g.kept) ++ (map OfList g.units ++ map OfItem (following item g.kept))
 
 -- the units of an access unit in order. Refusals: 23, 21, 4, then in byte order 1 and 5, 19
 abbrev pub sources : ℕ → Option ℕ → List ℕ → List ℕ → Outcome (List Source)

@@ -1,6 +1,5 @@
 -- Internal: units found in a list or an item and stored as a stream.
-use Rattle.std.specs.Prelude.{ℕ, ◌+◌, ◌≤◌, ◌≡◌, List, length, take, drop}
-use Rattle.std.proofs.Math.Option.{Option}
+use Rattle.std.specs.Prelude.{ℕ, ◌+◌, ◌≤◌, ◌≡◌, List, length, take, drop, Option}
 use Rattle.std.proofs.lemmas.List.Edits.{sets}
 use Rattle.parse.specs.Outcome.{Outcome, accept, and_then}
 use Rattle.parse.specs.inner.Stores.{bytes_of}

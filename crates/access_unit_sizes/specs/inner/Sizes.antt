@@ -1,7 +1,5 @@
 -- Internal: an access unit measured: the sums over the list and the item, and the sizes that they make.
-use Rattle.std.specs.Prelude.{ℕ, ◌+◌, ◌*◌, ◌-◌, ◌^◌, ◌≤◌, ◌<◌, Bool, ◌&&◌, ◌||◌, List, map, eqb, ltb, length, if◌then◌else◌}
-use Rattle.std.proofs.Math.Option.{Option}
-use Rattle.error.specs.Refusals.{number_of}
+use Rattle.std.specs.Prelude.{ℕ, ◌+◌, ◌*◌, ◌-◌, ◌^◌, ◌≤◌, ◌<◌, Bool, ◌&&◌, ◌||◌, List, map, eqb, ltb, length, if◌then◌else◌, Option}
 use Rattle.parse.specs.Outcome.{Outcome, accept, refuse, and_then}
 use Rattle.boxes.specs.Parts.{held}
 use Rattle.boxes.specs.declared.Span.{Span}
@@ -11,11 +9,7 @@ use Rattle.access_unit.specs.inner.Gathered.{Gathered, zero_byte_of, gathered_un
 use Rattle.access_unit.specs.declared.StartCodes.{StartCodes}
 use Rattle.access_unit.specs.declared.StartCodes.TheVariants.{Four, Short}
 use Rattle.access_unit_sizes.specs.declared.sizes.UnitSum.{UnitSum}
-use Rattle.access_unit_sizes.specs.declared.sizes.Summed.{Summed}
-use Rattle.access_unit_sizes.specs.declared.sizes.Summed.TheVariants as S
 use Rattle.access_unit_sizes.specs.declared.sizes.Sizes.{Sizes}
-use Rattle.access_unit_sizes.specs.declared.sizes.SizesAnswer.{SizesAnswer}
-use Rattle.access_unit_sizes.specs.declared.sizes.SizesAnswer.TheVariants as M
 
 -- how many units lead when one is added: it leads if its kind may lead and all units before it lead
 abbrev pub lead_with : Bool → UnitSum → ℕ
@@ -64,11 +58,6 @@ item_sum item ks = sum_of item ks (length (leading item ks))
 abbrev pub list_sum : List ℕ → List Span → UnitSum
 list_sum list us = sum_of list us 0
 
--- the outcome that a sum means
-abbrev pub summed_of : Summed → Outcome UnitSum
-summed_of (S.Sum v) = accept v
-summed_of (S.Refused e) = refuse (number_of e)
-
 -- the sum over a lent list or item is small
 abbrev pub SmallSum : UnitSum → Type 0
 SmallSum v = (v.count + v.lengths ≤ 2 ^ 30) × (v.saved ≤ v.count) × (v.zero_byte ≤ 1)
@@ -109,8 +98,3 @@ both_sums codes v w =
 -- the sizes where the sum over the list is v. Refusals: 4, then in byte order 1 and 5, 19
 abbrev pub sizes_with : StartCodes → ℕ → Option ℕ → List ℕ → UnitSum → Outcome Sizes
 sizes_with codes size target item v = and_then (split_item size item) (λ split. both_sums codes v (item_sum item (kept item target split)))
-
--- the outcome that a measurement means
-abbrev pub sizes_answer_of : SizesAnswer → Outcome Sizes
-sizes_answer_of (M.Sized v) = accept v
-sizes_answer_of (M.Refused e) = refuse (number_of e)

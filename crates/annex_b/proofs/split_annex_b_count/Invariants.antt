@@ -8,8 +8,8 @@ use Rattle.annex_b.specs.Stream.{split_stream}
 use Rattle.annex_b.proofs.Streams.{stream_left}
 use Rattle.annex_b.proofs.split_annex_b_count.Given as goal
 
-abbrev pub invariant-loop-after : goal.invariant-loop-after
-invariant-loop-after l = (l.at ≤ length l.stream) × (l.n ≤ l.at) × (plus l.n (count_found (stream_left l.stream l.at)) ≡ count_found (split_stream l.stream))
+abbrev pub invariant-loop-step : goal.invariant-loop-step
+invariant-loop-step l = (l.at ≤ length l.stream) × (l.n ≤ l.at) × (plus l.n (count_found (stream_left l.stream l.at)) ≡ count_found (split_stream l.stream))
 
-abbrev pub decreases-loop-after : goal.decreases-loop-after
-decreases-loop-after l = length l.stream - l.at
+abbrev pub decreases-loop-step : goal.decreases-loop-step
+decreases-loop-step l = length l.stream - l.at

@@ -1,32 +1,21 @@
 -- Internal: what the answers of reads say.
-use Rattle.std.specs.Prelude.{ℕ}
+use Rattle.std.specs.Prelude.{ℕ, Result, Ok, Err}
 use Rattle.error.specs.Refusals.{number_of}
 use Rattle.error.specs.declared.Refusal.{Refusal}
-use Rattle.error.specs.declared.Refusal.TheVariants.{BitsRunOut}
-use Rattle.parse.specs.Parse.{Parsed, value, refused, bind}
-use Rattle.bit_reader.specs.declared.BitsRead.{BitsRead}
-use Rattle.bit_reader.specs.declared.BitsRead.TheVariants.{Value, Refused}
+use Rattle.parse.specs.Parse.{Parsed, value, refused}
+use Rattle.bit_reader.specs.declared.BitPosition.{BitPosition}
 
--- a number of bits and the bit position after it, or a refusal
-abbrev pub parsed : BitsRead → Parsed ℕ
-parsed (Value v q) = value v q.0
-parsed (Refused e) = refused (number_of e)
+-- what was read and the bit position after it, or a refusal
+abbrev pub parsed : {A : Type 0} → Result (A × BitPosition) Refusal → Parsed A
+parsed (Ok (a, q)) = value a q.0
+parsed (Err e) = refused (number_of e)
 
--- the refusal of a refused read; 11 for a value, which has none
-abbrev pub refusal_of : BitsRead → Refusal
-refusal_of (Value v q) = BitsRunOut
-refusal_of (Refused e) = e
+-- the bit position after what was passed over, or a refusal
+abbrev pub passed : Result BitPosition Refusal → Parsed (Unit {0})
+passed (Ok q) = value tt q.0
+passed (Err e) = refused (number_of e)
 
--- the number of a read; 0 for a refused one, which has none
-abbrev pub number_in : BitsRead → ℕ
-number_in (Value v q) = v
-number_in (Refused e) = 0
-
--- the position after a read; 0 for a refused one, which has none
-abbrev pub place_in : BitsRead → ℕ
-place_in (Value v q) = q.0
-place_in (Refused e) = 0
-
--- a section: its last read, and the value a that the section makes up; on a refusal nothing is said of a
-abbrev pub part_after : {A : Type 0} → BitsRead → A → Parsed A
-part_after r a = bind (parsed r) (λ _ q. value a q)
+-- an answer, and the bit position that the reader was left at
+abbrev pub read_to : {A : Type 0} → ℕ → Result A Refusal → Parsed A
+read_to q (Ok a) = value a q
+read_to q (Err e) = refused (number_of e)

@@ -1,6 +1,7 @@
 -- Internal: the units of a compact record measured and stored as a unit list.
-use Rattle.std.specs.Prelude.{ℕ, ◌+◌, ◌%◌, ◌^◌, ◌≤◌, ◌≡◌, List, [], map, length, get_or}
+use Rattle.std.specs.Prelude.{ℕ, ◌+◌, ◌%◌, ◌^◌, ◌≤◌, ◌≡◌, List, [], map, length, get_or, Result, Ok, Err}
 use Rattle.error.specs.Refusals.{number_of}
+use Rattle.error.specs.declared.Refusal.{Refusal}
 use Rattle.parse.specs.Outcome.{Outcome, accept, refuse}
 use Rattle.parse.specs.Parse.{value}
 use Rattle.boxes.specs.Parts.{held}
@@ -9,7 +10,6 @@ use Rattle.compact.specs.Compact.{one_array, parse_compact}
 use Rattle.compact.specs.inner.Units.{record_units}
 use Rattle.counted_units.specs.inner.Counted.{units_in_list}
 use Rattle.compact_read.specs.declared.record_units.RecordRoom.{RecordRoom}
-use Rattle.compact_read.specs.declared.record_units.RecordRoom.TheVariants as M
 
 -- a record that was measured: its units, the place after them, and the bytes that they take in a list
 pub record RoomRead (s : List ℕ) (count room : ℕ) : Type 0 where
@@ -24,9 +24,9 @@ pub record RoomRead (s : List ℕ) (count room : ℕ) : Type 0 where
   pub few : room ≤ 2 ^ 32
 
 -- what measuring a record says. Refusals: 23, 1, 7
-abbrev pub RoomSays : List ℕ → RecordRoom → Type 0
-RoomSays s (M.Room count room) = RoomRead s count room
-RoomSays s (M.Refused e) = parse_compact s ≡ refuse (number_of e)
+abbrev pub RoomSays : List ℕ → Result RecordRoom Refusal → Type 0
+RoomSays s (Ok m) = RoomRead s m.count m.room
+RoomSays s (Err e) = parse_compact s ≡ refuse (number_of e)
 
 -- the list of units that were found; empty on a refusal
 abbrev pub found_list : List ℕ → Outcome (List Span) → List ℕ

@@ -1,5 +1,6 @@
 -- Internal: the units of a list measured for a compact record, and the record of them.
-use Rattle.std.specs.Prelude.{ℕ, ◌+◌, ◌^◌, ◌≤◌, true, not, ◌&&◌, List, map, leb, length, if◌then◌else◌}
+use Rattle.std.specs.Prelude.{ℕ, ◌+◌, ◌^◌, ◌≤◌, true, not, ◌&&◌, List, map, leb, length, if◌then◌else◌, Result, Ok, Err}
+use Rattle.error.specs.declared.Refusal.{Refusal}
 use Rattle.parse.specs.Outcome.{Outcome, accept, refuse, and_then}
 use Rattle.boxes.specs.Parts.{held}
 use Rattle.boxes.specs.Bytes.{outside}
@@ -8,8 +9,6 @@ use Rattle.unit_list.specs.inner.Written.{unit_bytes}
 use Rattle.compact.specs.Compact.{all_at_most, compact_bytes}
 use Rattle.compact.specs.declared.CompactVvcConfig.{CompactVvcConfig}
 use Rattle.compact_write.specs.declared.list_units.RecordSum.{RecordSum}
-use Rattle.compact_write.specs.declared.list_units.ListSum.{ListSum}
-use Rattle.compact_write.specs.declared.list_units.ListSum.TheVariants as L
 
 -- a unit of len bytes added: count, bytes after a length of one byte, and whether every length fits one byte
 abbrev pub adding_unit : ℕ → RecordSum → RecordSum
@@ -28,15 +27,10 @@ summed s v o = and_then o (λ us. accept (adding_all s v us))
 abbrev pub no_units : RecordSum
 no_units = record { count = 0; room = 0; fits = true }
 
--- the outcome of a sum
-abbrev pub sum_of : ListSum → Outcome RecordSum
-sum_of (L.Sum v) = accept v
-sum_of L.Malformed = refuse 21
-
 -- the measured length is at most 2^32
-abbrev pub SumFits : ListSum → Type 0
-SumFits (L.Sum v) = v.room ≤ 2 ^ 32
-SumFits L.Malformed = Unit {0}
+abbrev pub SumFits : Result RecordSum Refusal → Type 0
+SumFits (Ok v) = v.room ≤ 2 ^ 32
+SumFits (Err e) = Unit {0}
 
 -- the length of the record of units with the sum v. Refusals: 4, 8, 9
 abbrev pub record_length : CompactVvcConfig → RecordSum → Outcome ℕ

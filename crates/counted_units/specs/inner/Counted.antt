@@ -1,13 +1,11 @@
 -- Internal: units or arrays that a record counts, as those of a unit list: the bytes that they take, and what is stored.
-use Rattle.std.specs.Prelude.{ℕ, ◌+◌, ◌*◌, ◌≤◌, ◌≡◌, List, length}
+use Rattle.std.specs.Prelude.{ℕ, ◌+◌, ◌*◌, ◌≤◌, ◌≡◌, List, length, Option, Some, None}
 use Rattle.std.proofs.lemmas.List.Edits.{sets}
 use Rattle.parse.specs.Parse.{Parsed, value, refused, outcome}
 use Rattle.parse.specs.inner.Stores.{bytes_of}
 use Rattle.boxes.specs.declared.Span.{Span}
 use Rattle.unit_list.specs.UnitList.{list_width}
 use Rattle.unit_list.specs.inner.Written.{unit_bytes}
-use Rattle.counted_units.specs.declared.ListRoom.{ListRoom}
-use Rattle.counted_units.specs.declared.ListRoom.TheVariants as M
 use Rattle.counted_units.specs.declared.Stored.{Stored}
 
 -- the bytes of units in a list that calls write
@@ -19,15 +17,10 @@ abbrev pub room_taken : {A : Type 0} → (List ℕ → A → List ℕ) → List 
 room_taken f s n (value a p) = value (n + length (f s a)) p
 room_taken f s n (refused e) = refused e
 
--- what a measurement means
-abbrev pub list_room_of : ListRoom → Parsed ℕ
-list_room_of (M.Room n p) = value n p
-list_room_of M.Short = refused 1
-
 -- what is measured lies in the record, and takes at most 6 bytes of the list for each byte of the record
-abbrev pub RoomFits : List ℕ → ℕ → ListRoom → Type 0
-RoomFits s p (M.Room room q) = (q ≤ length s) × (p * 6 + room ≤ q * 6)
-RoomFits s p M.Short = Unit {0}
+abbrev pub RoomFits : List ℕ → ℕ → Option (ℕ × ℕ) → Type 0
+RoomFits s p (Some (room, q)) = (q ≤ length s) × (p * 6 + room ≤ q * 6)
+RoomFits s p None = Unit {0}
 
 -- the bytes of what was read; empty on a refusal
 abbrev pub stored_bytes : {A : Type 0} → (List ℕ → A → List ℕ) → List ℕ → Parsed A → List ℕ

@@ -1,17 +1,7 @@
--- Internal: what filling and the questions share about entries.
-use Rattle.std.specs.Prelude.{ℕ, ◌≤◌, List, [], ◌∷◌}
-use Rattle.parse.specs.Outcome.{Outcome, accept, refuse}
+-- Internal: what filling and its laws share about entries.
+use Rattle.std.specs.Prelude.{◌≤◌, List, [], ◌∷◌}
 use Rattle.unit_list.specs.UnitList.{largest_type}
 use Rattle.directory.specs.declared.Entry.{Entry}
-
--- what stands past the end of a directory
-abbrev pub no_entry : Entry
-no_entry = record { unit_type = 0; offset = 0; len = 0 }
-
--- a count, 0 on a refusal
-abbrev pub number_in : Outcome ℕ → ℕ
-number_in (accept n) = n
-number_in (refuse e) = 0
 
 -- each entry has a type that has a total
 unfoldable pub TypesFit : List Entry → Type 0

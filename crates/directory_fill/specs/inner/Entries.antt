@@ -1,13 +1,13 @@
 -- Internal: the entries of a list as a walk comes to them.
-use Rattle.std.specs.Prelude.{ℕ, suc, ◌+◌, ◌≤◌, ◌<◌, ◌≡◌, List, [], ◌∷◌, map, length, get_or}
+use Rattle.std.specs.Prelude.{ℕ, suc, ◌+◌, ◌≤◌, ◌≡◌, List, [], map, length, get_or}
 use Rattle.parse.specs.Outcome.{Outcome, accept, refuse}
 use Rattle.unit_list.specs.UnitList.{largest_type}
-use Rattle.unit_list.specs.inner.Walk.{TypedUnit, Fits, typed_list, typed_units_from}
+use Rattle.unit_list.specs.inner.Walk.{TypedUnit, typed_list, typed_units_from}
 use Rattle.unit_list.specs.declared.ListCursor.{ListCursor}
-use Rattle.directory.specs.Directory.{entry_of, entries_of_type, table_from, totals_of}
+use Rattle.unit_list.specs.declared.ListWalk.{ListWalk}
+use Rattle.directory.specs.Directory.{entry_of, entries_of_type, table_from}
 use Rattle.directory.specs.inner.Entries.{TypesFit}
 use Rattle.directory.specs.declared.Entry.{Entry}
-use Rattle.directory_fill.specs.declared.entries.EntryStep.{EntryStep}
 
 abbrev pub entry_of_typed : TypedUnit → Entry
 entry_of_typed u = entry_of u.unit_type u.unit
@@ -24,33 +24,28 @@ entries_in s = entries_found (typed_list s)
 abbrev pub entries_from : List ℕ → ListCursor → List Entry
 entries_from s c = entries_found (typed_units_from s c)
 
--- c is a cursor before the entries of a list that has any
-abbrev pub FirstEntry : List ℕ → ListCursor → Type 0
-FirstEntry s c = 0 < length (entries_in s) → (entries_from s c ≡ entries_in s) × Fits s c
-
--- r is a step from a cursor: where entries follow it, the first of them, and a cursor before the others
-abbrev pub NextEntry : List ℕ → ListCursor → EntryStep → Type 0
-NextEntry s c r = (e : Entry) (es : List Entry) → entries_from s c ≡ e ∷ es → (r.entry ≡ e) × (entries_from s r.next ≡ es) × Fits s r.next
-
--- the units after a cursor read, and their types have totals; each total, which counts units before the cursor, is at most its place
-pub record Adds (s : List ℕ) (c : ListCursor) (totals : List ℕ) : Type 0 where
-  pub fits : Fits s c
+-- the units after a cursor read, and their types have totals
+pub record Reads (s : List ℕ) (c : ListCursor) : Type 0 where
   pub units : List TypedUnit
   pub reads : typed_units_from s c ≡ accept units
   pub types : TypesFit (map entry_of_typed units)
+
+-- so do totals to which these units are added; each total, which counts units before the cursor, is at most its place
+pub record Adds (s : List ℕ) (c : ListCursor) (totals : List ℕ) : Type 0 where
+  pub units : Reads s c
   pub all : length totals ≡ suc largest_type
   pub few : (t : ℕ) → get_or totals t 0 ≤ c.at
+
+-- the same of a walk: the entries of the units that are left, that these read, and that they can be added
+abbrev pub entries_left : ListWalk → List Entry
+entries_left w = entries_from w.list.now w.cursor
+
+abbrev pub LeftReads : ListWalk → Type 0
+LeftReads w = Reads w.list.now w.cursor
+
+abbrev pub LeftAdds : ListWalk → List ℕ → Type 0
+LeftAdds w totals = Adds w.list.now w.cursor totals
 
 -- totals to which entries were added
 unfoldable pub totals_plus : List ℕ → List Entry → List ℕ
 totals_plus totals es = table_from 0 (suc largest_type) (λ t. get_or totals t 0 + length (entries_of_type t es))
-
--- a count is that of a list that reads
-abbrev pub CountedOf : List ℕ → Outcome ℕ → Type 0
-CountedOf s (accept n) = (us : List TypedUnit) × (typed_list s ≡ accept us)
-CountedOf s (refuse e) = Unit {0}
-
--- the totals after a list was counted; as they were on a refusal
-abbrev pub totals_for : Outcome ℕ → List ℕ → List ℕ → List ℕ
-totals_for (accept n) s totals = totals_of (entries_in s)
-totals_for (refuse e) s totals = totals

@@ -2,32 +2,29 @@
 use Prim.Native.Nat.{ℕ}
 use mathlib.Core.Path.{sym, ap, ◌∙◌}
 use mathlib.Core.List.{List}
-use Rattle.parse.specs.Outcome.{Outcome}
-use Rattle.ptl.specs.Ptl.{zero_ptl}
-use Rattle.grouping.specs.inner.Units.{units_at}
+use Rattle.parse.specs.Answers.{answer_of}
+use Rattle.parse.specs.Outcome.{Outcome, lent_output}
+use Rattle.parse.proofs.PassedOn.{passed_on}
+use Rattle.grouping.specs.inner.TypedUnits.{units_of}
 use Rattle.full.specs.declared.VvcConfig.{VvcConfig}
-use Rattle.expand.specs.Expand.{FullHead}
-use Rattle.expand.specs.Answers.{expanded_given}
-use Rattle.expand.specs.inner.ParameterSets.{with_units, sets_ptl}
-use Rattle.expand.proofs.SetsRead.{read_value, read_refusal, sets_read, sets_refused}
+use Rattle.expand.specs.declared.Expanded.{Expanded}
+use Rattle.expand.specs.inner.ParameterSets.{with_units}
+use Rattle.expand.proofs.SetsRead.{sets_read, sets_refused}
 use Rattle.expand.proofs.Expansion.{expanded_refused}
 use Rattle.expand.proofs.expand_units.Goals as goal
 
-pub returns-in-Read : goal.returns-in-Read
-returns-in-Read c =
+pub returns-in_err-ptl : goal.returns-in_err-ptl
+returns-in_err-ptl c =
     let a = c.args in
-    let us = units_at a.list.now a.c in
-    let p = read_value zero_ptl c.sets_ptl-read.result.answer c.sets_ptl-read.result.ptl (sets_ptl a.config.multi_layer_flag us) c.sets_ptl-read.ensures
-    c.in-Read.is in
-    c.put_expanded.ensures
-    ∙ ap (λ (o : Outcome (FullHead × List ℕ)). expanded_given o a.out.now)
-    (ap (λ (h : VvcConfig). with_units h us) c.expanded_head-full_head.ensures ∙ sym (sets_read a.config a.picture us c.sets_ptl-read.result.ptl p))
+    rw (passed_on c.from_residual.result _ c.from_residual.ensures.1)
+    (expanded_refused _ a.out.now _
+    (sets_refused a.config a.picture (units_of a.units) _ (sym c.sets_ptl.ensures ∙ ap answer_of c.in_err-ptl.was)))
 
-pub returns-in-Refused : goal.returns-in-Refused
-returns-in-Refused c =
+pub returns : goal.returns
+returns c =
     let a = c.args in
-    let us = units_at a.list.now a.c in
-    let n = read_refusal zero_ptl c.sets_ptl-read.result.answer c.sets_ptl-read.result.ptl (sets_ptl a.config.multi_layer_flag us) c.sets_ptl-read.ensures _
-    c.in-Refused.is in
-    ap (λ (p : Outcome FullHead × VvcConfig). (p, a.out.now)) c.refused.ensures
-    ∙ expanded_refused _ a.out.now _ (sets_refused a.config a.picture us _ n)
+    let us = units_of a.units in
+    c.put_expanded.ensures
+    ∙ ap (λ (o : Outcome (Expanded × List ℕ)). lent_output o a.out.now)
+    (ap (λ (h : VvcConfig). with_units h us) c.expanded_head-head.ensures
+    ∙ sym (sets_read a.config a.picture us c.in_ok-ptl.ptl (sym c.sets_ptl.ensures ∙ ap answer_of c.in_ok-ptl.was)))

@@ -1,22 +1,26 @@
 -- `parse` returns what the definition says: 23, the refusals of the head, or the answer of the arrays with the head.
-use Rattle.record_arrays_read.proofs.Given.{given_too_long, given_headless, given_arrays}
-use Rattle.full.specs.Read.{zero_head}
+use native.Mathlib.Omega.{arith}
+use Rattle.parse.proofs.PassedOn.{passed_on}
+use Rattle.record_arrays_read.proofs.Given.{given_too_long, given_headless, given_refused_list, given_list}
 use Rattle.full_read.proofs.Given.{reads_record}
 use Rattle.full_read.proofs.parse.Goals as goal
 
 pub returns-then-record-gt-LARGEST_INPUT : goal.returns-then-record-gt-LARGEST_INPUT
 returns-then-record-gt-LARGEST_INPUT c =
-    let a = c.args in
-    given_too_long (reads_record a.«record».now) zero_head a.out.now c.if-record-gt-LARGEST_INPUT.true c.refused.ensures
+    given_too_long (reads_record c.args.«record».now) c.args.out.now (omega arith)
 
-pub returns-in-Read : goal.returns-in-Read
-returns-in-Read c =
-    let a = c.args in
-    given_arrays (reads_record a.«record».now) zero_head a.out.now c.if-record-gt-LARGEST_INPUT.false c.read_head-read.ensures c.in-Read.is
-    c.read_list.ensures c.with_head.ensures
+pub returns-in_err-head : goal.returns-in_err-head
+returns-in_err-head c =
+    rw (passed_on c.from_residual.result _ c.from_residual.ensures.1)
+    (given_headless (reads_record c.args.«record».now) c.args.out.now (omega arith) c.read_head.ensures c.in_err-head.was)
 
-pub returns-in-Refused : goal.returns-in-Refused
-returns-in-Refused c =
-    let a = c.args in
-    given_headless (reads_record a.«record».now) zero_head a.out.now c.if-record-gt-LARGEST_INPUT.false c.read_head-read.ensures
-    c.in-Refused.is c.refused-in-Refused.ensures
+pub returns-in_err-consumed : goal.returns-in_err-consumed
+returns-in_err-consumed c =
+    rw (passed_on c.from_residual-in_err-consumed.result _ c.from_residual-in_err-consumed.ensures.1)
+    (given_refused_list (reads_record c.args.«record».now) c.args.out.now (omega arith) c.read_head.ensures c.in_ok-head.was c.read_list.ensures
+    c.in_err-consumed.was)
+
+pub returns : goal.returns
+returns c =
+    given_list (reads_record c.args.«record».now) c.args.out.now (omega arith) c.read_head.ensures c.in_ok-head.was c.read_list.ensures
+    c.in_ok-consumed.was

@@ -1,4 +1,5 @@
 -- `serialize` stores what follows the head, then the head; a refusal leaves the output unchanged.
+use Rattle.parse.proofs.PassedOn.{passed_on}
 use Rattle.record_arrays.specs.declared.Codec.TheVariants.{Vvc}
 use Rattle.record_arrays_write.proofs.Records.{put_refused, put_stored}
 use Rattle.full.specs.Write.{head_bytes, head_fits, serialize_full}
@@ -13,22 +14,23 @@ put_head-requires c =
     let h = a.head in
     let s = a.list.now in
     let t = put_stored Vvc s c.head_size-size.result a.out.now _ _ c.put_after_head.ensures (head_written h) (serialize_full h s)
-    c.head_size-size.ensures.0 (serialize_record h s) (head_fits h) (head_bytes h) (head_given h) _ c.in-Bytes.is in
+    c.head_size-size.ensures.0 (serialize_record h s) (head_fits h) (head_bytes h) (head_given h) _ c.in_ok-len.was in
     (t.0, t.1)
 
-pub returns-in-Bytes : goal.returns-in-Bytes
-returns-in-Bytes c =
+pub returns : goal.returns
+returns c =
     let a = c.args in
     let h = a.head in
     let s = a.list.now in
     let t = put_stored Vvc s c.head_size-size.result a.out.now _ _ c.put_after_head.ensures (head_written h) (serialize_full h s)
-    c.head_size-size.ensures.0 (serialize_record h s) (head_fits h) (head_bytes h) (head_given h) _ c.in-Bytes.is in
+    c.head_size-size.ensures.0 (serialize_record h s) (head_fits h) (head_bytes h) (head_given h) _ c.in_ok-len.was in
     rw c.put_head.ensures t.2
 
-pub returns-in-Refused : goal.returns-in-Refused
-returns-in-Refused c =
+pub returns-in_err-len : goal.returns-in_err-len
+returns-in_err-len c =
     let a = c.args in
     let h = a.head in
     let s = a.list.now in
-    put_refused Vvc s c.head_size-size.result a.out.now _ _ c.put_after_head.ensures (head_written h) (serialize_full h s)
-    c.head_size-size.ensures.0 (serialize_record h s) c.in-Refused.e c.in-Refused.is
+    rw (passed_on c.from_residual.result _ c.from_residual.ensures.1)
+    (put_refused Vvc s c.head_size-size.result a.out.now _ _ c.put_after_head.ensures (head_written h) (serialize_full h s)
+    c.head_size-size.ensures.0 (serialize_record h s) _ c.in_err-len.was)

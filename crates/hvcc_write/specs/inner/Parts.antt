@@ -1,23 +1,13 @@
--- Internal: the head of an HEVC record, and parts of it and of its test; proofs/Heads.antt ties them to `hevc_head_bytes` and `hevc_head_fits`.
-use Rattle.std.specs.Prelude.{ℕ, ◌+◌, Bool, ◌&&◌, not, List, [], ◌∷◌, ◌++◌, leb, if◌then◌else◌}
+-- Internal: the head of an HEVC record, and parts of it; proofs/Heads.antt ties them to `hevc_head_bytes`.
+use Rattle.std.specs.Prelude.{ℕ, ◌+◌, List, [], ◌∷◌, ◌++◌, if◌then◌else◌}
 use Rattle.parse.specs.Outcome.{Outcome, accept, refuse}
-use Rattle.boxes.specs.Bytes.{to_be, outside}
+use Rattle.boxes.specs.Bytes.{to_be}
 use Rattle.hvcc.specs.Write.{profile_byte, hevc_head_bytes, hevc_head_fits}
 use Rattle.hvcc.specs.declared.HevcConfig.{HevcConfig}
 
 -- the bytes of a head. Refusal: 22
 abbrev pub head_written : HevcConfig → Outcome (List ℕ)
 head_written h = if hevc_head_fits h then accept (hevc_head_bytes h) else refuse 22
-
--- the fields of the last byte fit it
-abbrev pub layers_fit : HevcConfig → Bool
-layers_fit h = leb h.constant_frame_rate 3 && (leb h.num_temporal_layers 7 && not (outside h.length_size))
-
--- the fields from parallelism_type on fit theirs
-abbrev pub formats_fit : HevcConfig → Bool
-formats_fit h =
-    leb h.parallelism_type 3 && (leb h.chroma_format_idc 3
-    && (leb h.bit_depth_luma_minus8 7 && (leb h.bit_depth_chroma_minus8 7 && layers_fit h)))
 
 -- the bytes up to general_level_idc
 abbrev pub profile_part : HevcConfig → List ℕ

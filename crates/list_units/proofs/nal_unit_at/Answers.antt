@@ -2,13 +2,16 @@
 use mathlib.Core.Path.{ap, ◌∙◌}
 use mathlib.Core.List.{List}
 use Rattle.parse.specs.Outcome.{Outcome}
-use Rattle.boxes.specs.Places.{in_first, place_found}
+use Rattle.boxes.specs.Places.{nth_found}
 use Rattle.boxes.specs.declared.Span.{Span}
+use Rattle.list_units.specs.inner.Find.{wanted_list}
+use Rattle.list_units.specs.declared.Wanted.TheVariants.{Every}
+use Rattle.list_units.proofs.Seen.{found_unit}
 use Rattle.list_units.proofs.WantedUnits.{list_every}
 use Rattle.list_units.proofs.nal_unit_at.Goals as goal
 
 pub returns : goal.returns
 returns c =
     let a = c.args in
-    let u = c.unit_at.ensures in
-    (u.0 ∙ ap (λ (o : Outcome (List Span)). place_found in_first o a.k) (list_every a.list.now), u.1)
+    let f = found_unit a.list.now (wanted_list Every a.list.now) a.k c.in_ok-seen.seen c.find.result c.find.ensures c.in_ok-seen.was in
+    (f.0 ∙ ap (λ (o : Outcome (List Span)). nth_found o a.k) (list_every a.list.now), f.1)

@@ -1,11 +1,11 @@
 -- Internal: what a walk over the wanted units of a list counts and finds.
-use Rattle.std.specs.Prelude.{ℕ, ◌+◌, ◌≤◌, ◌≡◌, Bool, true, List, [], ◌∷◌, eqb, length, if◌then◌else◌}
-use Rattle.parse.specs.Outcome.{Outcome, accept, and_then}
-use Rattle.parse.specs.Answers.{count_of}
-use Rattle.boxes.specs.Walk.{count_found, found}
+use Rattle.std.specs.Prelude.{ℕ, ◌+◌, ◌≡◌, Bool, true, List, [], ◌∷◌, eqb, length, if◌then◌else◌, Some, Result, Ok, Err}
+use Rattle.error.specs.Refusals.{number_of}
+use Rattle.error.specs.declared.Refusal.{Refusal}
+use Rattle.parse.specs.Outcome.{Outcome, accept, refuse, and_then}
+use Rattle.boxes.specs.Places.{nth, PlaceFits}
 use Rattle.boxes.specs.declared.Span.{Span}
 use Rattle.unit_list.specs.inner.Walk.{TypedUnit, typed_list}
-use Rattle.list_units.specs.declared.Found.{Found}
 use Rattle.list_units.specs.declared.Wanted.{Wanted}
 use Rattle.list_units.specs.declared.Wanted.TheVariants.{Every, OfType}
 use Rattle.list_units.specs.declared.find.Seen.{Seen}
@@ -27,13 +27,18 @@ wanted_of w o = and_then o (λ xs. accept (wanted_units w xs))
 abbrev pub wanted_list : Wanted → List ℕ → Outcome (List Span)
 wanted_list w s = wanted_of w (typed_list s)
 
--- r has the number of units found and the span of number k, which is inside s
-pub record Finds (s : List ℕ) (o : Outcome (List Span)) (k : ℕ) (r : Found) : Type 0 where
-  pub count : count_of r.counted ≡ count_found o
-  pub unit : r.unit ≡ found o k
-  pub inside : r.unit.start + r.unit.len ≤ length s
+-- v has how many units are found in s and where number k lies, if there is one, which is inside s
+pub record Found (s : List ℕ) (us : List Span) (k : ℕ) (v : Seen) : Type 0 where
+  pub count : v.count ≡ length us
+  pub unit : v.unit ≡ nth us k
+  pub inside : PlaceFits s (Ok v.unit)
+
+-- what a walk answers whose units are those of o
+abbrev pub Finds : List ℕ → Outcome (List Span) → ℕ → Result Seen Refusal → Type 0
+Finds s o k (Ok v) = (us : List Span) × (accept us ≡ o) × Found s us k v
+Finds s o k (Err e) = refuse (number_of e) ≡ o
 
 -- one more unit counted, if it is wanted; number k is kept
 abbrev pub seeing : Wanted → ℕ → ℕ → Span → Seen → Seen
 seeing w k t a v =
-    if wants w t then record { count = v.count + 1; unit = if eqb v.count k then a else v.unit } else v
+    if wants w t then record { count = v.count + 1; unit = if eqb v.count k then Some a else v.unit } else v

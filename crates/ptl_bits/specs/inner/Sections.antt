@@ -1,6 +1,6 @@
 -- Internal: profile_tier_level( 1, s ) in the sections that the code reads one by one; `sections`
 -- (proofs/Whole.antt) ties them to `profile_tier_level`.
-use Rattle.std.specs.Prelude.{false, ℕ, ltb, length, if◌then◌else◌}
+use Rattle.std.specs.Prelude.{false, List, ℕ, ltb, length, if◌then◌else◌}
 use Rattle.parse.specs.Parse.{Parser, ◌>>=◌, ◌>>◌, give, here, times}
 use Rattle.bit_reader.specs.Bits.{u, is_set}
 use Rattle.ptl.specs.Ptl.{padded, present_flags, levels, general_constraints_info, constraint_bytes}
@@ -33,12 +33,24 @@ constraints = do
     general_constraint_info = padded 63 0 constraint;
   })
 
+-- the levels as an array
+abbrev pub level_array : Parser ℕ → ℕ → ℕ → Parser (List ℕ)
+level_array L m flags = do
+  idcs ← levels L m flags
+  give (padded 7 0 idcs)
+
 -- the present flags and the levels
 unfoldable pub sublayers : ℕ → Parser Sublayers
 sublayers s = do
   flags ← if ltb 0 s then u 8 else give 0
   idcs ← levels (u 8) s flags
   give (record { sublayer_level_present_flag = padded 7 false (present_flags s flags); sublayer_level_idc = padded 7 0 idcs })
+
+-- n values as an array
+abbrev pub value_array : Parser ℕ → ℕ → Parser (List ℕ)
+value_array P n = do
+  values ← times n P
+  give (padded 255 0 values)
 
 -- the count of sub-profiles, and the sub-profiles
 unfoldable pub sub_profiles : Parser SubProfiles

@@ -1,6 +1,5 @@
 -- Internal: the arrays of a full record read into a unit list: their heads, and their bytes in a list.
-use Rattle.std.specs.Prelude.{ℕ, ◌+◌, ◌/◌, ◌≤◌, List, length, if◌then◌else◌}
-use Rattle.error.specs.Refusals.{number_of}
+use Rattle.std.specs.Prelude.{ℕ, ◌+◌, ◌/◌, ◌≤◌, List, length, if◌then◌else◌, Option, Some, None}
 use Rattle.parse.specs.Outcome.{Outcome, accept, refuse}
 use Rattle.parse.specs.Parse.{Parsed, value, refused, Parser, ◌>>=◌, give, times}
 use Rattle.boxes.specs.Bytes.{uint}
@@ -9,10 +8,6 @@ use Rattle.unit_list.specs.UnitList.{Array, list_width, held_array, held_arrays,
 use Rattle.record_arrays.specs.Read.{reserved_in, type_in, holds_one, record_array}
 use Rattle.record_arrays.specs.declared.Codec.{Codec}
 use Rattle.record_arrays_read.specs.declared.ArrayHead.{ArrayHead}
-use Rattle.record_arrays_read.specs.declared.ArrayHeadRead.{ArrayHeadRead}
-use Rattle.record_arrays_read.specs.declared.ArrayHeadRead.TheVariants as A
-use Rattle.record_arrays_read.specs.declared.ListRead.{ListRead}
-use Rattle.record_arrays_read.specs.declared.ListRead.TheVariants as L
 
 -- num_of_arrays and the arrays
 unfoldable pub counted_arrays : Codec → Parser (List (Array Span))
@@ -25,11 +20,6 @@ abbrev pub list_given : List ℕ → Parsed (List (Array Span)) → Outcome ((�
 list_given s (value xs p) = accept ((p, length (encode (held_arrays s xs))), encode (held_arrays s xs))
 list_given s (refused e) = refuse e
 
--- the outcome that the answer means
-abbrev pub list_of : ListRead → Outcome (ℕ × ℕ)
-list_of (L.Read consumed len) = accept (consumed, len)
-list_of (L.Refused e) = refuse (number_of e)
-
 -- what comes before the units of an array: array_completeness, the reserved bit, NAL_unit_type and the count of units; `array_split`
 -- (proofs/RecordArrays.antt) ties it to `record_array`
 unfoldable pub array_head : Codec → Parser ArrayHead
@@ -38,15 +28,10 @@ array_head k = do
   n ← if holds_one k (type_in k b) then give 1 else uint 2
   give (record { complete = b / 128; reserved_bit = reserved_in k b; unit_type = type_in k b; count = n })
 
--- what reading that returns
-abbrev pub array_head_of : ArrayHeadRead → Parsed ArrayHead
-array_head_of (A.Head h q) = value h q
-array_head_of A.Short = refused 1
-
 -- the units of an array start after its head, and the head lies in the record; complete and the reserved bit are bits
-abbrev pub ArrayHeadFits : List ℕ → ℕ → ArrayHeadRead → Type 0
-ArrayHeadFits s p (A.Head h q) = (p + 1 ≤ q) × (q ≤ length s) × (h.complete ≤ 1) × (h.reserved_bit ≤ 1)
-ArrayHeadFits s p A.Short = Unit {0}
+abbrev pub ArrayHeadFits : List ℕ → ℕ → Option (ArrayHead × ℕ) → Type 0
+ArrayHeadFits s p (Some (h, q)) = (p + 1 ≤ q) × (q ≤ length s) × (h.complete ≤ 1) × (h.reserved_bit ≤ 1)
+ArrayHeadFits s p None = Unit {0}
 
 -- the bytes of an array in a list that calls write, and of arrays
 abbrev pub array_in_list : List ℕ → Array Span → List ℕ

@@ -1,16 +1,11 @@
 -- Internal: what the tests of the two rules return.
-use Rattle.std.specs.Prelude.{ℕ, ◌≤◌, Bool, ◌&&◌, List}
-use Rattle.error.specs.Refusals.{number_of}
+use Rattle.std.specs.Prelude.{ℕ, ◌≤◌, Bool, ◌&&◌, List, Option, Some, None}
 use Rattle.parse.specs.Outcome.{Outcome, accept, refuse, and_then}
 use Rattle.parse.specs.Parse.{Parser, ◌>>=◌, times}
 use Rattle.boxes.specs.Bytes.{uint}
 use Rattle.full.specs.Rules.{array_reserved, array_typed, array_byte, all, reserved_kept, types_kept}
 use Rattle.full.specs.Strict.{holds_or}
 use Rattle.full.specs.declared.VvcConfig.{VvcConfig}
-use Rattle.record_rules.specs.declared.ArrayRules.{ArrayRules}
-use Rattle.record_rules.specs.declared.ArrayRules.TheVariants as A
-use Rattle.record_rules.specs.declared.RulesTest.{RulesTest}
-use Rattle.record_rules.specs.declared.RulesTest.TheVariants as R
 
 -- a head whose level-flag byte can be found: its counts are those that a field of a record holds
 pub record SmallHead (h : VvcConfig) : Type 0 where
@@ -28,17 +23,12 @@ abbrev pub tested : Bool → Bool → Outcome (List ℕ) → Outcome (Bool × Bo
 tested a b (accept bs) = accept (a && all array_reserved bs, b && all array_typed bs)
 tested a b (refuse e) = refuse e
 
--- what the answer means
-abbrev pub array_rules_of : ArrayRules → Outcome (Bool × Bool)
-array_rules_of (A.Tested a b) = accept (a, b)
-array_rules_of A.Short = refuse 1
+-- both tests; none where an array runs past the end, whose refusal is 1
+abbrev pub array_rules_of : Option (Bool × Bool) → Outcome (Bool × Bool)
+array_rules_of (Some tests) = accept tests
+array_rules_of None = refuse 1
 
 -- both rules in their order, on a record s with the head h and the bytes that its arrays begin with; none is broken where these do not read
 abbrev pub rules_kept : List ℕ → VvcConfig → Outcome (List ℕ) → Outcome (Unit {0})
 rules_kept s h (accept bs) = and_then (holds_or 25 (reserved_kept s h bs)) (λ _. holds_or 26 (types_kept bs))
 rules_kept s h (refuse e) = accept tt
-
--- what the answer means
-abbrev pub rules_of : RulesTest → Outcome (Unit {0})
-rules_of R.Kept = accept tt
-rules_of (R.Broken e) = refuse (number_of e)

@@ -25,7 +25,6 @@ returns-then-item-from c =
 pub returns : goal.returns
 returns c =
     let a = c.args in
-    let w : c.wide.result ≡ a.length_size = c.wide.ensures.0 in
+    let w : c.from.result ≡ a.length_size = c.from.ensures in
     c.item_step.ensures ∙ ap (λ (n : ℕ). item_step n a.item.now a.from) w
-    ∙ sym (next_step a.length_size a.item.now a.from (omega arith)
-    (sym c.outside.ensures ∙ c.if-outside.false))
+    ∙ sym (next_step a.length_size a.item.now a.from (omega arith) (sym c.outside.ensures ∙ c.if-outside.false))

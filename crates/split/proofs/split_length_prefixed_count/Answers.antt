@@ -20,10 +20,7 @@ returns-then-outside c =
 
 pub returns : goal.returns
 returns c =
-    let inside : (1 ≤ c.args.length_size) × (c.args.length_size ≤ 4) =
-    size_inside _ (sym c.outside.ensures ∙ c.if-outside.false) in
     let a = c.args in
-    let z = inside in
-    let w : c.wide.result ≡ a.length_size = c.wide.ensures.0 in
-    rw (split_lent a.length_size a.item.now (omega arith), items_left a.length_size a.item.now z.0 z.1, ← w)
-    c.item_count.ensures
+    let z : (1 ≤ a.length_size) × (a.length_size ≤ 4) = size_inside _ (sym c.outside.ensures ∙ c.if-outside.false) in
+    let w : c.from.result ≡ a.length_size = c.from.ensures in
+    rw (split_lent a.length_size a.item.now (omega arith), items_left a.length_size a.item.now z.0 z.1, ← w) c.item_count.ensures

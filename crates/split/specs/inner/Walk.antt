@@ -1,12 +1,12 @@
 -- Internal: walks over the units of an item or a stream.
-use Rattle.std.specs.Prelude.{ℕ, ◌+◌, ◌≤◌, ◌<◌, ◌≡◌, List, length}
+use Rattle.std.specs.Prelude.{ℕ, ◌+◌, ◌≤◌, ◌<◌, ◌≡◌, List, length, Option, Some, None, Result, Ok, Err}
+use Rattle.error.specs.declared.Refusal.{Refusal}
 use Rattle.parse.specs.Outcome.{Outcome, accept}
 use Rattle.parse.specs.Parse.{many, outcome}
 use Rattle.boxes.specs.Walk.{count_found}
 use Rattle.boxes.specs.declared.Span.{Span}
 use Rattle.split.specs.Item.{item_unit}
 use Rattle.split.specs.declared.NextUnit.{NextUnit}
-use Rattle.split.specs.declared.NextUnit.TheVariants as N
 
 -- the units of an item from a place on
 unfoldable pub item_units_from : ℕ → List ℕ → ℕ → Outcome (List Span)
@@ -20,10 +20,10 @@ pub record UnitAhead (s : List ℕ) (p : ℕ) (a : Span) (next : ℕ) : Type 0 w
   pub inside : next ≤ length s
 
 -- this holds of a step that found a unit
-abbrev pub Onward : List ℕ → ℕ → NextUnit → Type 0
-Onward item p (N.Unit a next) = UnitAhead item p a next
-Onward item p N.End = Unit {0}
-Onward item p (N.Refused e) = Unit {0}
+abbrev pub Onward : List ℕ → ℕ → Result (Option NextUnit) Refusal → Type 0
+Onward item p (Ok (Some m)) = UnitAhead item p m.unit m.next
+Onward item p (Ok None) = Unit {0}
+Onward item p (Err e) = Unit {0}
 
 -- there is a unit number k
 pub record HasUnit (o : Outcome (List Span)) (k : ℕ) : Type 0 where

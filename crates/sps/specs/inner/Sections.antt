@@ -5,7 +5,7 @@ use Rattle.parse.specs.Parse.{Parser, ◌>>=◌, ◌>>◌, give, refuse_if}
 use Rattle.bit_reader.specs.Bits.{u, is_set, ue}
 use Rattle.ptl.specs.Ptl.{profile_tier_level, zero_ptl}
 use Rattle.ptl.specs.declared.VvcPtlRecord.{VvcPtlRecord}
-use Rattle.sps.specs.Sps.{Window, window, no_window}
+use Rattle.sps.specs.Sps.{window, no_window}
 use Rattle.sps.specs.declared.SpsHead.{SpsHead}
 use Rattle.sps.specs.declared.sections.SpsIds.{SpsIds}
 use Rattle.sps.specs.declared.sections.SpsSize.{SpsSize}
@@ -45,12 +45,8 @@ size = do
   give (record { pic_width = width; pic_height = height; conformance_window_flag = is_set has_window })
 
 -- the window where the flag is set, all zeros where not
-abbrev pub window_where : Bool → Parser Window
+abbrev pub window_where : Bool → Parser ConfWindow
 window_where present = if present then window else give no_window
-
--- the window of the code's struct
-abbrev pub window_of : ConfWindow → Window
-window_of w = record { left = w.left; right = w.right; top = w.top; bottom = w.bottom }
 
 -- sps_subpic_info_present_flag and sps_bitdepth_minus8
 unfoldable pub depth : Parser ℕ
@@ -62,7 +58,7 @@ depth = do
   give d
 
 -- the head that the sections make up
-abbrev pub sps_head_of : SpsIds → VvcPtlRecord → SpsSize → Window → ℕ → SpsHead
+abbrev pub sps_head_of : SpsIds → VvcPtlRecord → SpsSize → ConfWindow → ℕ → SpsHead
 sps_head_of i p z w d = record {
   sps_id = i.sps_id;
   vps_id = i.vps_id;

@@ -1,6 +1,5 @@
 -- Internal: the path from the list of a compact record on, and from the expanded list on.
-use Rattle.std.specs.Prelude.{ℕ, ◌≤◌, ◌≡◌, Bool, false, ◌&&◌, List, [], ◌∷◌, ◌++◌, map, eqb, leb, length, if◌then◌else◌}
-use Rattle.std.proofs.Math.Option.{Option}
+use Rattle.std.specs.Prelude.{ℕ, ◌≤◌, ◌≡◌, Bool, false, ◌&&◌, List, [], ◌∷◌, ◌++◌, map, eqb, leb, length, if◌then◌else◌, Option}
 use Rattle.parse.specs.Outcome.{Outcome, accept, refuse, lent_input}
 use Rattle.parse.specs.Steps.{◌>>=◌, ◌>>◌}
 use Rattle.boxes.specs.Bytes.{to_chunk, AllBytes}
@@ -8,13 +7,15 @@ use Rattle.boxes.specs.Parts.{held}
 use Rattle.boxes.specs.declared.Span.{Span}
 use Rattle.unit_list.specs.Answers.{list_units, list_units_of_type}
 use Rattle.annex_b.specs.Stream.{annex_b}
-use Rattle.compact.specs.Compact.{CompactParsed, parse_compact}
+use Rattle.compact.specs.declared.CompactRead.{CompactRead}
+use Rattle.compact.specs.Compact.{parse_compact}
 use Rattle.compact.specs.ItemData.{still_unit, restore}
 use Rattle.compact.specs.declared.CompactVvcConfig.{CompactVvcConfig}
 use Rattle.full.specs.Read.{parse_full}
 use Rattle.full.specs.Write.{serialize_full}
 use Rattle.full.specs.declared.VvcConfig.{VvcConfig}
-use Rattle.expand.specs.Expand.{FullHead, to_full}
+use Rattle.expand.specs.declared.Expanded.{Expanded}
+use Rattle.expand.specs.Expand.{to_full}
 use Rattle.expand.specs.declared.Picture.{Picture}
 use Rattle.access_unit.specs.AccessUnit.{code_of, assemble}
 use Rattle.access_unit.specs.declared.StartCodes.{StartCodes}
@@ -24,7 +25,7 @@ use Rattle.still.specs.Stills.{any_picture}
 pub record ReadFrom (c : CompactVvcConfig) (list : List ℕ) : Type 0 where
   pub compact : List ℕ
   pub bytes : AllBytes compact
-  pub read : CompactParsed
+  pub read : CompactRead
   pub reads : parse_compact compact ≡ accept (read, list)
   pub config : read.config ≡ c
 
@@ -36,7 +37,7 @@ pub record ExpandedFrom (c : CompactVvcConfig) (h : VvcConfig) (list : List ℕ)
   -- the picture's values fit their fields
   pub chroma : picture.chroma_format_idc ≤ 3
   pub depth : picture.bit_depth ≤ 15
-  pub full : FullHead
+  pub full : Expanded
   pub expands : to_full c picture compact_list ≡ accept (full, list)
   pub head : full.head ≡ h
 

@@ -1,33 +1,31 @@
 -- `put_still` expands into a local array that is long enough, and writes the record of the result.
+use mathlib.Core.Path.{sym, ◌∙◌}
 use native.Mathlib.Omega.{arith}
-use mathlib.Core.Path.{sym}
+use Rattle.parse.proofs.PassedOn.{passed_output}
 use Rattle.parse.proofs.Output.{written_refused}
 use Rattle.still.specs.inner.Steps.{record_from}
-use Rattle.still.proofs.LocalArrays.{Expanded, was_expanded, not_expanded, given_as, record_expanded, record_unexpanded}
+use Rattle.still.proofs.LocalArrays.{WasExpanded, was_expanded, not_expanded, given_as, record_expanded, record_unexpanded}
 use Rattle.still_record.proofs.put_still.Goals as goal
-use Rattle.still_record.proofs.put_still.Goals.{In-List}
+use Rattle.still_record.proofs.put_still.Goals.{In_ok-expanded}
 
-expanded : (c : In-List) → let x = c.to_full-expanded in
-    Expanded c.args.config c.args.picture c.args.list.now x.result.head c.in-List.len x.new.out
-expanded c =
-    let x = c.to_full-expanded in
-    was_expanded _ _ _ c.requires _ x.result _ x.ensures (omega arith) _ c.in-List.is
+expanded : (c : In_ok-expanded) → WasExpanded c.args.config c.args.picture c.args.list.now c.in_ok-expanded.expanded c.to_full.new.out
+expanded c = was_expanded _ _ _ c.requires _ c.to_full.result _ c.to_full.ensures (omega arith) _ c.in_ok-expanded.was
 
 pub slice_bounds-grouped-end : goal.slice_bounds-grouped-end
-slice_bounds-grouped-end c = (expanded (goal.at.slice_bounds-grouped-end c).In-List).within
+slice_bounds-grouped-end c = (expanded (goal.at.slice_bounds-grouped-end c).In_ok-expanded).within
 
 pub slice_bounds-serialize-end : goal.slice_bounds-serialize-end
-slice_bounds-serialize-end c = sym (expanded (goal.at.slice_bounds-serialize-end c).In-List).long
+slice_bounds-serialize-end c = sym (expanded (goal.at.slice_bounds-serialize-end c).In_ok-expanded).long
 
-pub returns-in-List : goal.returns-in-List
-returns-in-List c =
-    let x = expanded (goal.at.returns-in-List c).In-List in
+pub returns : goal.returns
+returns c =
+    let x = expanded (goal.at.returns c).In_ok-expanded in
     given_as _ _ _ _ (record_expanded _ _ _ _ _ x.given) c.serialize.ensures
 
-pub returns-in-Refused : goal.returns-in-Refused
-returns-in-Refused c =
+pub returns-in_err-expanded : goal.returns-in_err-expanded
+returns-in_err-expanded c =
     let a = c.args in
-    let x = c.to_full-expanded in
-    written_refused (record_from a.config a.picture a.list.now) a.out.now _
+    passed_output c.from_residual.result _ c.from_residual.ensures.1 a.out.now
+    ∙ written_refused (record_from a.config a.picture a.list.now) a.out.now _
     (record_unexpanded a.config a.picture a.list.now _
-    (not_expanded a.config a.picture a.list.now c.requires _ x.result _ x.ensures (omega arith) _ c.in-Refused.is))
+    (not_expanded a.config a.picture a.list.now c.requires _ c.to_full.result _ c.to_full.ensures (omega arith) _ c.in_err-expanded.was))

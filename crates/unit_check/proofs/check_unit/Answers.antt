@@ -22,8 +22,8 @@ returns-then-ends_in_zero c =
     let ends : ends_in_zero u ≡ true = sym c.ends_in_zero.ensures ∙ c.if-ends_in_zero.true in
     rw (unchecked_zero u some ends) (sym (lent_within u _ (omega arith)))
 
-pub returns-then-place-unit : goal.returns-then-place-unit
-returns-then-place-unit c =
+pub returns-then-first_place-unit : goal.returns-then-first_place-unit
+returns-then-first_place-unit c =
     let u : List ℕ = c.args.unit.now in
     let some : 0 < length u = omega arith in
     let ends : ends_in_zero u ≡ false = sym c.ends_in_zero.ensures ∙ c.if-ends_in_zero.false in

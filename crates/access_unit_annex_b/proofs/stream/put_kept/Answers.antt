@@ -3,8 +3,8 @@ use Prim.Native.Nat.{◌+◌, ◌≤◌}
 use mathlib.Core.Path.{sym, ◌∙◌}
 use lib.ListN.{length}
 use native.Mathlib.Omega.{arith}
-use Rattle.split.proofs.Items.{Turn, found_unit_lem, found_none}
-use Rattle.access_unit.specs.Answers.{tols_of}
+use Rattle.parse.proofs.PassedOn.{step_some, step_none}
+use Rattle.split.proofs.Items.{found_unit_lem, found_none}
 use Rattle.access_unit.specs.inner.Gathered.{kept_left}
 use Rattle.access_unit.proofs.KeptUnits.{over_kept, over_dropped, over_nothing}
 use Rattle.access_unit_annex_b.proofs.Storing.{first_end, first_room, first_more, first_on, first_some}
@@ -13,71 +13,56 @@ use Rattle.access_unit_annex_b.proofs.stream.put_kept.Goals as goal
 pub returns-in_default : goal.returns-in_default
 returns-in_default c =
     let a = c.args in
-    let z = over_nothing a.size (tols_of a.target) a.item.now c.loop-left.at (found_none _ _ _ c.item_step-step.result c.item_step-step.ensures c.in_default.not-Unit) in
+    let z = over_nothing a.size a.target a.item.now c.loop-left.at (found_none _ _ _ c.item_step.result c.item_step.ensures (step_none _ _ c.unwrap_or.ensures c.in_default.is)) in
     absurd (first_some _ _ _ _ _ _ _ _ _ _ c.loop-left.invariant.1 c.loop-left-test.true z)
 
 pub kept_at-requires : goal.kept_at-requires
 kept_at-requires c =
-    let turn_at : let a = c.args in Turn a.size a.item.now
-    c.loop-left.at c.in-Unit.a c.in-Unit.next =
-    found_unit_lem _ _ _ _ c.item_step-step.ensures _ _ c.in-Unit.is in
-    let inside_at : c.in-Unit.a.start + c.in-Unit.a.len ≤ length c.args.item.now =
-    let t = turn_at in omega (arith, t.here) in
+    let t = found_unit_lem _ _ _ _ c.item_step.ensures _ (step_some _ _ _ c.unwrap_or.ensures c.in-Some.is) in
+    let inside_at : c.in-Some.step.unit.start + c.in-Some.step.unit.len ≤ length c.args.item.now =
+    omega (arith, t.here) in
     (inside_at, c.requires.walks.lent)
 
 pub put_unit-end-requires : goal.put_unit-end-requires
 put_unit-end-requires c =
-    let turn_at : let a = c.args in Turn a.size a.item.now
-    c.loop-left.at c.in-Unit.a c.in-Unit.next =
-    found_unit_lem _ _ _ _ c.item_step-step.ensures _ _ c.in-Unit.is in
-    let inside_at : c.in-Unit.a.start + c.in-Unit.a.len ≤ length c.args.item.now =
-    let t = turn_at in omega (arith, t.here) in
-    let t = turn_at in
+    let t = found_unit_lem _ _ _ _ c.item_step.ensures _ (step_some _ _ _ c.unwrap_or.ensures c.in-Some.is) in
+    let inside_at : c.in-Some.step.unit.start + c.in-Some.step.unit.len ≤ length c.args.item.now =
+    omega (arith, t.here) in
     let a = c.args in
-    let k = over_kept a.size (tols_of a.target) a.item.now _ _ _ t.rest
+    let k = over_kept a.size a.target a.item.now _ _ _ t.rest
     (sym c.kept_at.ensures ∙ c.if-kept_at.true) in (
       inside_at,
-      first_room _ _ _ _ _ _ _ _ (kept_left a.size (tols_of a.target) a.item.now c.in-Unit.next) k _ _ _
+      first_room _ _ _ _ _ _ _ _ (kept_left a.size a.target a.item.now c.in-Some.step.next) k _ _ _
           c.loop-left.invariant.1 c.loop-left-test.true,
     )
 
 pub loop-left-smaller-then-kept_at : goal.loop-left-smaller-then-kept_at
 loop-left-smaller-then-kept_at c =
-    let turn_at : let a = c.args in Turn a.size a.item.now
-    c.loop-left.at c.in-Unit.a c.in-Unit.next =
-    found_unit_lem _ _ _ _ c.item_step-step.ensures _ _ c.in-Unit.is in
-    let t = turn_at in omega (arith, t.here)
+    let t = found_unit_lem _ _ _ _ c.item_step.ensures _ (step_some _ _ _ c.unwrap_or.ensures c.in-Some.is) in
+    omega (arith, t.here)
 
 pub loop-left-preserved-then-kept_at : goal.loop-left-preserved-then-kept_at
 loop-left-preserved-then-kept_at c =
-    let turn_at : let a = c.args in Turn a.size a.item.now
-    c.loop-left.at c.in-Unit.a c.in-Unit.next =
-    found_unit_lem _ _ _ _ c.item_step-step.ensures _ _ c.in-Unit.is in
-    let t = turn_at in
+    let t = found_unit_lem _ _ _ _ c.item_step.ensures _ (step_some _ _ _ c.unwrap_or.ensures c.in-Some.is) in
     let a = c.args in
     let p = c.put_unit-end.ensures in
-    let k = over_kept a.size (tols_of a.target) a.item.now _ _ _ t.rest
+    let k = over_kept a.size a.target a.item.now _ _ _ t.rest
     (sym c.kept_at.ensures ∙ c.if-kept_at.true) in (
       omega (arith, t.here),
-      first_more _ _ _ _ _ _ _ _ (kept_left a.size (tols_of a.target) a.item.now c.in-Unit.next) k _ _ _
+      first_more _ _ _ _ _ _ _ _ (kept_left a.size a.target a.item.now c.in-Some.step.next) k _ _ _
           c.loop-left.invariant.1 c.loop-left-test.true _ _ p.0 p.1,
     )
 
 pub loop-left-smaller : goal.loop-left-smaller
 loop-left-smaller c =
-    let turn_at : let a = c.args in Turn a.size a.item.now
-    c.loop-left.at c.in-Unit.a c.in-Unit.next =
-    found_unit_lem _ _ _ _ c.item_step-step.ensures _ _ c.in-Unit.is in
-    let t = turn_at in omega (arith, t.here)
+    let t = found_unit_lem _ _ _ _ c.item_step.ensures _ (step_some _ _ _ c.unwrap_or.ensures c.in-Some.is) in
+    omega (arith, t.here)
 
 pub loop-left-preserved : goal.loop-left-preserved
 loop-left-preserved c =
-    let turn_at : let a = c.args in Turn a.size a.item.now
-    c.loop-left.at c.in-Unit.a c.in-Unit.next =
-    found_unit_lem _ _ _ _ c.item_step-step.ensures _ _ c.in-Unit.is in
-    let t = turn_at in
+    let t = found_unit_lem _ _ _ _ c.item_step.ensures _ (step_some _ _ _ c.unwrap_or.ensures c.in-Some.is) in
     let a = c.args in
-    let d = over_dropped a.size (tols_of a.target) a.item.now _ _ _ t.rest (sym c.kept_at.ensures ∙ c.if-kept_at.false) in
+    let d = over_dropped a.size a.target a.item.now _ _ _ t.rest (sym c.kept_at.ensures ∙ c.if-kept_at.false) in
     (omega (arith, t.here), first_on _ _ _ _ _ _ _ _ d _ _ _ c.loop-left.invariant.1)
 
 pub returns : goal.returns

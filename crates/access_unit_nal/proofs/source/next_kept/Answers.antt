@@ -1,53 +1,48 @@
 -- `source::next_kept` finds the next kept unit. Invariant: the kept units from `at` on are those from `from` on.
-use mathlib.Core.Path.{sym, ◌∙◌}
+use mathlib.Core.Path.{sym, ap, ◌∙◌}
 use native.Mathlib.Omega.{arith}
-use Rattle.split.specs.declared.NextUnit.TheVariants.{Unit}
-use Rattle.split.proofs.Items.{Turn, found_unit_lem, found_onward}
-use Rattle.access_unit.specs.Answers.{tols_of}
+use Rattle.std.specs.Prelude.{Ok, Some}
+use Rattle.parse.proofs.PassedOn.{passed_on}
+use Rattle.split.proofs.Items.{found_unit_lem, found_onward}
 use Rattle.access_unit.proofs.KeptUnits.{over_kept, over_dropped}
-use Rattle.access_unit_nal.proofs.KeptWalk.{onward_earlier, over_none}
+use Rattle.access_unit_nal.proofs.KeptWalk.{onward_earlier, over_ended, over_broken}
 use Rattle.access_unit_nal.proofs.source.next_kept.Goals as goal
-
-pub returns-in_default : goal.returns-in_default
-returns-in_default c =
-    let a = c.args in (
-      over_none a.size (tols_of a.target) a.item.now c.loop-a.at c.item_step-step.result c.in_default.not-Unit c.item_step-step.ensures ∙ c.loop-a.invariant.2,
-      onward_earlier a.item.now a.from c.loop-a.at c.loop-a.invariant.0 c.item_step-step.result
-          (found_onward a.size a.item.now c.loop-a.at c.item_step-step.result c.item_step-step.ensures),
-    )
 
 pub kept_at-requires : goal.kept_at-requires
 kept_at-requires c =
-    let unit_at : Turn c.args.size c.args.item.now
-    c.loop-a.at c.in-Unit.a c.in-Unit.next =
-    found_unit_lem _ _ _ _ c.item_step-step.ensures _ _ c.in-Unit.is in
-    let f = unit_at in (omega (arith, f.here), c.requires.lent)
+    let f = found_unit_lem _ _ _ _ c.item_step.ensures _ (c.in_ok-step.was ∙ ap Ok c.in-Some.is) in (omega (arith, f.here), c.requires.lent)
 
 pub returns-then-kept_at : goal.returns-then-kept_at
 returns-then-kept_at c =
-    let unit_at : Turn c.args.size c.args.item.now
-    c.loop-a.at c.in-Unit.a c.in-Unit.next =
-    found_unit_lem _ _ _ _ c.item_step-step.ensures _ _ c.in-Unit.is in
-    let f = unit_at in
+    let f = found_unit_lem _ _ _ _ c.item_step.ensures _ (c.in_ok-step.was ∙ ap Ok c.in-Some.is) in
     let a = c.args in (
-      sym (over_kept _ _ _ _ _ _ f.rest (sym c.kept_at.ensures ∙ c.if-kept_at.true)) ∙ c.loop-a.invariant.2,
-      onward_earlier a.item.now a.from c.loop-a.at c.loop-a.invariant.0 (Unit c.in-Unit.a c.in-Unit.next) f.here,
+      sym (over_kept _ _ _ _ _ _ f.rest (sym c.kept_at.ensures ∙ c.if-kept_at.true)) ∙ c.loop-step.invariant.2,
+      onward_earlier a.item.now a.from c.loop-step.at c.loop-step.invariant.0 (Ok (Some c.in-Some.step)) f.here,
     )
 
-pub loop-a-smaller : goal.loop-a-smaller
-loop-a-smaller c =
-    let unit_at : Turn c.args.size c.args.item.now
-    c.loop-a.at c.in-Unit.a c.in-Unit.next =
-    found_unit_lem _ _ _ _ c.item_step-step.ensures _ _ c.in-Unit.is in
-    let f = unit_at in omega (arith, f.here)
+pub loop-step-smaller : goal.loop-step-smaller
+loop-step-smaller c =
+    let f = found_unit_lem _ _ _ _ c.item_step.ensures _ (c.in_ok-step.was ∙ ap Ok c.in-Some.is) in omega (arith, f.here)
 
-pub loop-a-preserved : goal.loop-a-preserved
-loop-a-preserved c =
-    let unit_at : Turn c.args.size c.args.item.now
-    c.loop-a.at c.in-Unit.a c.in-Unit.next =
-    found_unit_lem _ _ _ _ c.item_step-step.ensures _ _ c.in-Unit.is in
-    let f = unit_at in (
-      omega (arith, f.here, c.loop-a.invariant.0),
+pub loop-step-preserved : goal.loop-step-preserved
+loop-step-preserved c =
+    let f = found_unit_lem _ _ _ _ c.item_step.ensures _ (c.in_ok-step.was ∙ ap Ok c.in-Some.is) in (
+      omega (arith, f.here, c.loop-step.invariant.0),
       omega (arith, f.here),
-      sym (over_dropped _ _ _ _ _ _ f.rest (sym c.kept_at.ensures ∙ c.if-kept_at.false)) ∙ c.loop-a.invariant.2,
+      sym (over_dropped _ _ _ _ _ _ f.rest (sym c.kept_at.ensures ∙ c.if-kept_at.false)) ∙ c.loop-step.invariant.2,
+    )
+
+pub returns-in_err-step : goal.returns-in_err-step
+returns-in_err-step c =
+    let a = c.args in
+    rw (passed_on c.from_residual.result _ c.from_residual.ensures.1) (
+      over_broken a.size a.target a.item.now _ _ c.item_step.ensures _ c.in_err-step.was ∙ c.loop-step.invariant.2,
+      tt,
+    )
+
+pub returns : goal.returns
+returns c =
+    let a = c.args in (
+      over_ended a.size a.target a.item.now _ _ c.item_step.ensures (c.in_ok-step.was ∙ ap Ok c.in_default.is) ∙ c.loop-step.invariant.2,
+      tt,
     )

@@ -1,55 +1,67 @@
 -- `source::source_at` returns where unit k of the access unit lies, by its number among the kept units or the list's.
 use Prim.Native.Nat.{ℕ}
 use mathlib.Core.Path.{refl, sym, ap, ◌∙◌, subst}
-use Rattle.boxes.specs.Places.{in_first, place_found}
-use Rattle.boxes.proofs.Places.{fits_more}
+use Rattle.std.specs.Prelude.{Ok, Some}
+use Rattle.parse.specs.Answers.{answer_of}
+use Rattle.parse.proofs.PassedOn.{passed_on}
+use Rattle.boxes.specs.Places.{nth_found, PlaceFits}
 use Rattle.unit_list.specs.Answers.{list_units}
-use Rattle.access_unit.specs.Answers.{tols_of}
-use Rattle.access_unit_sizes.specs.inner.Sizes.{sizes_answer_of}
 use Rattle.access_unit.specs.declared.StartCodes.TheVariants.{Four}
 use Rattle.access_unit_sizes.proofs.Gathering.{Known, known}
 use Rattle.access_unit_nal.specs.inner.Kept.{Numbered}
-use Rattle.access_unit_nal.proofs.Sources.{has_kept, at_listed, at_past, KeptAt, kept_number}
+use Rattle.access_unit_nal.proofs.Sources.{has_kept, listed_answer, listed_none, listed_refused, at_past, KeptAt, kept_number}
 use Rattle.access_unit_nal.proofs.source.source_at.Goals as goal
+use Rattle.access_unit_nal.proofs.source.source_at.Goals.{In_ok-sizes}
+
+-- what was measured
+known_at : (c : In_ok-sizes) → Known Four c.args.length_size c.args.target c.args.list.now c.args.item.now c.in_ok-sizes.sizes
+known_at c = known _ _ _ _ _ _ (ap answer_of (sym c.in_ok-sizes.was) ∙ c.measure.ensures)
 
 pub kept_unit-unit-requires : goal.kept_unit-unit-requires
 kept_unit-unit-requires c =
-    let known_at : let a = c.args in Known Four a.length_size (tols_of a.target) a.list.now a.item.now c.in-Sized.sizes =
-    known _ _ _ _ _ _ (ap sizes_answer_of (sym c.in-Sized.is) ∙ c.measure-measured.ensures) in
-    let kept_at : let a = c.args in KeptAt a.length_size (tols_of a.target) a.list.now a.item.now a.k
-    c.in-Sized.sizes (known_at) c.wide.result c.wide.ensures.0 c.in-Kept.n =
-    kept_number _ _ _ _ _ _ (known_at) _ c.wide.ensures.0 _
-    (subst (Numbered c.in-Sized.sizes c.args.k) c.in-Kept.is c.number_of.ensures) in
-    has_kept _ _ _ _ c.args.k _ (known_at) _ c.wide.ensures.0 _ (kept_at).within
+    let k = known_at (goal.at.kept_unit-unit-requires c).In_ok-sizes in
+    let n = kept_number _ _ _ _ _ _ k _ c.from.ensures _
+    (subst (Numbered c.in_ok-sizes.sizes c.args.k) (c.in-Some-Kept.is ∙ ap Some c.in-Some-Kept.field-0-is) c.number_of.ensures) in
+    has_kept _ _ _ _ c.args.k _ k _ c.from.ensures _ n.within
 
-pub returns-in-Kept : goal.returns-in-Kept
-returns-in-Kept c =
-    let known_at : let a = c.args in Known Four a.length_size (tols_of a.target) a.list.now a.item.now c.in-Sized.sizes =
-    known _ _ _ _ _ _ (ap sizes_answer_of (sym c.in-Sized.is) ∙ c.measure-measured.ensures) in
-    let kept_at : let a = c.args in KeptAt a.length_size (tols_of a.target) a.list.now a.item.now a.k
-    c.in-Sized.sizes (known_at) c.wide.result c.wide.ensures.0 c.in-Kept.n =
-    kept_number _ _ _ _ _ _ (known_at) _ c.wide.ensures.0 _
-    (subst (Numbered c.in-Sized.sizes c.args.k) c.in-Kept.is c.number_of.ensures) in
-    ((kept_at).is _ c.kept_unit-unit.ensures.0, c.kept_unit-unit.ensures.1)
+pub returns-in-Some-Kept : goal.returns-in-Some-Kept
+returns-in-Some-Kept c =
+    let k = known_at (goal.at.returns-in-Some-Kept c).In_ok-sizes in
+    let n = kept_number _ _ _ _ _ _ k _ c.from.ensures _
+    (subst (Numbered c.in_ok-sizes.sizes c.args.k) (c.in-Some-Kept.is ∙ ap Some c.in-Some-Kept.field-0-is) c.number_of.ensures) in
+    (n.is _ c.kept_unit-unit.ensures.0, c.kept_unit-unit.ensures.1)
 
-pub returns-in-Listed : goal.returns-in-Listed
-returns-in-Listed c =
-    let known_at : let a = c.args in Known Four a.length_size (tols_of a.target) a.list.now a.item.now c.in-Sized.sizes =
-    known _ _ _ _ _ _ (ap sizes_answer_of (sym c.in-Sized.is) ∙ c.measure-measured.ensures) in
+pub returns-in_err-unit-in-Some-Listed : goal.returns-in_err-unit-in-Some-Listed
+returns-in_err-unit-in-Some-Listed c =
+    let k = known_at (goal.at.returns-in_err-unit-in-Some-Listed c).In_ok-sizes in
     let a = c.args in
-    let h = subst (Numbered c.in-Sized.sizes a.k) c.in-Listed.is
-    c.number_of.ensures in (
-      c.nal_unit_at.ensures.0 ∙ ap (λ (j : ℕ). place_found in_first (list_units a.list.now) j) h.1 ∙ at_listed a.length_size (tols_of a.target)
-          a.list.now a.item.now a.k _ (known_at) a.length_size refl h.0 (rw h.1 at h.2),
-      fits_more a.list.now a.item.now c.nal_unit_at.result c.nal_unit_at.ensures.1,
+    let h = subst (Numbered c.in_ok-sizes.sizes a.k) (c.in-Some-Listed.is ∙ ap Some c.in-Some-Listed.field-0-is) c.number_of.ensures in
+    absurd (listed_refused a.length_size a.target a.list.now a.item.now a.k _ k a.length_size refl h.0 _
+    (c.nal_unit_at.ensures.0 ∙ ap (λ (j : ℕ). nth_found (list_units a.list.now) j) h.1) _ c.in_err-unit-in-Some-Listed.was)
+
+pub returns-in_default : goal.returns-in_default
+returns-in_default c =
+    let k = known_at (goal.at.returns-in_default c).In_ok-sizes in
+    let a = c.args in
+    let h = subst (Numbered c.in_ok-sizes.sizes a.k) (c.in-Some-Listed.is ∙ ap Some c.in-Some-Listed.field-0-is) c.number_of.ensures in
+    absurd (listed_none a.length_size a.target a.list.now a.item.now a.k _ k a.length_size refl h.0 (rw h.1 at h.2) _
+    (c.nal_unit_at.ensures.0 ∙ ap (λ (j : ℕ). nth_found (list_units a.list.now) j) h.1) (c.in_ok-unit-in-Some-Listed.was ∙ ap Ok c.in_default.is))
+
+pub returns-in-Some : goal.returns-in-Some
+returns-in-Some c =
+    let k = known_at (goal.at.returns-in-Some c).In_ok-sizes in
+    let a = c.args in
+    let h = subst (Numbered c.in_ok-sizes.sizes a.k) (c.in-Some-Listed.is ∙ ap Some c.in-Some-Listed.field-0-is) c.number_of.ensures in (
+      listed_answer a.length_size a.target a.list.now a.item.now a.k _ k a.length_size refl h.0 (rw h.1 at h.2) _
+          (c.nal_unit_at.ensures.0 ∙ ap (λ (j : ℕ). nth_found (list_units a.list.now) j) h.1) _ (c.in_ok-unit-in-Some-Listed.was ∙ ap Ok c.in-Some.is),
+      subst (λ r. PlaceFits a.list.now r) (c.in_ok-unit-in-Some-Listed.was ∙ ap Ok c.in-Some.is) c.nal_unit_at.ensures.1,
     )
 
-pub returns-in-Past : goal.returns-in-Past
-returns-in-Past c =
-    let known_at : let a = c.args in Known Four a.length_size (tols_of a.target) a.list.now a.item.now c.in-Sized.sizes =
-    known _ _ _ _ _ _ (ap sizes_answer_of (sym c.in-Sized.is) ∙ c.measure-measured.ensures) in
+pub returns-in-None : goal.returns-in-None
+returns-in-None c =
+    let k = known_at (goal.at.returns-in-None c).In_ok-sizes in
     let a = c.args in
-    let h = subst (Numbered c.in-Sized.sizes a.k) c.in-Past.is c.number_of.ensures in (
-      at_past a.length_size (tols_of a.target) a.list.now a.item.now a.k _ (known_at) a.length_size refl h.0 h.1 h.2,
+    let h = subst (Numbered c.in_ok-sizes.sizes a.k) c.in-None.is c.number_of.ensures in (
+      at_past a.length_size a.target a.list.now a.item.now a.k _ k a.length_size refl h.0 h.1 h.2,
       tt,
     )

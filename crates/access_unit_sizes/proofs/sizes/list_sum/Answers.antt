@@ -1,15 +1,12 @@
 -- `sizes::list_sum` sums the units of a list.
-use mathlib.Core.Path.{ap, ◌∙◌}
-use mathlib.Core.List.{List}
-use Rattle.parse.specs.Outcome.{Outcome, accept, and_then}
-use Rattle.boxes.specs.declared.Span.{Span}
-use Rattle.unit_list.proofs.Turns.{start_units}
+use mathlib.Core.Path.{◌≡◌}
+use Rattle.parse.specs.Answers.{answer_of}
+use Rattle.parse.specs.Outcome.{accept, and_then}
+use Rattle.unit_list.proofs.Turns.{walk_over}
 use Rattle.access_unit_sizes.specs.inner.Sizes.{list_sum}
 use Rattle.access_unit_sizes.proofs.sizes.list_sum.Goals as goal
 
-pub returns-in-At : goal.returns-in-At
-returns-in-At c =
-    let a = c.args in
+pub returns : goal.returns
+returns c =
+    walk_over _ _ c.start.ensures (λ s o. answer_of c.units_sum.result ≡ and_then o (λ us. accept (list_sum s us))) _ c.in_ok-start.was
     c.units_sum.ensures
-    ∙ ap (λ (o : Outcome (List Span)). and_then o (λ us. accept (list_sum a.list.now us)))
-    (start_units _ _ c.start.ensures _ c.in-At.is)

@@ -1,8 +1,10 @@
--- `sizes::units_sum` sums the units of a list after a cursor. Invariant: the sum is that of the units passed, and those left follow them.
+-- `sizes::units_sum` sums the units that are left of a walk. Invariant: the sum is that of the units passed, and those left follow them.
 use mathlib.Core.Bool.{false}
+use mathlib.Core.Path.{refl, ap, ◌∙◌}
 use native.Mathlib.Omega.{arith}
+use Rattle.std.specs.Prelude.{Ok}
 use Rattle.boxes.specs.Parts.{held}
-use Rattle.unit_list.proofs.Turns.{ListTurn, list_found, list_end}
+use Rattle.unit_list.proofs.Turns.{walk_found, walk_end}
 use Rattle.access_unit.specs.inner.Gathered.{later_code}
 use Rattle.access_unit.specs.declared.StartCodes.TheVariants.{Short}
 use Rattle.access_unit.proofs.Streams.{code_saves}
@@ -10,23 +12,21 @@ use Rattle.access_unit_sizes.proofs.Sums.{summing_start, summing_more}
 use Rattle.access_unit_sizes.proofs.Sums.{summing_end, list_sum_none, list_sum_more}
 use Rattle.access_unit_sizes.proofs.sizes.units_sum.Goals as goal
 
-pub loop-a-init : goal.loop-a-init
-loop-a-init c =
-    (c.requires, summing_start _ _ _ (list_sum_none c.args.list.now))
+pub loop-unit-init : goal.loop-unit-init
+loop-unit-init c = (refl, summing_start _ _ _ (list_sum_none c.args.walk.list.now))
 
-pub loop-a-preserved : goal.loop-a-preserved
-loop-a-preserved c =
-    let turn_at : ListTurn c.args.list.now c.loop-a.here
-    c.in-Unit.a c.in-Unit.next =
-    list_found _ _ _ c.step.ensures _ _ c.in-Unit.is in
-    let t = turn_at in
-    let b = c.args in
-    let a = c.in-Unit.a in (
-      t.passed.fits,
-      rw c.add_listed-sum.ensures (summing_more _ _ _ _ _ c.loop-a.invariant.1 false _ (code_saves (later_code Short (held b.list.now a))).1 a
-          (λ done. list_sum_more b.list.now done a t.inside) _ t.rest _ (omega (arith, t.passed.start, t.passed.next))),
+pub loop-unit-preserved : goal.loop-unit-preserved
+loop-unit-preserved c =
+    let i = c.loop-unit.invariant in
+    let t = walk_found c.args.walk.list c.loop-unit.walk c.next_unit.new.self i.0 _ c.next_unit.ensures.steps _ (c.in_ok-unit.was ∙ ap Ok c.in-Some.is) in
+    let s = c.args.walk.list.now in
+    let a = c.in-Some.unit in (
+      c.next_unit.ensures.same ∙ i.0,
+      rw c.add_listed-sum.ensures (summing_more _ _ _ _ _ i.1 false _ (code_saves (later_code Short (held s a))).1 a
+          (λ done. list_sum_more s done a t.inside) _ t.rest _ (omega (arith, t.passed.start, t.passed.next))),
     )
 
-pub returns-in-End : goal.returns-in-End
-returns-in-End c =
-    summing_end _ _ _ _ _ c.loop-a.invariant.1 (list_end _ _ _ c.step.ensures c.in-End.is)
+pub returns : goal.returns
+returns c =
+    let i = c.loop-unit.invariant in
+    summing_end _ _ _ _ _ i.1 (walk_end c.args.walk.list c.loop-unit.walk c.next_unit.new.self i.0 _ c.next_unit.ensures.steps (c.in_ok-unit.was ∙ ap Ok c.in_default.is))

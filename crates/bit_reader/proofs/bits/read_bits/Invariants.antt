@@ -1,11 +1,7 @@
 -- `read_bits` returns u(n): after k turns the loop has the number of the first k bits.
-use Prim.Native.Nat.{◌-◌, ◌≤◌}
 use mathlib.Core.Path.{◌≡◌}
 use Rattle.bit_reader.specs.Bits.{bits_at}
 use Rattle.bit_reader.proofs.bits.read_bits.Given as goal
 
 abbrev pub invariant-loop-k : goal.invariant-loop-k
-invariant-loop-k l = (l.k ≤ l.n) × (l.v ≡ bits_at l.s l.at.0 l.k)
-
-abbrev pub decreases-loop-k : goal.decreases-loop-k
-decreases-loop-k l = l.n - l.k
+invariant-loop-k l = l.v ≡ bits_at l.s l.at.0 l.k

@@ -16,5 +16,5 @@ returns-then-end-start c =
 pub returns : goal.returns
 returns c =
     let a = c.args in
-    chunk_whole a.width a.s.now a.at a.end c.requires.2 (omega arith) c.number-n.result
-    c.number-n.ensures.0 (omega arith)
+    chunk_whole a.width a.s.now a.at a.end c.requires.2 (omega arith) c.number-len.result
+    c.number-len.ensures.0 (omega arith)

@@ -22,5 +22,5 @@ pub loop-k-preserved : goal.loop-k-preserved
 loop-k-preserved c = (
   omega arith,
   omega (arith, be_more c.args.s.now c.args.at c.loop-k.k),
-  below_more c.loop-k.n c.loop-k.k c.wide.result c.loop-k.invariant.2 c.wide.ensures.1,
+  below_more c.loop-k.n c.loop-k.k c.from.result c.loop-k.invariant.2 (omega arith),
 )

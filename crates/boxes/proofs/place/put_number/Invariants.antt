@@ -9,6 +9,3 @@ use Rattle.boxes.proofs.place.put_number.Given as goal
 
 abbrev pub invariant-loop-k : goal.invariant-loop-k
 invariant-loop-k l = (l.k ≤ l.width) × (length l.out ≡ length l.initial.out) × (sets l.out l.at (to_be (l.width - l.k) l.n) ≡ sets l.initial.out l.at (to_be l.width l.v))
-
-abbrev pub decreases-loop-k : goal.decreases-loop-k
-decreases-loop-k l = l.width - l.k

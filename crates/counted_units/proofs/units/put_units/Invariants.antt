@@ -1,5 +1,5 @@
 -- `units::put_units` stores the units. Invariant: those stored and those left are the whole.
-use Prim.Native.Nat.{◌≤◌}
+use Prim.Native.Nat.{◌-◌, ◌≤◌}
 use lib.ListN.{length}
 use Rattle.parse.specs.Parse.{times}
 use Rattle.boxes.specs.Bytes.{chunk}
@@ -8,9 +8,6 @@ use Rattle.counted_units.proofs.Repeated.{Storing}
 use Rattle.counted_units.proofs.UnitsInList.{unit_in_list, units_none, units_more}
 use Rattle.counted_units.proofs.units.put_units.Given as goal
 
-abbrev pub invariant-loop-left : goal.invariant-loop-left
-invariant-loop-left l = (l.at ≤ length l.record)
-    × Storing (chunk l.width) unit_in_list units_in_list units_none units_more l.record l.initial.out l.to (times l.count (chunk l.width) l.record l.from) l.left l.at l.out l.next
-
-abbrev pub decreases-loop-left : goal.decreases-loop-left
-decreases-loop-left l = l.left
+abbrev pub invariant-loop : goal.invariant-loop
+invariant-loop l = (l.at ≤ length l.record)
+    × Storing (chunk l.width) unit_in_list units_in_list units_none units_more l.record l.initial.out l.to (times l.count (chunk l.width) l.record l.from) (l.count - l.counter) l.at l.out l.next

@@ -1,11 +1,12 @@
--- `entries::add_units` adds the units after the cursor to the totals of their types. The loop's invariant: totals and units left make the whole.
+-- `entries::add_units` adds the units that are left to the totals of their types. The loop's invariant: totals and units left make the whole.
 use Prim.Native.Nat.{◌-◌}
+use mathlib.Core.Path.{◌≡◌}
 use lib.ListN.{length}
 use Rattle.directory_fill.proofs.Adding.{Adding}
 use Rattle.directory_fill.proofs.entries.add_units.Given as goal
 
-abbrev pub invariant-loop-next : goal.invariant-loop-next
-invariant-loop-next l = Adding l.list l.initial.here l.initial.totals l.here l.totals
+abbrev pub invariant-loop-t : goal.invariant-loop-t
+invariant-loop-t l = let f = l.fn.walk in (l.walk.list ≡ f.list) × Adding f.list.now f.cursor l.fn.totals l.walk.cursor l.totals
 
-abbrev pub decreases-loop-next : goal.decreases-loop-next
-decreases-loop-next l = length l.list - l.here.at
+abbrev pub decreases-loop-t : goal.decreases-loop-t
+decreases-loop-t l = length l.fn.walk.list.now - l.walk.cursor.at

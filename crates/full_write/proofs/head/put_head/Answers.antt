@@ -1,7 +1,9 @@
 -- `put_head` stores the first byte, and with the PTL flag the fields under it.
-use mathlib.Core.Path.{ap, ◌∙◌}
+use Prim.Native.Nat.{◌≤◌}
+use mathlib.Core.Path.{◌≡◌, ap, ◌∙◌}
 use native.Mathlib.Omega.{arith}
 use lib.ListN.{length, length-set}
+use Rattle.parse.specs.Logic.{bit}
 use Rattle.full_write.proofs.Heads.{first, head_fits_lem, head_part, head_plain}
 use Rattle.full_write.proofs.head.put_head.Goals as goal
 
@@ -19,7 +21,9 @@ overflow_add-h c =
 
 pub overflow_add-h-2 : goal.overflow_add-h-2
 overflow_add-h-2 c =
-    let f = head_fits_lem _ c.requires.0 in omega (arith, f.one, f.four, c.bit_of-flag.ensures.1)
+    let f = head_fits_lem _ c.requires.0 in
+    let flag : c.from-flag.result ≤ 1 = grind arith in
+    omega (arith, f.one, f.four)
 
 pub put_ptl_part-requires : goal.put_ptl_part-requires
 put_ptl_part-requires c =
@@ -31,9 +35,11 @@ put_ptl_part-requires c =
 pub returns-then-h : goal.returns-then-h
 returns-then-h c =
     let h = head_part c.args.h c.if-h.true in
-    c.put_ptl_part.ensures ∙ rw (c.put.ensures, c.bit_of-flag.ensures.0, h)
+    let flag : c.from-flag.result ≡ bit c.args.h.ptl_present_flag = grind arith in
+    c.put_ptl_part.ensures ∙ rw (c.put.ensures, flag, h)
 
 pub returns-else-h : goal.returns-else-h
 returns-else-h c =
     let h = head_plain c.args.h c.if-h.false in
-    c.put.ensures ∙ rw (c.bit_of-flag.ensures.0, h)
+    let flag : c.from-flag.result ≡ bit c.args.h.ptl_present_flag = grind arith in
+    c.put.ensures ∙ rw (flag, h)

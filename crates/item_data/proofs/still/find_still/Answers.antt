@@ -3,6 +3,7 @@ use Prim.Native.Nat.{ℕ, ◌≤◌}
 use mathlib.Core.Path.{◌≡◌, sym, ap, ◌∙◌}
 use mathlib.Core.List.{[]}
 use native.Mathlib.Omega.{arith}
+use Rattle.std.specs.Prelude.{Ok}
 use Rattle.parse.specs.Outcome.{accept}
 use Rattle.parse.specs.inner.Walk.{more}
 use Rattle.boxes.proofs.PrefixSizes.{size_inside}
@@ -20,55 +21,70 @@ returns-then-outside c =
 
 pub returns-in_default : goal.returns-in_default
 returns-in_default c =
-    let sized : (1 ≤ c.wide-size.result) × (c.wide-size.result ≤ 4) =
-    rw c.wide-size.ensures.0 (size_inside _ (sym c.outside.ensures ∙ c.if-outside.false)) in
-    let left_at : item_units_from c.wide-size.result c.args.item.now 0
+    let sized : (1 ≤ c.from.result) × (c.from.result ≤ 4) =
+    rw c.from.ensures (size_inside _ (sym c.outside.ensures ∙ c.if-outside.false)) in
+    let left_at : item_units_from c.from.result c.args.item.now 0
     ≡ item_units c.args.length_size c.args.item.now =
     let z = sized in
-    sym (items_left c.wide-size.result c.args.item.now z.0 z.1)
-    ∙ ap (λ (n : ℕ). item_units n c.args.item.now) c.wide-size.ensures.0 in
+    sym (items_left c.from.result c.args.item.now z.0 z.1)
+    ∙ ap (λ (n : ℕ). item_units n c.args.item.now) c.from.ensures in
     let a = c.args in (
-      none_still a.item.now (item_units_from c.wide-size.result a.item.now 0) (found_none _ _ _ c.item_step.result c.item_step.ensures c.in_default.not-Unit)
+      none_still a.item.now (item_units_from c.from.result a.item.now 0) (found_none _ _ _ c.item_step.result c.item_step.ensures (λ m g. grind arith))
           ∙ ap (only_still a.item.now) (left_at),
       tt,
     )
 
-pub returns-then-next-item : goal.returns-then-next-item
-returns-then-next-item c =
-    let unit_at : Turn c.wide-size.result c.args.item.now 0 c.in-Unit.a c.in-Unit.next =
-    found_unit_lem _ _ _ _ c.item_step.ensures _ _ c.in-Unit.is in
-    let sized : (1 ≤ c.wide-size.result) × (c.wide-size.result ≤ 4) =
-    rw c.wide-size.ensures.0 (size_inside _ (sym c.outside.ensures ∙ c.if-outside.false)) in
-    let left_at : item_units_from c.wide-size.result c.args.item.now 0
+pub returns-in_default-2 : goal.returns-in_default-2
+returns-in_default-2 c =
+    let sized : (1 ≤ c.from.result) × (c.from.result ≤ 4) =
+    rw c.from.ensures (size_inside _ (sym c.outside.ensures ∙ c.if-outside.false)) in
+    let left_at : item_units_from c.from.result c.args.item.now 0
     ≡ item_units c.args.length_size c.args.item.now =
     let z = sized in
-    sym (items_left c.wide-size.result c.args.item.now z.0 z.1)
-    ∙ ap (λ (n : ℕ). item_units n c.args.item.now) c.wide-size.ensures.0 in
+    sym (items_left c.from.result c.args.item.now z.0 z.1)
+    ∙ ap (λ (n : ℕ). item_units n c.args.item.now) c.from.ensures in
+    let a = c.args in (
+      none_still a.item.now (item_units_from c.from.result a.item.now 0) (found_none _ _ _ c.item_step.result c.item_step.ensures (λ m g. grind arith))
+          ∙ ap (only_still a.item.now) (left_at),
+      tt,
+    )
+
+pub returns-then-first-item : goal.returns-then-first-item
+returns-then-first-item c =
+    let unit_at : Turn c.from.result c.args.item.now 0 c.in-Ok-Some.first.unit c.in-Ok-Some.first.next =
+    found_unit_lem _ _ _ _ c.item_step.ensures _ (c.in-Ok-Some.is ∙ ap Ok c.in-Ok-Some.field-0-is) in
+    let sized : (1 ≤ c.from.result) × (c.from.result ≤ 4) =
+    rw c.from.ensures (size_inside _ (sym c.outside.ensures ∙ c.if-outside.false)) in
+    let left_at : item_units_from c.from.result c.args.item.now 0
+    ≡ item_units c.args.length_size c.args.item.now =
+    let z = sized in
+    sym (items_left c.from.result c.args.item.now z.0 z.1)
+    ∙ ap (λ (n : ℕ). item_units n c.args.item.now) c.from.ensures in
     let a = c.args in
     let u = unit_at in
-    (more_after a.item.now c.wide-size.result _ _ c.if-next-item.true ∙ ap (only_still a.item.now) (sym u.rest ∙ left_at), tt)
+    (more_after a.item.now c.from.result _ _ (omega arith) ∙ ap (only_still a.item.now) (sym u.rest ∙ left_at), tt)
 
 pub still_of-requires : goal.still_of-requires
 still_of-requires c =
-    let unit_at : Turn c.wide-size.result c.args.item.now 0 c.in-Unit.a c.in-Unit.next =
-    found_unit_lem _ _ _ _ c.item_step.ensures _ _ c.in-Unit.is in
+    let unit_at : Turn c.from.result c.args.item.now 0 c.in-Ok-Some.first.unit c.in-Ok-Some.first.next =
+    found_unit_lem _ _ _ _ c.item_step.ensures _ (c.in-Ok-Some.is ∙ ap Ok c.in-Ok-Some.field-0-is) in
     let u = unit_at in omega arith
 
 pub returns : goal.returns
 returns c =
-    let unit_at : Turn c.wide-size.result c.args.item.now 0 c.in-Unit.a c.in-Unit.next =
-    found_unit_lem _ _ _ _ c.item_step.ensures _ _ c.in-Unit.is in
-    let sized : (1 ≤ c.wide-size.result) × (c.wide-size.result ≤ 4) =
-    rw c.wide-size.ensures.0 (size_inside _ (sym c.outside.ensures ∙ c.if-outside.false)) in
-    let left_at : item_units_from c.wide-size.result c.args.item.now 0
+    let unit_at : Turn c.from.result c.args.item.now 0 c.in-Ok-Some.first.unit c.in-Ok-Some.first.next =
+    found_unit_lem _ _ _ _ c.item_step.ensures _ (c.in-Ok-Some.is ∙ ap Ok c.in-Ok-Some.field-0-is) in
+    let sized : (1 ≤ c.from.result) × (c.from.result ≤ 4) =
+    rw c.from.ensures (size_inside _ (sym c.outside.ensures ∙ c.if-outside.false)) in
+    let left_at : item_units_from c.from.result c.args.item.now 0
     ≡ item_units c.args.length_size c.args.item.now =
     let z = sized in
-    sym (items_left c.wide-size.result c.args.item.now z.0 z.1)
-    ∙ ap (λ (n : ℕ). item_units n c.args.item.now) c.wide-size.ensures.0 in
+    sym (items_left c.from.result c.args.item.now z.0 z.1)
+    ∙ ap (λ (n : ℕ). item_units n c.args.item.now) c.from.ensures in
     let a = c.args in
     let u = unit_at in
-    let e : item_units_from c.wide-size.result a.item.now c.in-Unit.next ≡ accept [] = left_end _ _ _ c.if-next-item.false in (
+    let e : item_units_from c.from.result a.item.now c.in-Ok-Some.first.next ≡ accept [] = left_end _ _ _ (omega arith) in (
       c.still_of.ensures.0
-          ∙ ap (only_still a.item.now) (ap (more c.in-Unit.a) (sym e) ∙ sym u.rest ∙ left_at),
+          ∙ ap (only_still a.item.now) (ap (more c.in-Ok-Some.first.unit) (sym e) ∙ sym u.rest ∙ left_at),
       c.still_of.ensures.1,
     )

@@ -21,8 +21,8 @@ store_still-requires c =
     let u = restores_unit _ _ _ c.requires c.if-config.false in
     let e = ap length u.1 in
     let l = length_to_chunk c.args.config.length_size (still_unit c.args.stored.now) in
-    rw c.wide.ensures.0 (u.0, restores_lent _ _ _ c.requires, omega (arith, e, l, c.requires.room))
+    rw c.from.ensures (u.0, restores_lent _ _ _ c.requires, omega (arith, e, l, c.requires.room))
 
 pub returns : goal.returns
 returns c =
-    stored_unit _ _ _ c.requires c.if-config.false _ _ c.wide.ensures.0 c.store_still.ensures
+    stored_unit _ _ _ c.requires c.if-config.false _ _ c.from.ensures c.store_still.ensures

@@ -12,9 +12,9 @@ returns c =
     let sized : (1 ≤ c.args.length_size) × (c.args.length_size ≤ 4) =
     size_inside _ (sym c.outside.ensures ∙ c.if-outside.false) in
     let limit_at : c.prefix_limit.result ≡ 256 ^ c.args.length_size =
-    c.prefix_limit.ensures ∙ rw c.wide-size.ensures.0 in
+    c.prefix_limit.ensures ∙ rw c.from-size.ensures in
     let a = c.args in
     let z = sized in
     let l = limit_at in
-    sym (prefixed_length a.length_size (still_unit a.stored.now) z.0 z.1 (omega (arith, l, c.if-prefix_limit-len.false)) _
-    (omega (arith, c.wide-size.ensures.0)))
+    sym (prefixed_length a.length_size (still_unit a.stored.now) z.0 z.1 (omega (arith, l)) _
+    (omega (arith, c.from-size.ensures)))

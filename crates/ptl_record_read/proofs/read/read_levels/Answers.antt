@@ -14,7 +14,7 @@ loop-i-init c =
 pub loop-i-preserved : goal.loop-i-preserved
 loop-i-preserved c =
     let e : c.loop-i.i ≡ suc (c.loop-i.i - 1) = omega (arith, c.loop-i-test.true) in
-    rw (c.wide-next.ensures.0, c.level_if.ensures)
+    rw (c.from-next.ensures, c.level_if.ensures)
     (filled_more _ _ _ _ _ _ _ _ _ (rw e at c.loop-i.invariant) c.requires.0)
 
 pub returns : goal.returns

@@ -4,6 +4,3 @@ use Rattle.ptl_record_read.proofs.read.read_levels.Given as goal
 
 abbrev pub invariant-loop-i : goal.invariant-loop-i
 invariant-loop-i l = Filled l.s l.at l.flags l.m l.present l.idc l.next l.f l.i
-
-abbrev pub decreases-loop-i : goal.decreases-loop-i
-decreases-loop-i l = l.i

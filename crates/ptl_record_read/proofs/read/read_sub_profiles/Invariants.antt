@@ -1,5 +1,5 @@
 -- `read_sub_profiles` returns the sub-profiles: the loop stores one number in each turn.
-use Prim.Native.Nat.{◌-◌, ◌≤◌}
+use Prim.Native.Nat.{◌≤◌}
 use mathlib.Core.Path.{◌≡◌}
 use Rattle.ptl.specs.Ptl.{padded}
 use Rattle.ptl_record.specs.inner.Places.{words}
@@ -7,6 +7,3 @@ use Rattle.ptl_record_read.proofs.read.read_sub_profiles.Given as goal
 
 abbrev pub invariant-loop-k : goal.invariant-loop-k
 invariant-loop-k l = (l.k ≤ l.n) × (l.a ≡ padded 255 0 (words l.k l.s l.at))
-
-abbrev pub decreases-loop-k : goal.decreases-loop-k
-decreases-loop-k l = l.n - l.k

@@ -1,4 +1,5 @@
 -- `flag_byte` returns the byte of flags: the loop shifts them in from the top.
+use native.Mathlib.Omega.{arith}
 use borrow.Author.Rules.{rules}
 use Rattle.ptl_record.specs.Write.{flag_byte}
 use Rattle.ptl_record_write.proofs.Stores.{flag_more}
@@ -11,5 +12,6 @@ loop-i-init c =
 
 pub loop-i-preserved : goal.loop-i-preserved
 loop-i-preserved c =
-    let a = c.args in
-    (search rules, search rules, rw (flag_more a.p c.loop-i.i, c.bit_of.ensures.0, c.has_level.ensures, c.loop-i.invariant.2))
+    let e = flag_more c.args.p c.loop-i.i in
+    let b = rw c.has_level.ensures at c.from.ensures in
+    grind (arith, e, b)

@@ -12,7 +12,6 @@ loop-i-init c =
 
 pub loop-i-preserved : goal.loop-i-preserved
 loop-i-preserved c =
-    let h = c.has_level.ensures in
-    let b = rw h at c.bit_of.ensures.0 in
     let e = levels_counted c.args.p c.loop-i.i in
-    (search rules, search rules, omega (arith, e, b, c.wide-n.ensures.0, c.loop-i.invariant))
+    let b = rw c.has_level.ensures at c.from-n.ensures in
+    grind (arith, e, b)

@@ -1,5 +1,5 @@
 -- `levels_len` counts the levels that are written.
-use Prim.Native.Nat.{◌-◌, ◌≤◌}
+use Prim.Native.Nat.{◌≤◌}
 use mathlib.Core.Path.{◌≡◌}
 use lib.ListN.{length}
 use Rattle.ptl_record.specs.Write.{level_bytes}
@@ -7,6 +7,3 @@ use Rattle.ptl_record_write.proofs.write.levels_len.Given as goal
 
 abbrev pub invariant-loop-i : goal.invariant-loop-i
 invariant-loop-i l = (l.i ≤ l.m) × (l.n ≤ l.i) × (l.n ≡ length (level_bytes l.p l.i))
-
-abbrev pub decreases-loop-i : goal.decreases-loop-i
-decreases-loop-i l = l.m - l.i

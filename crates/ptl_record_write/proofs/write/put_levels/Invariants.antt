@@ -8,6 +8,3 @@ use Rattle.ptl_record_write.proofs.write.put_levels.Given as goal
 
 abbrev pub invariant-loop-i : goal.invariant-loop-i
 invariant-loop-i l = (l.i ≤ l.m) × (l.w + length (level_bytes l.p l.i) ≡ l.at + length (level_bytes l.p l.m)) × (sets l.out l.w (level_bytes l.p l.i) ≡ sets l.initial.out l.at (level_bytes l.p l.m))
-
-abbrev pub decreases-loop-i : goal.decreases-loop-i
-decreases-loop-i l = l.i

@@ -5,8 +5,5 @@ use lib.ListN.{length, drop}
 use Rattle.rbsp.specs.Rbsp.{rbsp, unescape}
 use Rattle.rbsp.proofs.fill.rbsp_len.Given as goal
 
-abbrev pub invariant-loop-i : goal.invariant-loop-i
-invariant-loop-i l = (l.i ≤ length l.payload) × (l.zeros ≤ l.i) × (l.n ≤ l.i) × (length (rbsp l.payload) ≡ l.n + length (unescape l.zeros (drop l.i l.payload)))
-
-abbrev pub decreases-loop-i : goal.decreases-loop-i
-decreases-loop-i l = length l.payload - l.i
+abbrev pub invariant-loop-b : goal.invariant-loop-b
+invariant-loop-b l = (l.b-index ≤ length l.payload) × (l.zeros ≤ l.b-index) × (l.n ≤ l.b-index) × (length (rbsp l.payload) ≡ l.n + length (unescape l.zeros (drop l.b-index l.payload)))

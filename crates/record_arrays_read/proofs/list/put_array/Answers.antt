@@ -16,22 +16,22 @@ returns-in_default c =
 pub put_units-stored-requires : goal.put_units-stored-requires
 put_units-stored-requires c =
     let found : let a = c.args in
-    HeadAt a.codec a.«record».now a.at c.in-Head.head c.in-Head.units =
-    head_at _ _ _ c.array_head.result c.array_head.ensures _ _ c.in-Head.is in
+    HeadAt a.codec a.«record».now a.at c.in-Some.head c.in-Some.units =
+    head_at _ _ _ c.array_head.result c.array_head.ensures _ _ c.in-Some.is in
     let h = found in
     (omega arith, c.requires.0, h.inside, stores_units c.args.codec c.args.«record».now c.args.at _ _ h.read _ c.args.to c.requires.1)
 
 pub put_array_head-requires : goal.put_array_head-requires
 put_array_head-requires c =
     let found : let a = c.args in
-    HeadAt a.codec a.«record».now a.at c.in-Head.head c.in-Head.units =
-    head_at _ _ _ c.array_head.result c.array_head.ensures _ _ c.in-Head.is in
+    HeadAt a.codec a.«record».now a.at c.in-Some.head c.in-Some.units =
+    head_at _ _ _ c.array_head.result c.array_head.ensures _ _ c.in-Some.is in
     head_room c.args.codec c.args.«record».now c.args.at _ _ (found).read _ c.args.to c.requires.1 _ c.put_units-stored.result c.put_units-stored.ensures
 
 pub returns : goal.returns
 returns c =
     let found : let a = c.args in
-    HeadAt a.codec a.«record».now a.at c.in-Head.head c.in-Head.units =
-    head_at _ _ _ c.array_head.result c.array_head.ensures _ _ c.in-Head.is in
+    HeadAt a.codec a.«record».now a.at c.in-Some.head c.in-Some.units =
+    head_at _ _ _ c.array_head.result c.array_head.ensures _ _ c.in-Some.is in
     stored_array c.args.codec c.args.«record».now c.args.at _ _ (found).read _ c.args.to c.requires.1 _ c.put_units-stored.result c.put_units-stored.ensures _
     c.put_array_head.ensures

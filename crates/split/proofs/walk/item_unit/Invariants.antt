@@ -7,8 +7,8 @@ use Rattle.boxes.proofs.Walk.{total}
 use Rattle.split.specs.inner.Walk.{item_units_from}
 use Rattle.split.proofs.walk.item_unit.Given as goal
 
-abbrev pub invariant-loop-a : goal.invariant-loop-a
-invariant-loop-a l = (l.at ≤ length l.item) × (l.skip < total (item_units_from l.size l.item l.at)) × (found (item_units_from l.size l.item l.at) l.skip ≡ found (item_units_from l.size l.item 0) l.k)
+abbrev pub invariant-loop-step : goal.invariant-loop-step
+invariant-loop-step l = (l.at ≤ length l.item) × (l.skip < total (item_units_from l.size l.item l.at)) × (found (item_units_from l.size l.item l.at) l.skip ≡ found (item_units_from l.size l.item 0) l.k)
 
-abbrev pub decreases-loop-a : goal.decreases-loop-a
-decreases-loop-a l = length l.item - l.at
+abbrev pub decreases-loop-step : goal.decreases-loop-step
+decreases-loop-step l = length l.item - l.at

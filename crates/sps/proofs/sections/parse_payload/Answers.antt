@@ -2,13 +2,11 @@
 use Prim.Native.Nat.{ℕ}
 use mathlib.Core.Path.{ap, ◌∙◌}
 use lib.ListN.{length-replicate}
-use Rattle.params.specs.inner.Answers.{read_or}
+use Rattle.parse.specs.Parse.{outcome}
 use Rattle.params.proofs.Look.{enough}
-use Rattle.sps.specs.Sps.{sps_head, zero_sps}
+use Rattle.sps.specs.Sps.{sps_head}
 use Rattle.sps.proofs.Look.{sps_looks}
 use Rattle.sps.proofs.sections.parse_payload.Goals as goal
 
 pub returns : goal.returns
-returns c =
-    c.parse_front.ensures
-    ∙ ap (read_or zero_sps) (enough sps_head 1132 sps_looks _ _ _ _ (length-replicate {A = ℕ} 1132 0) c.fill_rbsp-n.ensures)
+returns c = c.parse_front.ensures ∙ ap outcome (enough sps_head 1132 sps_looks _ _ _ _ (length-replicate {A = ℕ} 1132 0) c.fill_rbsp-n.ensures)

@@ -6,7 +6,5 @@ use Rattle.unit_list.proofs.length.two.Goals as goal
 pub returns : goal.returns
 returns c =
     let a = c.args in
-    let x = c.wide.ensures in
-    let y = c.wide-2.ensures in
     let b = be_two a.s.now a.at in
-    (omega (arith, x.0, y.0), omega (arith, x.1, y.1))
+    (omega arith, omega arith)

@@ -1,2 +1,0 @@
--- Internal: what the contracts of internal functions say. No public definition needs it.
-pub mod Question

@@ -1,6 +1,0 @@
--- The measure is how many characters are left.
-use Rattle.std.proofs.Common.{length, ◌-◌}
-use Rattle.replay_text.proofs.text.put_all.Given as goal
-
-abbrev pub decreases-loop-i : goal.decreases-loop-i
-decreases-loop-i l = length l.chars - l.i

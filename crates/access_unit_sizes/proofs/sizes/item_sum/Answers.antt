@@ -43,6 +43,5 @@ returns c =
 
 pub returns-in_err-step : goal.returns-in_err-step
 returns-in_err-step c =
-    let a = c.args in
-    passed_answer c.from_residual.result _ c.from_residual.ensures.1 ∙ summing_refused _ _ _ _ _ c.loop-step.invariant.1 _ (over_refused a.size a.target a.item.now _ _
-    (found_refusal _ _ _ _ c.item_step.ensures _ c.in_err-step.was))
+    passed_answer c.from_residual.result _ c.from_residual.ensures.1 ∙ summing_refused _ _ _ _ _ c.loop-step.invariant.1 _
+    (over_refused c.args.size c.args.target c.args.item.now _ _ (found_refusal _ _ _ _ c.item_step.ensures _ c.in_err-step.was))

@@ -9,8 +9,7 @@ use lib.Dec.{leb}
 use lib.ListN.{length, take, length-map}
 use lib.Seq.{take-length}
 use borrow.Author.Tests.{le-leb, lt-leb}
-use Rattle.std.specs.Prelude.{if◌then◌else◌, Result, Ok, Err}
-use Rattle.error.specs.Refusals.{number_of}
+use Rattle.std.specs.Prelude.{if◌then◌else◌, Result, Ok}
 use Rattle.error.specs.declared.Refusal.{Refusal}
 use Rattle.parse.specs.Outcome.{Outcome, accept, refuse, and_then, overlay}
 use Rattle.boxes.specs.Walk.{count_found}
@@ -82,11 +81,8 @@ module _ (o : Outcome (List Entry)) (room : ℕ) where
     pub fitting_room : n ≤ room → accept n ≡ count_found (and_then o (fitting room))
     fitting_room h = rw (by_count, le-leb n room h)
 
--- a list starts to be walked over: its entries are those after the first place; there are none where it does not start
+-- a list starts to be walked over: its entries are those after its start
 module _ (s : List ℕ) (r : Result ListCursor Refusal) (said : (started s r ≡ typed_list s) × (arrays_started s r ≡ decode s) × StartFits s r) where
-  pub start_unread : (e : Refusal) → r ≡ Err e → entries_in s ≡ []
-  start_unread e g = let f : refuse (number_of e) ≡ typed_list s = ap (started s) (sym g) ∙ said.0 in ap entries_found (sym f)
-
   module _ (c : ListCursor) (g : r ≡ Ok c) where
     pub start_entries : entries_from s c ≡ entries_in s
     start_entries = ap entries_found (start_typed s r said c g)

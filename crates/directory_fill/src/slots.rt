@@ -6,7 +6,7 @@ ghost use Rattle.directory_fill.specs.inner.Entries.{entries_in, entries_left};
 use directory::Entry;
 use unit_list::ListWalk;
 
-// Stores the entries of the units that are left of a walk, one in each slot; there are as many.
+// Stores the entries of the first units that are left of a walk, one in each slot. As many units are left, so no step is refused.
 fn fill_slots(walk: ListWalk, slots: &mut [Entry])
     requires { length slots.old ≤ length (entries_left walk) }
     ensures { slots.new ≡ take (length slots.old) (entries_left walk.entry) }

@@ -7,24 +7,23 @@ use mathlib.Core.List.{List, [], ◌∷◌, map, map-append}
 use native.Mathlib.Omega.{arith}
 use lib.Dec.{leb}
 use lib.ListN.{length, take, length-map}
-use lib.Seq.{take_all}
+use lib.Seq.{take-length}
 use borrow.Author.Tests.{le-leb, lt-leb}
-use Rattle.std.specs.Prelude.{if◌then◌else◌, Result, Ok, Err}
-use Rattle.error.specs.Refusals.{number_of}
+use Rattle.std.specs.Prelude.{if◌then◌else◌, Result, Ok}
 use Rattle.error.specs.declared.Refusal.{Refusal}
 use Rattle.parse.specs.Outcome.{Outcome, accept, refuse, and_then, overlay}
 use Rattle.boxes.specs.Walk.{count_found}
 use Rattle.boxes.specs.declared.Span.{Span}
 use Rattle.unit_list.specs.UnitList.{Array, decode, units_of}
 use Rattle.unit_list.specs.Answers.{list_units}
-use Rattle.unit_list.specs.inner.Walk.{TypedUnit, typed, typed_units, typed_list, typed_units_from, started, arrays_started, StartFits}
+use Rattle.unit_list.specs.inner.Walk.{TypedUnit, typed, typed_units, typed_list, started, arrays_started, StartFits}
 use Rattle.unit_list.specs.declared.ListCursor.{ListCursor}
 use Rattle.unit_list.proofs.Turns.{start_typed}
-use Rattle.directory.specs.Directory.{entry_of, entries_of, list_entries, fitting, filled, fill_directory, totals_of}
+use Rattle.directory.specs.Directory.{entry_of, entries_of, list_entries, fitting, filled, fill_directory}
 use Rattle.directory.specs.inner.Entries.{TypesFit}
 use Rattle.directory.specs.declared.Entry.{Entry}
 use Rattle.directory.proofs.ListEntries.{span_of, entries_spans, types_decoded, fitted}
-use Rattle.directory_fill.specs.inner.Entries.{entry_of_typed, entries_found, entries_in, entries_from, Reads}
+use Rattle.directory_fill.specs.inner.Entries.{entry_of_typed, entries_found, entries_in, entries_from, Reads, CountedOf, totals_for}
 
 -- the entries of the units that the walk comes to are those of the arrays
 pub entries_typed : (xs : List (Array Span)) → map entry_of_typed (typed_units xs) ≡ entries_of xs
@@ -82,45 +81,40 @@ module _ (o : Outcome (List Entry)) (room : ℕ) where
     pub fitting_room : n ≤ room → accept n ≡ count_found (and_then o (fitting room))
     fitting_room h = rw (by_count, le-leb n room h)
 
--- the walk over a list starts, and a directory has room for its n entries
-module _ (s : List ℕ) (r : Result ListCursor Refusal) (said : (started s r ≡ typed_list s) × (arrays_started s r ≡ decode s) × StartFits s r)
-    (d : List Entry) (totals : List ℕ) where
-  pub start_unread : (e : Refusal) → r ≡ Err e → (refuse (number_of e), (d, totals)) ≡ fill_directory s d totals
+-- a list starts to be walked over: its entries are those after its start
+module _ (s : List ℕ) (r : Result ListCursor Refusal) (said : (started s r ≡ typed_list s) × (arrays_started s r ≡ decode s) × StartFits s r) where
+  module _ (c : ListCursor) (g : r ≡ Ok c) where
+    pub start_entries : entries_from s c ≡ entries_in s
+    start_entries = ap entries_found (start_typed s r said c g)
+
+    -- the units after its start read, where those of the list do
+    pub start_reads : (us : List TypedUnit) → typed_list s ≡ accept us → Reads s c
+    start_reads us t = record { units = us; reads = start_typed s r said c g ∙ t; types = types_typed s us t }
+
+-- a list has n entries, and a directory has room for them
+module _ (s : List ℕ) (d : List Entry) (n : ℕ) (o : accept n ≡ count_found (and_then (list_entries s) (fitting (length d)))) where
+  entries_at : (xs : List (Array Span)) → decode s ≡ accept xs → entries_in s ≡ entries_of xs
+  entries_at xs e = list_entries_lem s (entries_of xs) (rw e)
+
+  pub number_fits : (n ≤ length d) × (n ≤ length (entries_in s))
+  number_fits =
+      fitted s (length d) (λ o. accept n ≡ count_found o → (n ≤ length d) × (n ≤ length (entries_in s)))
+      (λ m e. absurd (let z : ◌≡◌ {A = ℕ} 0 1 = cc in omega arith))
+      (λ xs e h f. let l : n ≡ length (entries_of xs) = cc in rw (l, entries_at xs e) (h, omega arith)) o
+
+  pub counted_reads : CountedOf s (accept n)
+  counted_reads =
+      fitted s (length d) (λ o. accept n ≡ count_found o → CountedOf s (accept n))
+      (λ m e. absurd (let z : ◌≡◌ {A = ℕ} 0 1 = cc in omega arith)) (λ xs e h f. (typed_units xs, rw e)) o
+
+  -- filling: the count, the entries that are stored, and the totals
+  pub filled_is : (totals : List ℕ) → (accept n, (overlay (take n (entries_in s)) d, totals_for (accept n) s totals)) ≡ fill_directory s d totals
   unfolding fill_directory
-  start_unread e g =
-      let f : refuse (number_of e) ≡ decode s = ap (arrays_started s) (sym g) ∙ said.1 in
-      rw (← f)
-
-  module _ (c : ListCursor) (g : r ≡ Ok c) (n : ℕ) (o : accept n ≡ count_found (and_then (list_entries s) (fitting (length d)))) where
-    typed_at : typed_units_from s c ≡ typed_list s
-    typed_at = start_typed s r said c g
-
-    entries_at : (xs : List (Array Span)) → decode s ≡ accept xs → entries_from s c ≡ entries_of xs
-    entries_at xs e = ap entries_found typed_at ∙ list_entries_lem s (entries_of xs) (rw e)
-
-    -- the units after its start read
-    pub start_reads : Reads s c
-    start_reads =
-        fitted s (length d) (λ o. accept n ≡ count_found o → Reads s c) (λ m e. absurd (let z : ◌≡◌ {A = ℕ} 0 1 = cc in omega arith))
-        (λ xs e h f.
-        let t : typed_list s ≡ accept (typed_units xs) = rw e in
-        record { units = typed_units xs; reads = typed_at ∙ t; types = types_typed s (typed_units xs) t }) o
-
-    start_room : length (entries_from s c) ≤ length d
-    start_room =
-        fitted s (length d) (λ o. accept n ≡ count_found o → length (entries_from s c) ≤ length d)
-        (λ m e. absurd (let z : ◌≡◌ {A = ℕ} 0 1 = cc in omega arith)) (λ xs e h f. rw (entries_at xs e) h) o
-
-    -- filling: the count, the entries that are stored, and the totals
-    all_filled : (accept n, (overlay (entries_from s c) d, totals_of (entries_from s c))) ≡ fill_directory s d totals
-    unfolding fill_directory
-    all_filled =
-        fitted s (length d)
-        (λ o. accept n ≡ count_found o → (accept n, (overlay (entries_from s c) d, totals_of (entries_from s c))) ≡ filled o d totals)
-        (λ m e. absurd (let z : ◌≡◌ {A = ℕ} 0 1 = cc in omega arith)) (λ xs e h f. rw (entries_at xs e, f)) o
-
-    pub start_filled : (accept n, (overlay (take (length d) (entries_from s c)) d, totals_of (entries_from s c))) ≡ fill_directory s d totals
-    start_filled = rw (take_all (length d) (entries_from s c) start_room) all_filled
+  filled_is totals =
+      fitted s (length d)
+      (λ o. accept n ≡ count_found o → (accept n, (overlay (take n (entries_in s)) d, totals_for (accept n) s totals)) ≡ filled o d totals)
+      (λ m e. absurd (let z : ◌≡◌ {A = ℕ} 0 1 = cc in omega arith))
+      (λ xs e h f. let l : n ≡ length (entries_of xs) = cc in rw (entries_at xs e, l, take-length (entries_of xs))) o
 
 -- a list that has no room, or does not read
 pub unfitting : (s : List ℕ) (d : List Entry) (totals : List ℕ) (n : ℕ) → refuse n ≡ count_found (and_then (list_entries s) (fitting (length d)))

@@ -1,8 +1,9 @@
 -- Laws of a walk over the units of a list that reads: its start, each unit that it comes to, and its end.
-use Prim.Native.Nat.{ℕ, ◌≤◌}
-use mathlib.Core.Path.{◌≡◌, refl, sym, ap, ◌∙◌}
+use Prim.Native.Nat.{ℕ, ◌≤◌, ◌<◌}
+use mathlib.Core.Path.{◌≡◌, refl, sym, ap, subst, ◌∙◌}
 use mathlib.Core.List.{List, ◌∷◌, map}
 use native.Mathlib.Omega.{arith}
+use lib.ListN.{length}
 use Rattle.parse.specs.Outcome.{Outcome, accept, refuse}
 use Rattle.parse.specs.inner.Walk.{more}
 use Rattle.boxes.specs.declared.Span.{Span}
@@ -49,3 +50,12 @@ module _ (s : List ℕ) (here : ListCursor) where
       entries = ap entries_found h.reads ∙ ap (map entry_of_typed) rest.all
           ∙ ap (λ (es : List Entry). entry_of next.unit_type a ∷ es) (sym (ap entries_found rest.reads));
     }
+
+-- where entries are left, that of the unit found is the first of them
+pub entries_turn : (s : List ℕ) (here : ListCursor) (a : Span) (next : ListCursor) → ListTurn s here a next → 0 < length (entries_from s here)
+    → entries_from s here ≡ entry_of next.unit_type a ∷ entries_from s next
+entries_turn s here a next turn = go _ (typed_units_from s next) (typed_units_from s here) turn.typed
+  where
+    go : (u : TypedUnit) (o o' : Outcome (List TypedUnit)) → more u o ≡ o' → 0 < length (entries_found o') → entries_found o' ≡ entry_of_typed u ∷ entries_found o
+    go u (accept us) o' e h = ap entries_found (sym e)
+    go u (refuse n) o' e h = absurd (let z : 0 < length (entries_found (refuse n)) = subst (λ (x : Outcome (List TypedUnit)). 0 < length (entries_found x)) (sym e) h in omega arith)

@@ -3,8 +3,8 @@ ghost use Rattle.std.specs.Prelude.{◌≡◌};
 ghost use Rattle.parse.specs.Answers.{answer_of};
 ghost use Rattle.parse.specs.Outcome.{and_then};
 ghost use Rattle.boxes.specs.Walk.{count_found};
-ghost use Rattle.directory.specs.Directory.{list_entries, fitting, totals_of};
-ghost use Rattle.directory_fill.specs.inner.Entries.{entries_left, LeftReads, LeftAdds, totals_plus};
+ghost use Rattle.directory.specs.Directory.{list_entries, fitting};
+ghost use Rattle.directory_fill.specs.inner.Entries.{entries_left, LeftAdds, totals_plus, CountedOf, totals_for};
 
 use directory::TYPES;
 use error::Refusal;
@@ -34,11 +34,17 @@ fn add_units(walk: ListWalk, totals: &mut [usize; TYPES])
     }
 }
 
-// Sets the totals to those of the units of a walk at a list's start.
-pub fn put_totals(walk: ListWalk, totals: &mut [usize; TYPES])
-    requires { LeftReads walk }
-    ensures { totals.new ≡ totals_of (entries_left walk.entry) }
+// Sets the totals to those of a list that was counted; where it was refused they stay as they are.
+pub fn put_totals(list: &[u8], counted: Result<usize, Refusal>, totals: &mut [usize; TYPES])
+    requires { CountedOf list.now (answer_of counted) }
+    ensures { totals.new ≡ totals_for (answer_of counted) list.now totals.old }
 {
+    let Ok(_) = counted else {
+        return;
+    };
+    let Ok(walk) = ListWalk::start(list) else {
+        return;
+    };
     *totals = [0; TYPES];
     add_units(walk, totals);
 }

@@ -10,7 +10,6 @@ ghost use Rattle.directory.specs.Directory.{fill_directory};
 
 use directory::{Entry, TYPES};
 use error::Refusal;
-use unit_list::ListWalk;
 
 // Fills a directory with the units of a list, and the totals with the number of units of each type; the count is that of the entries.
 // Entries after the last keep their contents. Refusals: 23, 21, 28.
@@ -18,9 +17,8 @@ pub fn fill(list: &[u8], dir: &mut [Entry], totals: &mut [usize; TYPES]) -> Resu
     ensures { (answer_of result, (dir.new, totals.new))
         ≡ fill_directory list.now dir.old totals.old }
 {
-    let walk = ListWalk::start(list)?;
     let n = entries::fitting(list, dir.len())?;
-    slots::fill_entries(walk, dir);
-    entries::put_totals(walk, totals);
+    slots::fill_entries(list, dir, n);
+    entries::put_totals(list, Ok(n), totals);
     Ok(n)
 }

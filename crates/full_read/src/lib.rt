@@ -8,7 +8,6 @@ ghost use Rattle.parse.specs.Answers.{answer_of};
 ghost use Rattle.parse.specs.Outcome.{lent_output};
 ghost use Rattle.full.specs.Read.{parse_full};
 ghost use Rattle.full.specs.Strict.{parse_strict};
-ghost use Rattle.full_read.specs.inner.Strict.{strict_rules};
 
 use error::{LARGEST_INPUT, Refusal};
 use full::VvcConfig;
@@ -37,24 +36,21 @@ pub fn parse(record: &[u8], out: &mut [u8]) -> Result<FullRead, Refusal>
     })
 }
 
-// Tests the rules of strict reading. A record that `parse` refuses breaks none.
-fn check_rules(record: &[u8]) -> Result<(), Refusal>
-    ensures { answer_of result ≡ strict_rules «record».now }
-{
-    if LARGEST_INPUT < record.len() {
-        return Ok(());
-    }
-    match head::read_head(record) {
-        Ok((head, at)) => rules::check(record, head, at),
-        Err(_) => Ok(()),
-    }
-}
-
 // Reads a full record as `parse` does, if its reserved bits are the standard's and its arrays have types that a record may have. The rules are
 // tested before a byte is written. Refusals: 23, then in byte order 3, 1 and 2, then 25, 26, 20.
 pub fn parse_strict(record: &[u8], out: &mut [u8]) -> Result<FullRead, Refusal>
     ensures { (answer_of result, out.new) ≡ lent_output (parse_strict «record».now) out.old }
 {
-    check_rules(record)?;
-    parse(record, out)
+    if LARGEST_INPUT < record.len() {
+        return parse(record, out);
+    }
+    // As in `parse`; the head is read once, which is quicker than to test the rules first and then call `parse`.
+    let (head, end) = head::read_head(record)?;
+    rules::check(record, head, end)?;
+    let (consumed, list_length) = arrays::read_list(Codec::Vvc, record, end, out)?;
+    Ok(ParsedRecord {
+        head,
+        consumed,
+        list_length,
+    })
 }

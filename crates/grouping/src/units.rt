@@ -8,7 +8,7 @@ ghost use Rattle.nal.specs.Kinds.{is_record_type};
 ghost use Rattle.unit_list.specs.Answers.{list_units};
 ghost use Rattle.unit_list.specs.inner.Walk.{Fits, units_left, two_or_four-prop};
 ghost use Rattle.grouping.specs.Grouping.{having_type, first_element};
-ghost use Rattle.grouping.specs.inner.Units.{Readable, found_unit, held_units};
+ghost use Rattle.grouping.specs.inner.Units.{Readable, found_unit, FoundPart, held_units};
 
 use boxes::{Span, place};
 use error::Refusal;
@@ -59,7 +59,8 @@ impl<'a> TypedUnits<'a> {
     // The first unit of a record kind, if there is one; t is the type of that kind.
     pub fn first_having(self, t: u8) -> Option<&'a [u8]>
         requires { is_record_type t ≡ true }
-        ensures { found_unit result ≡ first_element (having_type t (units_of self.entry)) }
+        ensures { (found_unit result ≡ first_element (having_type t (units_of self.entry)))
+            × FoundPart self.entry.list result }
     {
         for (unit, found) in self {
             if header::is_record_of(found, t) {

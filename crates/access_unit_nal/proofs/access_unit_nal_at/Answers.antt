@@ -11,4 +11,5 @@ pub returns : goal.returns
 returns c =
     let a = c.args in
     let e = access_unit_is a.head a.list.now a.item.now a.tols _ c.target_of-target.ensures in
-    (c.source_at.ensures.0 ∙ ap (λ (o : Outcome (List Source)). nth_found o a.k) e, c.source_at.ensures.1)
+    let s = c.source_at.ensures in
+    (s.0 ∙ ap (λ (o : Outcome (List Source)). nth_found o a.k) e, s.1)

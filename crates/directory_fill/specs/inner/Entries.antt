@@ -5,7 +5,7 @@ use Rattle.unit_list.specs.UnitList.{largest_type}
 use Rattle.unit_list.specs.inner.Walk.{TypedUnit, typed_list, typed_units_from}
 use Rattle.unit_list.specs.declared.ListCursor.{ListCursor}
 use Rattle.unit_list.specs.declared.ListWalk.{ListWalk}
-use Rattle.directory.specs.Directory.{entry_of, entries_of_type, table_from}
+use Rattle.directory.specs.Directory.{entry_of, entries_of_type, table_from, totals_of}
 use Rattle.directory.specs.inner.Entries.{TypesFit}
 use Rattle.directory.specs.declared.Entry.{Entry}
 
@@ -36,12 +36,9 @@ pub record Adds (s : List ℕ) (c : ListCursor) (totals : List ℕ) : Type 0 whe
   pub all : length totals ≡ suc largest_type
   pub few : (t : ℕ) → get_or totals t 0 ≤ c.at
 
--- the same of a walk: the entries of the units that are left, that these read, and that they can be added
+-- the same of a walk: the entries of the units that are left, and that they can be added
 abbrev pub entries_left : ListWalk → List Entry
 entries_left w = entries_from w.list.now w.cursor
-
-abbrev pub LeftReads : ListWalk → Type 0
-LeftReads w = Reads w.list.now w.cursor
 
 abbrev pub LeftAdds : ListWalk → List ℕ → Type 0
 LeftAdds w totals = Adds w.list.now w.cursor totals
@@ -49,3 +46,13 @@ LeftAdds w totals = Adds w.list.now w.cursor totals
 -- totals to which entries were added
 unfoldable pub totals_plus : List ℕ → List Entry → List ℕ
 totals_plus totals es = table_from 0 (suc largest_type) (λ t. get_or totals t 0 + length (entries_of_type t es))
+
+-- a count is that of a list that reads
+abbrev pub CountedOf : List ℕ → Outcome ℕ → Type 0
+CountedOf s (accept n) = (us : List TypedUnit) × (typed_list s ≡ accept us)
+CountedOf s (refuse e) = Unit {0}
+
+-- the totals after a list was counted; as they were on a refusal
+abbrev pub totals_for : Outcome ℕ → List ℕ → List ℕ → List ℕ
+totals_for (accept n) s totals = totals_of (entries_in s)
+totals_for (refuse e) s totals = totals

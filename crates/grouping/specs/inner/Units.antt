@@ -2,7 +2,7 @@
 use Rattle.std.specs.Prelude.{ℕ, ◌+◌, ◌≤◌, ◌≡◌, List, [], ◌∷◌, map, length, Option, None, Some}
 use Rattle.std.specs.Borrow.{Bor}
 use Rattle.parse.specs.Outcome.{Outcome, accept, refuse, and_then}
-use Rattle.boxes.specs.Parts.{held}
+use Rattle.boxes.specs.Parts.{held, PartOf}
 use Rattle.boxes.specs.declared.Span.{Span}
 use Rattle.unit_list.specs.inner.Walk.{Fits, units_left}
 use Rattle.unit_list.specs.declared.ListCursor.{ListCursor}
@@ -30,6 +30,11 @@ pub record Turn (left : List (List ℕ)) (p : ℕ) (u : List ℕ) (rest : List (
 abbrev pub found_unit : Option (Bor (List ℕ)) → Option (List ℕ)
 found_unit (Some a) = Some a.now
 found_unit None = None
+
+-- where a unit was found, it is a part of the list
+abbrev pub FoundPart : Bor (List ℕ) → Option (Bor (List ℕ)) → Type 0
+FoundPart list (Some r) = (a : Span) × PartOf r list a × (a.start + a.len ≤ length list.now)
+FoundPart list None = Unit {0}
 
 -- the bytes of the units at spans that were found
 abbrev pub held_units : List ℕ → Outcome (List Span) → Outcome (List (List ℕ))

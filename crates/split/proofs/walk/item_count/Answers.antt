@@ -5,7 +5,7 @@ use Rattle.std.specs.Prelude.{Ok}
 use Rattle.parse.proofs.PassedOn.{passed_on}
 use Rattle.split.specs.inner.Walk.{item_units_from}
 use Rattle.split.proofs.Walks.{count_on, count_end, count_refused}
-use Rattle.split.proofs.Items.{Turn, found_unit_lem, found_end, found_refusal}
+use Rattle.split.proofs.Items.{found_unit_lem, found_end, found_refusal}
 use Rattle.split.proofs.walk.item_count.Goals as goal
 
 pub loop-step-smaller : goal.loop-step-smaller

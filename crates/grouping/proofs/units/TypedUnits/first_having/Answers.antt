@@ -14,7 +14,7 @@ use Rattle.grouping.proofs.units.TypedUnits.first_having.Goals as goal
 pub returns : goal.returns
 returns c =
     let t = c.args.t in
-    sym (ap first_element (ap (having_type t) c.in-None.ensures.steps ∙ having_none t)) ∙ ap first_element c.loop-unit.invariant.1
+    (sym (ap first_element (ap (having_type t) c.in-None.ensures.steps ∙ having_none t)) ∙ ap first_element c.loop-unit.invariant.1, tt)
 
 pub returns-then-is_record_of : goal.returns-then-is_record_of
 returns-then-is_record_of c =
@@ -22,8 +22,10 @@ returns-then-is_record_of c =
     c.is_record_of.ensures ∙ record_of_lem _ _ c.requires in
     let u = c.in-Some.ensures.steps in
     let h = having_same c.args.t _ _ _ _ _ u.turn (sym u.type_is ∙ eqb-true _ _ (sym (tested) ∙ c.if-is_record_of.true)) in
-    let i = c.loop-unit.invariant in
-    ap Some (c.part.ensures.holds ∙ ap (λ (s : List ℕ). held s c.in-Some.unit) (sym i.0)) ∙ sym (ap first_element h) ∙ ap first_element i.1
+    let i = c.loop-unit.invariant in (
+      ap Some (c.part.ensures.holds ∙ ap (λ (s : List ℕ). held s c.in-Some.unit) (sym i.0)) ∙ sym (ap first_element h) ∙ ap first_element i.1,
+      (c.in-Some.unit, c.part.ensures, rw i.0 at u.inside),
+    )
 
 pub loop-unit-preserved : goal.loop-unit-preserved
 loop-unit-preserved c =

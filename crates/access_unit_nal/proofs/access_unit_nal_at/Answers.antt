@@ -11,5 +11,4 @@ pub returns : goal.returns
 returns c =
     let a = c.args in
     let e = access_unit_is a.head a.list.now a.item.now a.tols _ c.target_of-target.ensures in
-    let s = c.source_at.ensures in
-    (s.0 ∙ ap (λ (o : Outcome (List Source)). nth_found o a.k) e, s.1)
+    (c.source_at.ensures.0 ∙ ap (λ (o : Outcome (List Source)). nth_found o a.k) e, c.source_at.ensures.1)

@@ -81,15 +81,15 @@ module _ (o : Outcome (List Entry)) (room : ℕ) where
     pub fitting_room : n ≤ room → accept n ≡ count_found (and_then o (fitting room))
     fitting_room h = rw (by_count, le-leb n room h)
 
--- a list starts to be walked over: its entries are those after its start
-module _ (s : List ℕ) (r : Result ListCursor Refusal) (said : (started s r ≡ typed_list s) × (arrays_started s r ≡ decode s) × StartFits s r) where
-  module _ (c : ListCursor) (g : r ≡ Ok c) where
-    pub start_entries : entries_from s c ≡ entries_in s
-    start_entries = ap entries_found (start_typed s r said c g)
+-- the walk over a list starts at c: the entries after c are those of the list
+module _ (s : List ℕ) (r : Result ListCursor Refusal) (said : (started s r ≡ typed_list s) × (arrays_started s r ≡ decode s) × StartFits s r)
+    (c : ListCursor) (g : r ≡ Ok c) where
+  pub start_entries : entries_from s c ≡ entries_in s
+  start_entries = ap entries_found (start_typed s r said c g)
 
-    -- the units after its start read, where those of the list do
-    pub start_reads : (us : List TypedUnit) → typed_list s ≡ accept us → Reads s c
-    start_reads us t = record { units = us; reads = start_typed s r said c g ∙ t; types = types_typed s us t }
+  -- the units after c read where those of the list do
+  pub start_reads : (us : List TypedUnit) → typed_list s ≡ accept us → Reads s c
+  start_reads us t = record { units = us; reads = start_typed s r said c g ∙ t; types = types_typed s us t }
 
 -- a list has n entries, and a directory has room for them
 module _ (s : List ℕ) (d : List Entry) (n : ℕ) (o : accept n ≡ count_found (and_then (list_entries s) (fitting (length d)))) where

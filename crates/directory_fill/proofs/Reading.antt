@@ -1,4 +1,4 @@
--- Laws of a walk over the units of a list that reads: its start, each unit that it comes to, and its end.
+-- Laws of a unit that a walk over a list comes to: its entry is the first of those that are left.
 use Prim.Native.Nat.{ℕ, ◌≤◌, ◌<◌}
 use mathlib.Core.Path.{◌≡◌, refl, sym, ap, subst, ◌∙◌}
 use mathlib.Core.List.{List, ◌∷◌, map}

@@ -34,7 +34,7 @@ fn add_units(walk: ListWalk, totals: &mut [usize; TYPES])
     }
 }
 
-// Sets the totals to those of a list that was counted; where it was refused they stay as they are.
+// Sets the totals to those of a list, by the answer of counting it: where that is a refusal they stay as they are.
 pub fn put_totals(list: &[u8], counted: Result<usize, Refusal>, totals: &mut [usize; TYPES])
     requires { CountedOf list.now (answer_of counted) }
     ensures { totals.new ≡ totals_for (answer_of counted) list.now totals.old }

@@ -41,10 +41,11 @@ pub fn parse(record: &[u8], out: &mut [u8]) -> Result<FullRead, Refusal>
 pub fn parse_strict(record: &[u8], out: &mut [u8]) -> Result<FullRead, Refusal>
     ensures { (answer_of result, out.new) ≡ lent_output (parse_strict «record».now) out.old }
 {
+    // `parse` refuses a record that is too long.
     if LARGEST_INPUT < record.len() {
         return parse(record, out);
     }
-    // As in `parse`; the head is read once, which is quicker than to test the rules first and then call `parse`.
+    // The steps of `parse`, with the rules between them: so the head, of 1.1 KB, is read once.
     let (head, end) = head::read_head(record)?;
     rules::check(record, head, end)?;
     let (consumed, list_length) = arrays::read_list(Codec::Vvc, record, end, out)?;

@@ -11,8 +11,8 @@ use Rattle.unit_list.specs.declared.ListCursor.{ListCursor}
 use Rattle.unit_list.proofs.Turns.{ListTurn}
 use Rattle.directory.specs.Directory.{entry_of}
 use Rattle.directory.specs.declared.Entry.{Entry}
-use Rattle.directory_fill.specs.inner.Entries.{entries_from}
-use Rattle.directory_fill.proofs.Reading.{entries_turn}
+use Rattle.directory_fill.specs.inner.Entries.{entries_from, Reads}
+use Rattle.directory_fill.proofs.Reading.{ReadTurn, read_turn, entries_turn}
 
 -- one entry more stored after those that are done
 stored_next : (done d : List Entry) (k : ℕ) (e : Entry) → k ≡ length done → k < length d
@@ -32,6 +32,17 @@ module _ (s : List ℕ) (c : ListCursor) (d₀ : List Entry) where
     pub all : done ++ entries_from s here ≡ entries_from s c
     pub stored : d ≡ done ++ drop k d₀
 
+  -- one entry more: that of the unit found
+  filling_next : (here : ListCursor) (k : ℕ) (d : List Entry) → Filling here k d → k < length d₀ → (e : Entry) (next : ListCursor)
+      → entries_from s here ≡ e ∷ entries_from s next → Filling next (k + 1) (set d k e)
+  filling_next here k d i room e next f =
+      record {
+        done = i.done ++ (e ∷ []);
+        count = omega (arith, i.count, length-append i.done (e ∷ []));
+        all = append_assoc i.done (e ∷ []) (entries_from s next) ∙ ap (λ (es : List Entry). i.done ++ es) (sym f) ∙ i.all;
+        stored = ap (λ (x : List Entry). set x k e) i.stored ∙ stored_next i.done d₀ k e i.count room;
+      }
+
   module _ (enough : length d₀ ≤ length (entries_from s c)) (here : ListCursor) (k : ℕ) (d : List Entry) (i : Filling here k d) where
     -- entries are left while slots are
     pub filling_some : k < length d₀ → 0 < length (entries_from s here)
@@ -40,14 +51,12 @@ module _ (s : List ℕ) (c : ListCursor) (d₀ : List Entry) where
         = sym (length-append i.done (entries_from s here)) ∙ ap length i.all in
         omega (arith, i.count)
 
-    -- one entry more: that of the unit found
     pub filling_turn : k < length d₀ → (a : Span) (next : ListCursor) → ListTurn s here a next → Filling next (k + 1) (set d k (entry_of next.unit_type a))
-    filling_turn room a next turn =
-        let e : Entry = entry_of next.unit_type a in
-        let f : entries_from s here ≡ e ∷ entries_from s next = entries_turn s here a next turn (filling_some room) in
-        record {
-          done = i.done ++ (e ∷ []);
-          count = omega (arith, i.count, length-append i.done (e ∷ []));
-          all = append_assoc i.done (e ∷ []) (entries_from s next) ∙ ap (λ (es : List Entry). i.done ++ es) (sym f) ∙ i.all;
-          stored = ap (λ (x : List Entry). set x k e) i.stored ∙ stored_next i.done d₀ k e i.count room;
-        }
+    filling_turn room a next turn = filling_next here k d i room _ next (entries_turn s here a next turn (filling_some room))
+
+  -- the same where the units that are left read, however many slots there are; those after the unit read too
+  pub filling_read : (here : ListCursor) (k : ℕ) (d : List Entry) → Filling here k d → Reads s here → k < length d₀ → (a : Span) (next : ListCursor)
+      → ListTurn s here a next → Filling next (k + 1) (set d k (entry_of next.unit_type a)) × Reads s next
+  filling_read here k d i h room a next turn =
+      let t : ReadTurn s here a next = read_turn s here h a next turn in
+      (filling_next here k d i room _ next t.entries, t.units)

@@ -7,9 +7,10 @@ use mathlib.Core.List.{List, [], ◌∷◌, map, map-append}
 use native.Mathlib.Omega.{arith}
 use lib.Dec.{leb}
 use lib.ListN.{length, take, length-map}
-use lib.Seq.{take-length}
+use lib.Seq.{take-length, take_all}
 use borrow.Author.Tests.{le-leb, lt-leb}
-use Rattle.std.specs.Prelude.{if◌then◌else◌, Result, Ok}
+use Rattle.std.specs.Prelude.{if◌then◌else◌, Result, Ok, Err}
+use Rattle.error.specs.Refusals.{number_of}
 use Rattle.error.specs.declared.Refusal.{Refusal}
 use Rattle.parse.specs.Outcome.{Outcome, accept, refuse, and_then, overlay}
 use Rattle.boxes.specs.Walk.{count_found}
@@ -19,7 +20,7 @@ use Rattle.unit_list.specs.Answers.{list_units}
 use Rattle.unit_list.specs.inner.Walk.{TypedUnit, typed, typed_units, typed_list, started, arrays_started, StartFits}
 use Rattle.unit_list.specs.declared.ListCursor.{ListCursor}
 use Rattle.unit_list.proofs.Turns.{start_typed}
-use Rattle.directory.specs.Directory.{entry_of, entries_of, list_entries, fitting, filled, fill_directory}
+use Rattle.directory.specs.Directory.{entry_of, entries_of, list_entries, fitting, filled, fill_directory, totals_of}
 use Rattle.directory.specs.inner.Entries.{TypesFit}
 use Rattle.directory.specs.declared.Entry.{Entry}
 use Rattle.directory.proofs.ListEntries.{span_of, entries_spans, types_decoded, fitted}
@@ -116,6 +117,15 @@ module _ (s : List ℕ) (d : List Entry) (n : ℕ) (o : accept n ≡ count_found
       (λ m e. absurd (let z : ◌≡◌ {A = ℕ} 0 1 = cc in omega arith))
       (λ xs e h f. let l : n ≡ length (entries_of xs) = cc in rw (entries_at xs e, l, take-length (entries_of xs))) o
 
+  -- a directory that has room takes all entries
+  all_taken : take (length d) (entries_in s) ≡ take n (entries_in s)
+  all_taken =
+      fitted s (length d) (λ o. accept n ≡ count_found o → take (length d) (entries_in s) ≡ take n (entries_in s))
+      (λ m e. absurd (let z : ◌≡◌ {A = ℕ} 0 1 = cc in omega arith))
+      (λ xs e h f.
+      let l : n ≡ length (entries_of xs) = cc in
+      rw (entries_at xs e, l) (take_all (length d) (entries_of xs) h ∙ sym (take-length (entries_of xs)))) o
+
 -- a list that has no room, or does not read
 pub unfitting : (s : List ℕ) (d : List Entry) (totals : List ℕ) (n : ℕ) → refuse n ≡ count_found (and_then (list_entries s) (fitting (length d)))
     → (refuse n, (d, totals)) ≡ fill_directory s d totals
@@ -123,3 +133,16 @@ unfolding fill_directory
 unfitting s d totals n =
     fitted s (length d) (λ o. refuse n ≡ count_found o → (refuse n, (d, totals)) ≡ filled o d totals)
     (λ m e. ap (λ (o : Outcome ℕ). (o, (d, totals))) e) (λ xs e h f. absurd (let z : ◌≡◌ {A = ℕ} 0 1 = cc in omega arith))
+
+-- filling by the walk over a list: it does not start, or the directory has room for the n entries after its start
+module _ (s : List ℕ) (r : Result ListCursor Refusal) (said : (started s r ≡ typed_list s) × (arrays_started s r ≡ decode s) × StartFits s r)
+    (d : List Entry) (totals : List ℕ) where
+  pub start_unread : (e : Refusal) → r ≡ Err e → (refuse (number_of e), (d, totals)) ≡ fill_directory s d totals
+  unfolding fill_directory
+  start_unread e g =
+      let f : refuse (number_of e) ≡ decode s = ap (arrays_started s) (sym g) ∙ said.1 in
+      rw (← f)
+
+  module _ (c : ListCursor) (g : r ≡ Ok c) (n : ℕ) (o : accept n ≡ count_found (and_then (list_entries s) (fitting (length d)))) where
+    pub start_filled : (accept n, (overlay (take (length d) (entries_from s c)) d, totals_of (entries_from s c))) ≡ fill_directory s d totals
+    start_filled = rw (start_entries s r said c g, all_taken s d n o) (filled_is s d n o totals)

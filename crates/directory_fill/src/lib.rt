@@ -19,6 +19,6 @@ pub fn fill(list: &[u8], dir: &mut [Entry], totals: &mut [usize; TYPES]) -> Resu
 {
     let n = entries::fitting(list, dir.len())?;
     slots::fill_entries(list, dir, n);
-    entries::put_totals(list, Ok(n), totals);
+    entries::put_counted_totals(list, Ok(n), totals);
     Ok(n)
 }

@@ -14,11 +14,11 @@ returns-in_err-n c =
 pub fill_entries-requires : goal.fill_entries-requires
 fill_entries-requires c = number_fits c.args.list.now c.args.dir.now _ (ap answer_of (sym c.in_ok-n.was) ∙ c.fitting.ensures)
 
-pub put_totals-requires : goal.put_totals-requires
-put_totals-requires c = counted_reads c.args.list.now c.args.dir.now _ (ap answer_of (sym c.in_ok-n.was) ∙ c.fitting.ensures)
+pub put_counted_totals-requires : goal.put_counted_totals-requires
+put_counted_totals-requires c = counted_reads c.args.list.now c.args.dir.now _ (ap answer_of (sym c.in_ok-n.was) ∙ c.fitting.ensures)
 
 pub returns : goal.returns
 returns c =
     let a = c.args in
-    rw (c.fill_entries.ensures, c.put_totals.ensures)
+    rw (c.fill_entries.ensures, c.put_counted_totals.ensures)
     (filled_is a.list.now a.dir.now _ (ap answer_of (sym c.in_ok-n.was) ∙ c.fitting.ensures) a.totals.now)

@@ -36,9 +36,12 @@ pub record Adds (s : List ℕ) (c : ListCursor) (totals : List ℕ) : Type 0 whe
   pub all : length totals ≡ suc largest_type
   pub few : (t : ℕ) → get_or totals t 0 ≤ c.at
 
--- the same of a walk: the entries of the units that are left, and that they can be added
+-- the same of a walk: the entries of the units that are left, that these read, and that they can be added
 abbrev pub entries_left : ListWalk → List Entry
 entries_left w = entries_from w.list.now w.cursor
+
+abbrev pub LeftReads : ListWalk → Type 0
+LeftReads w = Reads w.list.now w.cursor
 
 abbrev pub LeftAdds : ListWalk → List ℕ → Type 0
 LeftAdds w totals = Adds w.list.now w.cursor totals

@@ -32,7 +32,7 @@ module _ (s : List ℕ) (c : ListCursor) (d₀ : List Entry) where
     pub all : done ++ entries_from s here ≡ entries_from s c
     pub stored : d ≡ done ++ drop k d₀
 
-  -- one entry more: that of the unit found
+  -- one entry more: the first of those that are left
   filling_next : (here : ListCursor) (k : ℕ) (d : List Entry) → Filling here k d → k < length d₀ → (e : Entry) (next : ListCursor)
       → entries_from s here ≡ e ∷ entries_from s next → Filling next (k + 1) (set d k e)
   filling_next here k d i room e next f =
@@ -51,10 +51,11 @@ module _ (s : List ℕ) (c : ListCursor) (d₀ : List Entry) where
         = sym (length-append i.done (entries_from s here)) ∙ ap length i.all in
         omega (arith, i.count)
 
+    -- it is that of the unit found, where there are no more slots than units
     pub filling_turn : k < length d₀ → (a : Span) (next : ListCursor) → ListTurn s here a next → Filling next (k + 1) (set d k (entry_of next.unit_type a))
     filling_turn room a next turn = filling_next here k d i room _ next (entries_turn s here a next turn (filling_some room))
 
-  -- the same where the units that are left read, however many slots there are; those after the unit read too
+  -- and however many slots there are, where the units that are left read; those after the unit found read too
   pub filling_read : (here : ListCursor) (k : ℕ) (d : List Entry) → Filling here k d → Reads s here → k < length d₀ → (a : Span) (next : ListCursor)
       → ListTurn s here a next → Filling next (k + 1) (set d k (entry_of next.unit_type a)) × Reads s next
   filling_read here k d i h room a next turn =

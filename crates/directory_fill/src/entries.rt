@@ -74,7 +74,7 @@ mod tests {
         Ok((whole[15], whole[16], left[15], left[16]))
     }
 
-    // A list of version 02: two SPSs and a PPS.
+    // A list of version 02: two units of type 15 (SPS) and one of type 16 (PPS).
     #[test]
     fn totals_of_what_is_left() -> Result<(), &'static str> {
         let list = [2, 0, 8, 1, 15, 0, 1, 81, 0, 1, 82, 0, 5, 1, 16, 0, 1, 83];

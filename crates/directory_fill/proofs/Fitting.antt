@@ -9,6 +9,7 @@ use lib.Dec.{leb}
 use lib.ListN.{length, take, length-map}
 use lib.Seq.{take-length, take_all}
 use borrow.Author.Tests.{le-leb, lt-leb}
+use Rattle.std.specs.Borrow.{Bor}
 use Rattle.std.specs.Prelude.{if◌then◌else◌, Result, Ok, Err}
 use Rattle.error.specs.Refusals.{number_of}
 use Rattle.error.specs.declared.Refusal.{Refusal}
@@ -19,12 +20,14 @@ use Rattle.unit_list.specs.UnitList.{Array, decode, units_of}
 use Rattle.unit_list.specs.Answers.{list_units}
 use Rattle.unit_list.specs.inner.Walk.{TypedUnit, typed, typed_units, typed_list, started, arrays_started, StartFits}
 use Rattle.unit_list.specs.declared.ListCursor.{ListCursor}
-use Rattle.unit_list.proofs.Turns.{start_typed}
+use Rattle.unit_list.specs.declared.ListWalk.{ListWalk}
+use Rattle.unit_list.specs.inner.Walks.{Starts}
+use Rattle.unit_list.proofs.Turns.{start_typed, at_cursor, start_said, walk_list}
 use Rattle.directory.specs.Directory.{entry_of, entries_of, list_entries, fitting, filled, fill_directory, totals_of}
 use Rattle.directory.specs.inner.Entries.{TypesFit}
 use Rattle.directory.specs.declared.Entry.{Entry}
 use Rattle.directory.proofs.ListEntries.{span_of, entries_spans, types_decoded, fitted}
-use Rattle.directory_fill.specs.inner.Entries.{entry_of_typed, entries_found, entries_in, entries_from, Reads, CountedOf, totals_for}
+use Rattle.directory_fill.specs.inner.Entries.{entry_of_typed, entries_found, entries_in, entries_from, entries_left, Reads, LeftReads, CountedOf, totals_for}
 
 -- the entries of the units that the walk comes to are those of the arrays
 pub entries_typed : (xs : List (Array Span)) → map entry_of_typed (typed_units xs) ≡ entries_of xs
@@ -91,6 +94,14 @@ module _ (s : List ℕ) (r : Result ListCursor Refusal) (said : (started s r ≡
   -- the units after c read where those of the list do
   pub start_reads : (us : List TypedUnit) → typed_list s ≡ accept us → Reads s c
   start_reads us t = record { units = us; reads = start_typed s r said c g ∙ t; types = types_typed s us t }
+
+-- the same of a walk that knows its list
+module _ (l : Bor (List ℕ)) (r : Result ListWalk Refusal) (said : Starts l r) (w : ListWalk) (e : r ≡ Ok w) where
+  pub walk_entries : entries_left w ≡ entries_in l.now
+  walk_entries = rw (walk_list l r said w e) (start_entries l.now (at_cursor r) (start_said l r said) w.cursor (ap at_cursor e))
+
+  pub walk_reads : (us : List TypedUnit) × (typed_list l.now ≡ accept us) → LeftReads w
+  walk_reads u = rw (walk_list l r said w e) (start_reads l.now (at_cursor r) (start_said l r said) w.cursor (ap at_cursor e) u.0 u.1)
 
 -- a list has n entries, and a directory has room for them
 module _ (s : List ℕ) (d : List Entry) (n : ℕ) (o : accept n ≡ count_found (and_then (list_entries s) (fitting (length d)))) where

@@ -21,7 +21,7 @@ pub fn fitting(list: &[u8], room: usize) -> Result<usize, Refusal>
     Ok(n)
 }
 
-// Adds the units that are left of a walk to the totals of their types. The list was counted, so no step is refused.
+// Adds the units that are left of a walk to the totals of their types. All of them read, so no step is refused.
 fn add_units(walk: ListWalk, totals: &mut [usize; TYPES])
     requires { LeftAdds walk totals.old }
     ensures { totals.new ≡ totals_plus totals.old (entries_left walk.entry) }
@@ -34,7 +34,7 @@ fn add_units(walk: ListWalk, totals: &mut [usize; TYPES])
     }
 }
 
-// Sets the totals to those of the units that are left of a walk.
+// Sets the totals to those of the units that are left of a walk, all of which read.
 pub fn put_totals(walk: ListWalk, totals: &mut [usize; TYPES])
     requires { LeftReads walk }
     ensures { totals.new ≡ totals_of (entries_left walk.entry) }

@@ -3,10 +3,10 @@ use mathlib.Core.Path.{refl, sym, ap, ◌∙◌}
 use lib.ListN.{replicate}
 use Rattle.std.specs.Prelude.{Ok}
 use Rattle.parse.specs.Answers.{answer_of}
-use Rattle.unit_list.proofs.Turns.{at_cursor, start_said, walk_list, walk_found}
+use Rattle.unit_list.proofs.Turns.{walk_found}
 use Rattle.directory.specs.declared.Entry.{Entry}
 use Rattle.directory_fill.specs.inner.Entries.{LeftReads}
-use Rattle.directory_fill.proofs.Fitting.{counted_reads, start_reads}
+use Rattle.directory_fill.proofs.Fitting.{counted_reads, walk_reads}
 use Rattle.directory_fill.proofs.Reading.{read_turn}
 use Rattle.directory_fill.proofs.entries.tests.totals_twice.Goals as goal
 use Rattle.directory_fill.proofs.entries.tests.totals_twice.Goals.{In_ok-walk}
@@ -14,12 +14,11 @@ use Rattle.directory_fill.proofs.entries.tests.totals_twice.Goals.{In_ok-walk}
 no_entry : Entry
 no_entry = record { unit_type = 0; offset = 0; len = 0 }
 
+-- the walk's units read; the list was counted for a directory of three entries, whatever they are
 reads : (c : In_ok-walk) → LeftReads c.in_ok-walk.walk
 reads c =
-    let s = c.args.list.now in
-    let u = counted_reads s (replicate 3 no_entry) c.in_ok-fitting.field-0 (ap answer_of (sym c.in_ok-fitting.was) ∙ c.fitting.ensures) in
-    rw (walk_list _ _ c.start.ensures _ c.in_ok-walk.was)
-    (start_reads s (at_cursor c.start.result) (start_said _ _ c.start.ensures) _ (ap at_cursor c.in_ok-walk.was) u.0 u.1)
+    walk_reads _ _ c.start.ensures _ c.in_ok-walk.was
+    (counted_reads c.args.list.now (replicate 3 no_entry) c.in_ok-fitting.field-0 (ap answer_of (sym c.in_ok-fitting.was) ∙ c.fitting.ensures))
 
 pub put_totals-requires : goal.put_totals-requires
 put_totals-requires c = reads (goal.at.put_totals-requires c).In_ok-walk
